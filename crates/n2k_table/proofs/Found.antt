@@ -1,5 +1,5 @@
 -- What is known of a PGN by the first of its candidates.
-use Rattle.std.proofs.Common.{◌≡◌, ℕ, ◌<◌, ◌&&◌, Bool, true, ◌∙◌, List, [], ◌∷◌, length, get_or, slice_get, nat_eq, Option, Some, None, option_map, sym, ap, inl, inr}
+use Rattle.std.proofs.Common.{◌≡◌, ℕ, ◌<◌, ◌&&◌, Bool, true, ◌∙◌, List, [], ◌∷◌, length, get_or, slice_get, nat_eq, Some, None, option_map, sym, ap, inl, inr}
 use Rattle.std.specs.List.{find}
 use Rattle.std.proofs.lemmas.Bool.{cases_Bool, eqb-true}
 use Rattle.n2k_table.specs.Definition.{DefinitionParts}

@@ -1,6 +1,6 @@
 -- The sizes of sets, and the sets that follow each other.
-use Rattle.std.proofs.Common.{◌≡◌, ℕ, zero, suc, ◌+◌, ◌-◌, ◌*◌, ◌/◌, ◌≤◌, ◌<◌, Bool, true, false, ◌||◌, ◌&&◌, List, [], ◌∷◌, length, take, drop, Option, Some, None, refl, sym, ap, subst, ◌∙◌, inl, inr, arith}
-use Rattle.std.specs.Prelude.{nat_le, option_map, unwrap_or, if◌then◌else◌}
+use Rattle.std.proofs.Common.{◌≡◌, ℕ, zero, suc, ◌+◌, ◌-◌, ◌*◌, ◌/◌, ◌≤◌, ◌<◌, true, false, ◌||◌, ◌&&◌, List, [], ◌∷◌, length, take, drop, Option, Some, None, refl, sym, ap, ◌∙◌, inl, inr, arith}
+use Rattle.std.specs.Prelude.{nat_le, option_map, unwrap_or}
 use Rattle.std.specs.List.{list_any}
 use Rattle.std.specs.Option.{option_and_then}
 use Rattle.std.proofs.lemmas.Bool.{cases_Bool, leb-true, leb-false, le-leb, lt-leb, or_parts, or_cases, and_parts, true≢false, false≢true}
@@ -11,7 +11,7 @@ use Rattle.n2k_table.specs.declared.string_place.Form.TheVariants.{Lau, Lz}
 use Rattle.n2k_table.specs.Strings.{taken, data_behind}
 use Rattle.n2k_table.specs.Field.{FieldParts, Meaning, is_string}
 use Rattle.n2k_table.specs.Field as means
-use Rattle.n2k_table.specs.Repeat.{RepeatParts, own_bytes, strings_size, if_inside, set_size, sets_from, sets_in, has_some}
+use Rattle.n2k_table.specs.Repeat.{RepeatParts, own_bytes, strings_size, if_inside, set_size, sets_from, sets_in}
 use Rattle.n2k_table.specs.Inner.Kept.{left_beside}
 
 -- a field that is no string has no bytes beside the bits of its set

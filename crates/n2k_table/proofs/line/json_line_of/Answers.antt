@@ -1,6 +1,4 @@
 use Rattle.n2k_table.proofs.Heads.{choice_number}
-use Rattle.std.specs.Prelude.{IfSome}
-use Rattle.n2k_table.specs.Table.{choice}
 use Rattle.n2k_table.proofs.line.json_line_of.Goals as goal
 
 pub append_line-requires : goal.append_line-requires

@@ -1,7 +1,7 @@
 use Rattle.std.proofs.Common.{List, ℕ, ◌++◌, map, ap, ◌∙◌}
 use Rattle.std.specs.List.{join_with_byte}
 use Rattle.n2k_table.specs.Json.{set_json}
-use Rattle.n2k_table.specs.Repeat.{sets_in, all_sets}
+use Rattle.n2k_table.specs.Repeat.{sets_in}
 use Rattle.n2k_table.specs.Shown.{all_shown}
 use Rattle.n2k_table.specs.Inner.Line.{are_null}
 use Rattle.n2k_table.proofs.Members.{members_from-joined}

@@ -1,5 +1,3 @@
-use Rattle.std.proofs.Common.{◌≡◌, option_map, subst}
-use Rattle.n2k_table.specs.Table.{KnownParts, choice}
 use Rattle.n2k_table.proofs.Places.{candidates_within}
 use Rattle.n2k_table.proofs.known_pgn.KnownPgn.chosen.Goals as goal
 
