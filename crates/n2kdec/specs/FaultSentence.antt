@@ -145,7 +145,7 @@ abbrev pub windows_text : ℕ → ℕ → Text
 windows_text saved window = codes " (" ++ decimal saved ++ codes "; this run has " ++ decimal window ++ codes ")"
 
 abbrev pub some_lines_text : ℕ → Text
-some_lines_text lines = codes " (lines read before: " ++ decimal lines ++ codes ")"
+some_lines_text lines = codes " (after line " ++ decimal lines ++ codes ")"
 
 abbrev pub lines_text : ℕ → Text
 lines_text lines = if lines == 0 then [] else some_lines_text lines

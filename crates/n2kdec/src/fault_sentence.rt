@@ -2,8 +2,8 @@
 ghost use Rattle.std.specs.Prelude.{◌≡◌, ◌++◌, IfOk, OnOk, decimal, option_map};
 ghost use Rattle.n2kdec.specs.FaultSentence.{advice_of, fault_sentence, fault_words};
 ghost use Rattle.n2kdec.specs.FaultSentence.{line_of, named, save_advice, state_advice, state_words, subject_of};
-ghost use Rattle.n2kdec.specs.FaultSentence.{found_text, lines_text, some_lines_text, table_advice, table_words, tables_text, told_of};
-ghost use Rattle.n2kdec.specs.FaultSentence.{windows_text, words_of};
+ghost use Rattle.n2kdec.specs.FaultSentence.{found_text, lines_text, some_lines_text, table_advice, table_words};
+ghost use Rattle.n2kdec.specs.FaultSentence.{tables_text, told_of, windows_text, words_of};
 
 use crate::asked::{Command, Files};
 use crate::escape::push_escaped;
@@ -116,7 +116,7 @@ fn push_windows(saved: u64, window: u64, text: &mut Vec<u8>) -> Result<(), Alloc
 fn push_some_lines(lines: u64, text: &mut Vec<u8>) -> Result<(), AllocError>
     ensures { OnOk result (text.new.items ≡ text.old.items ++ some_lines_text lines) }
 {
-    text.extend_from_slice(b" (lines read before: ")?;
+    text.extend_from_slice(b" (after line ")?;
     push_number(lines, text)?;
     text.extend_from_slice(b")")
 }
@@ -260,8 +260,8 @@ fn told_of(
     Ok(text)
 }
 
-/// What is said of a fault of a command over these files, for this reason and with what was found out: one line with its
-/// LF, in which control characters are escaped; nothing where it is of no file and no stream.
+/// What is said of a fault of a command over these files, for this reason and with what was found out: one line with
+/// its LF, in which control characters are escaped; nothing where it is of no file and no stream.
 pub fn fault_sentence(
     alloc: Global,
     files: &Files,
