@@ -1,6 +1,6 @@
 -- A table of format 1 or 2 has nothing of format 3: each of its fields spells what it spelled before there was that format,
 -- and shows what it showed, and what repeats spells what it spelled.
-use Rattle.std.proofs.Common.{◌≡◌, ℕ, ℤ, pos, negsuc, ◌+◌, ◌%◌, ◌==◌, Bool, true, false, not, ◌&&◌, ◌||◌, nat_le, codes, List, [], ◌∷◌, ◌++◌, Some, None, Result, Ok, Err, IfOk, ok_or, append_assoc, refl, sym, ap, subst, ◌∙◌, inl, inr}
+use Rattle.std.proofs.Common.{◌≡◌, ℕ, ℤ, pos, negsuc, ◌+◌, ◌*◌, ◌/◌, ◌%◌, ◌≤◌, ◌==◌, Bool, true, false, not, ◌&&◌, ◌||◌, nat_le, codes, List, [], ◌∷◌, ◌++◌, Some, None, Result, Ok, Err, IfOk, ok_or, append_assoc, refl, sym, ap, subst, ◌∙◌, inl, inr, arith}
 use Rattle.std.specs.Prelude.{if◌then◌else◌}
 use Rattle.std.specs.List.{list_any}
 use Rattle.std.specs.Str.{bytes_eq}
@@ -8,7 +8,8 @@ use Rattle.std.specs.Ordering.{nat_cmp, is_eq, match_ordering}
 use Rattle.std.specs.Cmp.Lexicographic.{slice_cmp}
 use Rattle.std.specs.declared.cmp.Ordering.{Ordering}
 use Rattle.std.specs.declared.cmp.Ordering.TheVariants.{Less, Equal, Greater}
-use Rattle.std.proofs.lemmas.Bool.{cases_Bool, and_parts, false≢true}
+use Rattle.std.proofs.lemmas.Bool.{cases_Bool, leb-true, and_parts, false≢true}
+use Rattle.std.proofs.lemmas.Bool.Decides.{nat_tests}
 use Rattle.std.proofs.lemmas.List.{append-nil}
 use Rattle.std.proofs.lemmas.Map.Text.{is_eq-slice_cmp}
 use Rattle.std.proofs.lemmas.Slice.Eq.{bytes_eq-Decides}
@@ -29,7 +30,7 @@ use Rattle.n2k_table.specs.Tree.{is_extended, is_among, own_keys, place_keys, ca
 use Rattle.n2k_table.specs.Tree.{message_bits, has_bits, as_members, any_text_at, elements_at, get_required, int_at, in_range}
 use Rattle.n2k_table.specs.Reading.{each, each_by_earlier}
 use Rattle.n2k_table.specs.Duplicate.{has_duplicate}
-use Rattle.n2k_table.specs.Field.{FieldParts, Meaning, number, named, text, bytes, number_of_bits, lookup_named, meaning_of, alignment}
+use Rattle.n2k_table.specs.Field.{FieldParts, Meaning, number, named, text, bytes, number_of_bits, lookup_named, meaning_of, alignment, last_bit}
 use Rattle.n2k_table.specs.Field.{first_bit, multiple_of, bit_count, bits_of, is_string, steps_of, match_value_of, short_of, named_field_kind, kind_of_field, field}
 use Rattle.n2k_table.specs.Fields.{most_fields, is_same_field, fields}
 use Rattle.n2k_table.specs.Repeat.{RepeatParts, repeat}
@@ -288,11 +289,22 @@ least_in_range least most (pos n) = elim (cases_Bool (nat_le least n && nat_le n
   | inr other ↦ rw other tt
 ]
 
-bits_from_1 : (m : Members) → IfOk (bit_count 8 1 message_bits m) (λ n. nat_le 1 n ≡ true)
-bits_from_1 m =
-    bind_if _ (int_at (codes "bits") 1 message_bits m) (multiple_of 8)
-    (bind_any _ (get_required (codes "bits") m) _ (λ d. bind_any _ (ok_or (as_integer d) Key) _ (λ z. least_in_range 1 message_bits z)))
-    (λ n least. if_either _ (n % 8 == 0) (Ok n) (Err Range) least tt)
+-- a multiple of 8 is one of whole bytes
+of_bytes : (least n : ℕ) → nat_le least n ≡ true → IfOk (multiple_of 8 n) (λ m. (nat_le least m ≡ true) × (m ≡ 8 * (m / 8)))
+of_bytes least n from = elim (cases_Bool (n % 8 == 0)) [
+  | inl even ↦
+      let none : n % 8 ≡ 0 = grind (arith, nat_tests) in
+      rw even (from, omega (arith, none))
+  | inr odd ↦ rw odd tt
+]
+
+-- so a set begins and ends with a byte
+whole_bytes : (key : List ℕ) (least most : ℕ) (m : Members)
+    → IfOk (int_at key least most m >>= multiple_of 8) (λ n. (nat_le least n ≡ true) × (n ≡ 8 * (n / 8)))
+whole_bytes key least most m =
+    bind_if _ (int_at key least most m) (multiple_of 8)
+    (bind_any _ (get_required key m) _ (λ d. bind_any _ (ok_or (as_integer d) Key) _ (λ z. least_in_range least most z)))
+    (of_bytes least)
 
 -- What repeats in a table of format 1 or 2 is what repeated, whatever stands before it. A set has a byte.
 pub same_repeat : (format : TableFormat) (lookups : List LookupParts) (own : List FieldParts) (d : Data) → is_extended format ≡ false
@@ -303,8 +315,8 @@ same_repeat format lookups own d older =
     rw (same_keys (Repeat format) older_repeat_key (λ key. same_repeat_key format key older) m, older) (elim (cases_Bool (only_keys older_repeat_key m)) [
       | inl only ↦
           rw only (bind_same (first_bit 8 m) _ _ (λ at.
-          bind_same_if (bit_count 8 1 message_bits m) _ _ (bits_from_1 m) (λ bits some.
-          rw (not_there older_repeat_key (codes "after") m only refl, same_fields format (Set bits) lookups m older, some) refl)))
+          bind_same_if (bit_count 8 1 message_bits m) _ _ (whole_bytes (codes "bits") 1 message_bits m) (λ bits size.
+          rw (not_there older_repeat_key (codes "after") m only refl, same_fields format (Set bits) lookups m older, size.0) refl)))
       | inr other ↦ rw other refl
     ]))
 
@@ -349,17 +361,23 @@ each_is_plain holder lookups (d ∷ ds) =
     bind_if _ (older_field holder lookups d) _ (field_is_plain holder lookups d) (λ f plain.
     bind_if _ (each (older_field holder lookups) ds) _ (each_is_plain holder lookups ds) (λ all none. rw plain.2 none))
 
--- so what repeats stands behind no string, and has none
-pub repeat_is_plain : (lookups : List LookupParts) (d : Data)
-    → IfOk (older_repeat lookups d) (λ r. (r.behind ≡ []) × (list_any (λ (f : FieldParts). is_string f.meaning) r.fields ≡ false))
-repeat_is_plain lookups d =
+-- what repeats stands behind no string, has none, and begins and ends with a byte
+abbrev pub IsFixed : RepeatParts → Type 0
+IsFixed r = (f s : ℕ) × (r.at ≡ 8 * f) × (r.bits ≡ 8 * s) × (1 ≤ s) × (r.behind ≡ []) × (list_any (λ (f : FieldParts). is_string f.meaning) r.fields ≡ false)
+
+-- so it is with what repeated
+pub repeat_is_fixed : (lookups : List LookupParts) (d : Data) → IfOk (older_repeat lookups d) IsFixed
+repeat_is_fixed lookups d =
     bind_any _ (as_members d) _ (λ m.
     bind_any _ (holds_or Key (only_keys older_repeat_key m)) _ (λ known.
-    bind_any _ (first_bit 8 m) _ (λ at.
-    bind_any _ (bit_count 8 1 message_bits m) _ (λ bits.
+    bind_if _ (first_bit 8 m) _ (whole_bytes (codes "at") 0 last_bit m) (λ at begin.
+    bind_if _ (bit_count 8 1 message_bits m) _ (whole_bytes (codes "bits") 1 message_bits m) (λ bits size.
     bind_any _ (holds_or Range (nat_le (at + bits) message_bits)) _ (λ inside.
     bind_if _ (older_fields (Set bits) lookups m) _
     (bind_any _ (elements_at (codes "fields") most_fields m) _ (λ ds.
     bind_if _ (each (older_field (Set bits) lookups) ds) _ (each_is_plain (Set bits) lookups ds) (λ all none.
     bind_any _ (holds_or Twice (not (has_duplicate is_same_field all))) _ (λ differ. none))))
-    (λ all none. (refl, none)))))))
+    (λ all none.
+    let some = leb-true 1 bits size.0 in
+    let whole = size.1 in
+    (at / 8, bits / 8, begin.1, whole, omega (arith, some, whole), refl, none)))))))
