@@ -1,6 +1,7 @@
 //! What sets show whose strings say how long they are, and sets behind a string.
 use super::lines::printed;
 use crate::samples::read;
+use n2k_table::Shown;
 use std::process::Abort;
 use std::test::Fail;
 
@@ -146,8 +147,14 @@ fn sets_are_answered(rt: HostRuntime) -> Result<(), Fail> {
     let data = [7, 1, 3, 1, 0x41, 2, 2, 1, 3, 9];
     let definition = table.choose(130824, &data).ok_or("a definition")?;
     let mut sets = definition.repeat(&data).ok_or("sets")?;
-    assert_eq!(rt; sets.next().ok_or("a set")?.count(), 2);
-    assert_eq!(rt; sets.next().ok_or("a set")?.count(), 2);
+    let mut first = sets.next().ok_or("a set")?;
+    assert!(rt; matches!(first.next(), Some(("Id", Shown::Number { value: 1, .. }))));
+    assert_eq!(rt; first.next(), Some(("Name", Shown::Utf8("A"))));
+    assert!(rt; first.next().is_none());
+    let mut second = sets.next().ok_or("a set")?;
+    assert!(rt; matches!(second.next(), Some(("Id", Shown::Number { value: 2, .. }))));
+    assert_eq!(rt; second.next(), Some(("Name", Shown::Absent)));
+    assert!(rt; second.next().is_none());
     assert!(rt; sets.next().is_none());
     assert!(rt; sets.next().is_none());
     Ok(())
