@@ -8,7 +8,7 @@
 
 A log is what `candump -L` or canboat's readers write, a message one line of JSON of `n2kdec decode`, as a dict: its
 "timestamp" (a text, in UTC), "prio", "src", "dst" and "pgn" (whole numbers), its "description", and in "fields" a
-number, text or list of sets for each field that has a value. A number with a point is a float, or with `decimals=True` a
+number, text, list of flags or list of sets for each field that has a value. A number with a point is a float, or with `decimals=True` a
 Decimal with just the digits that were printed. Numbers have the units of the table, which the table's units.json names:
 metres, seconds, radians, kelvins and so on.
 
