@@ -8,9 +8,9 @@
 
 A log is what `candump -L` or canboat's readers write, a message one line of JSON of `n2kdec decode`, as a dict: its
 "timestamp" (a text, in UTC), "prio", "src", "dst" and "pgn" (whole numbers), its "description", and in "fields" a
-number, text or list of sets for each field that has a value. A number with a point is a float, or with `decimals=True` a
-Decimal with just the digits that were printed. Numbers have the units of the table, which the table's units.json names:
-metres, seconds, radians, kelvins and so on.
+number, text, list of flags or list of sets for each field that has a value. A number with a point is a float, or with
+`decimals=True` a Decimal with just the digits that were printed. Numbers have the units of the table, which the table's
+units.json names: metres, seconds, radians, kelvins and so on.
 
 The module calls the library libn2kdec.so: the file that the variable N2KDEC_LIBRARY names, else the one beside this file,
 else the system's libn2kdec.so.1. Nothing else is needed but Python 3.9.

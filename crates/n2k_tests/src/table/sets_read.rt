@@ -20,8 +20,8 @@ fields = [
 ]
 ";
 
-// One change to it: what is answered | the old text | the new one.
-const CHANGES: &str = "reads | bits = 8\nfields | after = 'S'\nbits = 8\nfields
+// One change to it: what is answered | the old text | the new one, with ~ for an end of line.
+const CHANGES: &str = "reads | bits = 8~fields | after = 'S'~bits = 8~fields
 reads | at = 8, form = 'lau' }, | at = 0, form = 'lau' }, { name = 'N', kind = 'number', at = 0, bits = 8, after = 'Name' },
 Key | at = 8, form = 'lau' }, | at = 8, form = 'lau', short = true },
 Key | at = 8, form = 'lau' }, | at = 8, form = 'lau', match = 1 },
@@ -30,18 +30,18 @@ Range | at = 8, form = 'lau' }, | at = 8, form = 'lau' }, { name = 'X', kind = '
 Range | at = 8, form = 'lau' | at = 16, form = 'lau'
 Lookup | at = 8, form = 'lau' }, | at = 8, form = 'lau', after = 'S' },
 Lookup | at = 8, form = 'lau' }, | at = 8, form = 'lau', after = 'Name' },
-Lookup | bits = 8\nfields | after = 'Name'\nbits = 8\nfields
-Lookup | bits = 8\nfields | after = 'SID'\nbits = 8\nfields
-Text | bits = 8\nfields | after = ''\nbits = 8\nfields
-Key | bits = 8\nfields | after = 1\nbits = 8\nfields
-Key | bits = 8\nfields | form = 'lz'\nbits = 8\nfields
-Range | bits = 8\nfields | after = 'S'\nbits = 1776\nfields
-reads | bits = 8\nfields | after = 'S'\nbits = 1768\nfields
-reads | bits = 8\nfields | bits = 1776\nfields
-Range | bits = 8\nfields | bits = 1784\nfields
-Range | bits = 8\nfields | bits = 0\nfields
-Range | bits = 8\nfields | bits = 4\nfields
-Range | bits = 8\nfields | bits = -8\nfields
+Lookup | bits = 8~fields | after = 'Name'~bits = 8~fields
+Lookup | bits = 8~fields | after = 'SID'~bits = 8~fields
+Text | bits = 8~fields | after = ''~bits = 8~fields
+Key | bits = 8~fields | after = 1~bits = 8~fields
+Key | bits = 8~fields | form = 'lz'~bits = 8~fields
+Range | bits = 8~fields | after = 'S'~bits = 1776~fields
+reads | bits = 8~fields | after = 'S'~bits = 1768~fields
+reads | bits = 8~fields | bits = 1776~fields
+Range | bits = 8~fields | bits = 1784~fields
+Range | bits = 8~fields | bits = 0~fields
+Range | bits = 8~fields | bits = 4~fields
+Range | bits = 8~fields | bits = -8~fields
 Text | format = 3 | format = 2";
 
 #[test]
@@ -50,8 +50,8 @@ fn sets_that_vary(rt: HostRuntime) -> Result<(), Fail> {
     for case in CHANGES.lines() {
         let (wanted, change) = case.split_once(" | ").ok_or("an answer")?;
         let (old, new) = change.split_once(" | ").ok_or("a change")?;
-        let old = old.replace(rt.alloc(), "\\n", "\n")?;
-        let new = new.replace(rt.alloc(), "\\n", "\n")?;
+        let old = old.replace(rt.alloc(), "~", "\n")?;
+        let new = new.replace(rt.alloc(), "~", "\n")?;
         answers(&rt, &replaced(rt.alloc(), NAMES, &old, &new)?, wanted, case)?;
     }
     Ok(())
