@@ -207,7 +207,7 @@ impl<'a> Definition<'a> {
     }
 
     /// What each set shows of the data of a message, where the definition says that sets repeat in it; `None` where
-    /// it doesn't. There are as many sets as lie wholly in the data, which may be none. It takes no memory.
+    /// it doesn't. They end before the first that does not lie wholly in the data, and may be none. It takes no memory.
     ///
     /// ```rust
     /// let table = pairs_table(alloc)?;

@@ -397,8 +397,8 @@ fn append_line(
 /// Appends the JSON line of a packet, with its LF: when it was seen, its priority, source, destination and
 /// PGN, and the fields of its definition in their order, without spaces. A field that shows nothing is left
 /// out, and with `empty` it is `null`. Where sets repeat behind the fields, the last member is `list`, an array of one
-/// object for each set that lies wholly in the data. A packet of an unknown PGN, and one that no definition of its PGN
-/// matches, is `Unmatched` and has its data as they are. A refused growth leaves `out` as it was.
+/// object for each set, up to the first that does not lie wholly in the data. A packet of an unknown PGN, and one that no
+/// definition of its PGN matches, is `Unmatched` and has its data as they are. A refused growth leaves `out` as it was.
 ///
 /// ```rust
 /// let table = sample_table(alloc)?;

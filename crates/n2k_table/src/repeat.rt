@@ -103,8 +103,8 @@ impl Repeat {
     }
 }
 
-/// What the sets of a message show: the `Fields` of each, in their order, and then `None` for good. A last part that is
-/// shorter than a set is none. It borrows the table and the data, and takes no memory.
+/// What the sets of a message show: the `Fields` of each, in their order, and then `None` for good. They end before the
+/// first that does not lie wholly in the data, its strings with it. It borrows the table and the data, and takes no memory.
 #[derive(Drop)]
 pub struct Sets<'a> {
     repeat: &'a Repeat,
