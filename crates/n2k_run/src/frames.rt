@@ -277,7 +277,13 @@ pub fn run_frames<R: Source, W: Sink, E: Sink>(
 /// assert!(rt; is_interface(b"can0"));
 /// let (name, mut counts) = (Some("can0"), Counts::NONE);
 /// run_frames_counted(
-///     alloc, &table, name, &mut counts, &mut log, &mut out, &mut err,
+///     alloc,
+///     &table,
+///     name,
+///     &mut counts,
+///     &mut log,
+///     &mut out,
+///     &mut err,
 /// )?;
 /// let sent = "(0000000010.300000) can0 1DFF0405#000BA39901414243\n\
 ///     (0000000010.300000) can0 1DFF0405#010000000000FFFF\n";
