@@ -28,34 +28,34 @@ pub record RepeatParts : Type 0 where
   pub behind : List Step
   pub fields : List FieldParts
 
--- the bytes of a field of that meaning at a bit of some data that a set has beside its bits: those of a string, if it is
--- proper, and of any other field none
+-- how many bytes a field of that meaning, at that bit of these data, adds to the bits of its set: a string its own, if it
+-- is proper, and any other field 0
 abbrev pub own_bytes : Meaning → ℕ → Option (List ℕ) → Option ℕ
 own_bytes (string form) at rest = option_and_then (λ bytes. taken form (drop (at / 8) bytes)) rest
 own_bytes _ at rest = Some 0
 
--- how many bytes the strings of a set have that begins with the first of these, if each is proper
+-- how many bytes the strings of a set have, if each is proper, where the set begins with the first of these bytes
 abbrev pub strings_size : List FieldParts → List ℕ → Option ℕ
 strings_size [] bytes = Some 0
 strings_size (f ∷ fs) bytes =
     option_and_then (λ n. option_map (λ m. n + m) (strings_size fs bytes)) (own_bytes f.meaning f.at (data_behind f.behind bytes))
 
--- so many bytes, if there are as many
+-- the first number, if it is at most the second
 abbrev pub if_inside : ℕ → ℕ → Option ℕ
 if_inside n all = if nat_le n all then Some n else None
 
--- how many bytes a set has that begins with the first of these, if it lies wholly in them
+-- how many bytes a set has that begins with the first of these bytes, if it lies wholly in them
 abbrev pub set_size : RepeatParts → List ℕ → Option ℕ
 set_size r bytes = option_and_then (λ n. if_inside (r.bits / 8 + n) (length bytes)) (strings_size r.fields bytes)
 
 -- the sets with which these bytes begin, so many at most: one behind the other, up to the first that does not lie wholly
--- in them
+-- in the bytes
 abbrev pub sets_from : RepeatParts → ℕ → List ℕ → List (List ℕ)
 sets_from r zero bytes = []
 sets_from r (suc most) bytes =
     unwrap_or (option_map (λ n. take n bytes ∷ sets_from r most (drop n bytes)) (set_size r bytes)) []
 
--- All sets with which these bytes begin. Each has a byte, so there are no more of them than bytes.
+-- All sets with which these bytes begin. Each set that a table spells has a byte, so there are no more of them than bytes.
 abbrev pub sets_in : RepeatParts → List ℕ → List (List ℕ)
 sets_in r bytes = sets_from r (length bytes) bytes
 
