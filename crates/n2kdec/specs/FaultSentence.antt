@@ -94,7 +94,7 @@ state_advice _ = codes "; begin without --resume"
 -- of a state that can't be saved
 abbrev pub save_advice : Option Reason → Text
 save_advice None = []
-save_advice (Some (System words)) = codes "; the log was decoded, but its state is not surely saved"
+save_advice (Some (System words)) = codes "; the log was decoded; the file has what it had, or the new state, unless it is written over in place"
 save_advice (Some (Unfound words)) = codes "; nothing was decoded"
 save_advice (Some Harm) = codes "; nothing was decoded: name another file for --save"
 

@@ -180,7 +180,8 @@ fn save_advice(reason: &Option<Reason>) -> &'static str
 {
     match reason {
         None => "",
-        Some(Reason::System(_)) => "; the log was decoded, but its state is not surely saved",
+        Some(Reason::System(_)) =>
+            "; the log was decoded; the file has what it had, or the new state, unless it is written over in place",
         Some(Reason::Unfound(_)) => "; nothing was decoded",
         Some(Reason::Harm) => "; nothing was decoded: name another file for --save",
     }
