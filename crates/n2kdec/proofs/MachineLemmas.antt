@@ -1,5 +1,5 @@
 -- From what a call leaves to what the program leaves.
-use Rattle.std.proofs.Common.{◌≡◌, ◌∙◌, ◌++◌, append-nil, append_assoc, ap, arith, ℕ, List, [], ◌∷◌, Option, Some, None, Result, Ok, Err, IfOk, IfSome, IsErrAnd, Bool, true, option_map, inl, inr, refl, subst, sym}
+use Rattle.std.proofs.Common.{◌≡◌, ◌⊎◌, ◌∙◌, ◌++◌, append-nil, append_assoc, ap, arith, ℕ, List, [], ◌∷◌, Option, Some, None, Result, Ok, Err, IfOk, IfSome, Bool, true, option_map, inl, inr, refl, subst, sym}
 use Rattle.std.specs.Prelude.{IsSome}
 use Rattle.std.specs.Option.{unwrap_or}
 use Rattle.std.specs.Result.{result_unwrap_or}
@@ -8,9 +8,9 @@ use Rattle.clap.specs.Words.{Text}
 use Rattle.n2k_run.specs.Device.{HasFailed}
 use Rattle.n2kdec.specs.Asked.{asked, save_name}
 use Rattle.n2kdec.specs.Commands.{Kept, Performs, Place, shelf}
-use Rattle.n2kdec.specs.Machine.{AddsCalls, AddsFailures, AsksFor, DoesAsked, DoesTyped, FileUse, HasCalled, Hints, IsPerformed, IsPerformedOver, IsReadable, IsStateAdmitted, IsStateRefused, IsUnopened, IsUnread, IsUnreadFile, LogAfter, Opens, Outside, IsSentenceOf, IsTerminal, RunsCommand, RunsTyped, StandsBefore, World, WritesFault, all_files, files_before_log, if_named, table_bytes, with_log}
+use Rattle.n2kdec.specs.Machine.{AddsCalls, AddsFailures, AsksFor, DoesAsked, DoesTyped, FileUse, HasCalled, Hints, IsPerformed, IsPerformedOver, IsReadable, IsStateAdmitted, IsStateRefused, IsUnopened, IsUnread, IsUnreadFile, LogAfter, Opens, Outside, IsSentenceOf, IsTerminal, RunsCommand, RunsTyped, StandsBefore, World, WritesFault, all_files, files_before, files_before_log, files_with, if_named, table_bytes, with_log}
 use Rattle.n2kdec.specs.Fault.{status_of}
-use Rattle.n2kdec.specs.Found.{Finds}
+use Rattle.n2kdec.specs.Found.{Finds, noted}
 use Rattle.n2kdec.specs.Parser.{Shown}
 use Rattle.n2kdec.specs.declared.asked.Request.{Request}
 use Rattle.n2kdec.specs.declared.asked.Command.{Command}
@@ -19,6 +19,8 @@ use Rattle.n2kdec.specs.declared.ending.Ending.{Ending}
 use Rattle.n2kdec.specs.declared.fault.Fault.{Fault}
 use Rattle.n2kdec.specs.declared.fault.Fault.TheVariants.{TableSize, TableFile, StateSize, StateFile, Read, Memory, Save}
 use Rattle.n2kdec.specs.declared.found.Found.{Found}
+use Rattle.n2kdec.specs.declared.found.Reading.{Reading}
+use Rattle.n2kdec.specs.declared.found.Reading.TheVariants as reading
 use Rattle.n2kdec.specs.declared.reason.Reason.{Reason}
 use Rattle.n2kdec.specs.declared.words.Words.{Words}
 
@@ -64,21 +66,18 @@ named_is (Some name) some = refl
 -- ---- why a file is not read
 
 module _ (w : World) (files : Files) (begun mid now : FileUse) (fault : Fault) where
-  abbrev Unread : Fault → Type 0
-  Unread f = IsUnread w files begun now f
+  abbrev Unread : Reading → Fault → Type 0
+  Unread read f = IsUnread w files read begun now f
 
   -- some of the files were opened, and there is no memory
-  no_memory : (first rest : List (Option Text)) → all_files files ≡ first ++ rest → fault ≡ Memory → now.failed ≡ begun.failed → Opens begun now first → Unread fault
-  no_memory first rest split is same opens = subst Unread (sym is) (same, (first, rest, split, opens))
+  no_memory : (read : Reading) → fault ≡ Memory → now.failed ≡ begun.failed → Opens begun now (files_before files read) ⊎ Opens begun now (files_with files read) → Unread read fault
+  no_memory read is same opens = subst (Unread read) (sym is) (same, opens)
 
-  after_table : all_files files ≡ if_named files.table ++ (if_named files.state ++ files.log ∷ [])
-  after_table = append_assoc (if_named files.table) (if_named files.state) (files.log ∷ [])
-
-  pub table_unread : IsSome files.table × IsUnreadFile w files.table TableSize TableFile begun now fault → Unread fault
-  table_unread (some, inl large) = subst Unread (sym large.0) (large.1, large.2, subst (Opens begun now) (named_is files.table some) large.3)
-  table_unread (some, inr (inl (is, same, inl none))) = no_memory [] (all_files files) refl is same none
-  table_unread (some, inr (inl (is, same, inr opens))) = no_memory (if_named files.table) (if_named files.state ++ files.log ∷ []) after_table is same (subst (Opens begun now) (named_is files.table some) opens)
-  table_unread (some, inr (inr (is, unreadable, opens))) = subst Unread (sym is) (unreadable, subst (Opens begun now) (named_is files.table some) opens)
+  pub table_unread : IsSome files.table × IsUnreadFile w files.table TableSize TableFile begun now fault → Unread reading.Table fault
+  table_unread (some, inl large) = subst (Unread reading.Table) (sym large.0) (large.1, large.2, subst (Opens begun now) (named_is files.table some) large.3)
+  table_unread (some, inr (inl (is, same, inl none))) = no_memory reading.Table is same (inl none)
+  table_unread (some, inr (inl (is, same, inr opens))) = no_memory reading.Table is same (inr (subst (Opens begun now) (named_is files.table some) opens))
+  table_unread (some, inr (inr (is, unreadable, opens))) = subst (Unread reading.Table) (sym is) (unreadable, subst (Opens begun now) (named_is files.table some) opens)
 
   -- what failed since then failed since the beginning
   failed_since : mid.failed ≡ begun.failed → HasFailed mid.failed now.failed → HasFailed begun.failed now.failed
@@ -88,21 +87,21 @@ module _ (w : World) (files : Files) (begun mid now : FileUse) (fault : Fault) w
     both : IsSome files.state → Opens mid now (files.state ∷ []) → Opens begun now (files_before_log files)
     both some opens = opens_then begun mid now (if_named files.table) (if_named files.state) table.2 (subst (Opens mid now) (named_is files.state some) opens)
 
-    pub state_unread : IsSome files.state × IsUnreadFile w files.state StateSize StateFile mid now fault → Unread fault
-    state_unread (some, inl large) = subst Unread (sym large.0) (table.0, large.1, large.2 ∙ table.1, both some large.3)
+    pub state_unread : IsSome files.state × IsUnreadFile w files.state StateSize StateFile mid now fault → Unread reading.State fault
+    state_unread (some, inl large) = subst (Unread reading.State) (sym large.0) (table.0, large.1, large.2 ∙ table.1, both some large.3)
     state_unread (some, inr (inl (is, same, inl none))) =
-        no_memory (if_named files.table) (if_named files.state ++ files.log ∷ []) after_table is (same ∙ table.1) (opens_no_more begun mid now (if_named files.table) table.2 none)
-    state_unread (some, inr (inl (is, same, inr opens))) = no_memory (files_before_log files) (files.log ∷ []) refl is (same ∙ table.1) (both some opens)
-    state_unread (some, inr (inr (is, unreadable, opens))) = subst Unread (sym is) (table.0, (unreadable.0, failed_since table.1 unreadable.1), both some opens)
+        no_memory reading.State is (same ∙ table.1) (inl (opens_no_more begun mid now (if_named files.table) table.2 none))
+    state_unread (some, inr (inl (is, same, inr opens))) = no_memory reading.State is (same ∙ table.1) (inr (both some opens))
+    state_unread (some, inr (inr (is, unreadable, opens))) = subst (Unread reading.State) (sym is) (table.0, (unreadable.0, failed_since table.1 unreadable.1), both some opens)
 
   pub log_unread : IsReadable w files.table → IsReadable w files.state → mid.failed ≡ begun.failed → Opens begun mid (files_before_log files)
-      → IsUnopened files.log Read mid now fault → Unread fault
+      → IsUnopened files.log Read mid now fault → Unread reading.Log fault
   log_unread table state none_failed before (inl (is, same, inl none)) =
-      no_memory (files_before_log files) (files.log ∷ []) refl is (same ∙ none_failed) (opens_no_more begun mid now (files_before_log files) before none)
+      no_memory reading.Log is (same ∙ none_failed) (inl (opens_no_more begun mid now (files_before_log files) before none))
   log_unread table state none_failed before (inl (is, same, inr opens)) =
-      no_memory (all_files files) [] (sym (append-nil (all_files files))) is (same ∙ none_failed) (opens_then begun mid now (files_before_log files) (files.log ∷ []) before opens)
+      no_memory reading.Log is (same ∙ none_failed) (inr (opens_then begun mid now (files_before_log files) (files.log ∷ []) before opens))
   log_unread table state none_failed before (inr (is, unreadable, opens)) =
-      subst Unread (sym is) (table, state, (unreadable.0, failed_since none_failed unreadable.1), opens_then begun mid now (files_before_log files) (files.log ∷ []) before opens)
+      subst (Unread reading.Log) (sym is) (table, state, (unreadable.0, failed_since none_failed unreadable.1), opens_then begun mid now (files_before_log files) (files.log ∷ []) before opens)
 
 -- the table and the state were read
 pub both_opened : (files : Files) (a b c : FileUse) → Opens a b (if_named files.table) → Opens b c (if_named files.state) → Opens a c (files_before_log files)
@@ -153,11 +152,11 @@ runs w files command before after (Err fault) done = inl done
 
 module _ (w : World) (files : Files) (command : Command) (o : Outside) where
   -- one whose files are not read is not begun
-  pub not_begun : (used : FileUse) (result : Result Ending Fault) (fault : Fault) → IsErrAnd result (λ told. told ≡ fault) → IsStateAdmitted o.admits files command
-      → IsUnread w files o.files used fault → RunsCommand w files command o (record o { files = used }) result
-  not_begun used (Ok status) fault is admitted unread = absurd is
-  not_begun used (Err told) fault is admitted unread =
-      subst (λ f. RunsCommand w files command o (record o { files = used }) (Err f)) (sym is) (inr (inl (record { admitted = admitted; unread = unread; else_same = refl })))
+  pub not_begun : (read : Reading) (used : FileUse) (found : Option Found) (fault : Fault) → found ≡ noted fault read o.found → IsStateAdmitted o.admits files command
+      → IsUnread w files read o.files used fault → RunsCommand w files command o (record o { files = used; found = found }) (Err fault)
+  not_begun read used found fault is admitted unread =
+      subst (λ n. RunsCommand w files command o (record o { files = used; found = n }) (Err fault)) (sym is)
+      (inr (inl (record { read = read; admitted = admitted; unread = unread; else_same = refl })))
 
   abbrev pub having : Option (List Kept) → ℕ → ℕ → Outside
   having kept unkept refused = record o { kept = kept; failed_keeps = unkept; failed_admissions = refused }

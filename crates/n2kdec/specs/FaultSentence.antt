@@ -16,7 +16,8 @@ use Rattle.n2kdec.specs.declared.fault.Fault.TheVariants.{Words, Interface, Tabl
 use Rattle.n2kdec.specs.declared.fault.Fault.TheVariants.{TableFile, StateFile, Read, Write, Report, Memory, Lines}
 use Rattle.n2kdec.specs.declared.fault.Fault.TheVariants.{Save}
 use Rattle.n2kdec.specs.declared.found.Found.{Found}
-use Rattle.n2kdec.specs.declared.found.Found.TheVariants.{Tables, Windows, Lines as LinesTaken}
+use Rattle.n2kdec.specs.declared.found.Found.TheVariants.{Tables, Windows, Lines as LinesTaken, Memory as NoMemory}
+use Rattle.n2kdec.specs.declared.found.Reading.TheVariants as reading
 use Rattle.n2kdec.specs.declared.reason.Reason.{Reason}
 use Rattle.n2kdec.specs.declared.reason.Reason.TheVariants.{System, Unfound, Harm}
 
@@ -58,7 +59,7 @@ fault_words StateFile = codes "it can't be read"
 fault_words Read = codes "it can't be read"
 fault_words Write = codes "it can't be written"
 fault_words Report = codes "it can't be written"
-fault_words Memory = codes "there is no more for the table, the state or the log"
+fault_words Memory = codes "there is no memory for it"
 fault_words Lines = codes "it has more lines than are counted"
 fault_words Save = codes "the state can't be saved"
 
@@ -93,7 +94,7 @@ state_advice _ = codes "; begin without --resume"
 -- of a state that can't be saved
 abbrev pub save_advice : Option Reason → Text
 save_advice None = []
-save_advice (Some (System words)) = codes "; the log was decoded, but its state is not surely saved"
+save_advice (Some (System words)) = codes "; the log was decoded; the file has what it had, or the new state, unless it is written over in place"
 save_advice (Some (Unfound words)) = codes "; nothing was decoded"
 save_advice (Some Harm) = codes "; nothing was decoded: name another file for --save"
 
@@ -112,22 +113,29 @@ abbrev pub log_name : Option Text → Text
 log_name None = codes "standard input"
 log_name (Some name) = name
 
+-- what was read when memory was refused, and else the words that were typed
+abbrev pub wanting : Files → Option Found → Option Text
+wanting files (Some (NoMemory reading.Table)) = files.table
+wanting files (Some (NoMemory reading.State)) = files.state
+wanting files (Some (NoMemory reading.Log)) = Some (log_name files.log)
+wanting files _ = Some (codes "the command line")
+
 -- The name that was typed, or that of a stream; none where nothing is said.
-abbrev pub subject_of : Files → Command → Fault → Option Text
-subject_of files command Words = None
-subject_of files command Interface = Some (codes "--candump")
-subject_of files command TableSize = files.table
-subject_of files command StateSize = files.state
-subject_of files command (Table fault) = files.table
-subject_of files command (State fault) = files.state
-subject_of files command TableFile = files.table
-subject_of files command StateFile = files.state
-subject_of files command Read = Some (log_name files.log)
-subject_of files command Write = Some (codes "standard output")
-subject_of files command Report = None
-subject_of files command Memory = Some (codes "memory")
-subject_of files command Lines = Some (log_name files.log)
-subject_of files command Save = save_name command
+abbrev pub subject_of : Files → Command → Fault → Option Found → Option Text
+subject_of files command Words found = None
+subject_of files command Interface found = Some (codes "--candump")
+subject_of files command TableSize found = files.table
+subject_of files command StateSize found = files.state
+subject_of files command (Table fault) found = files.table
+subject_of files command (State fault) found = files.state
+subject_of files command TableFile found = files.table
+subject_of files command StateFile found = files.state
+subject_of files command Read found = Some (log_name files.log)
+subject_of files command Write found = Some (codes "standard output")
+subject_of files command Report found = None
+subject_of files command Memory found = wanting files found
+subject_of files command Lines found = Some (log_name files.log)
+subject_of files command Save found = save_name command
 
 -- ---- the line
 
@@ -155,6 +163,7 @@ found_text files None = []
 found_text files (Some (Tables saved table)) = tables_text saved (unwrap_or files.table []) table
 found_text files (Some (Windows saved window)) = windows_text saved window
 found_text files (Some (LinesTaken lines)) = lines_text lines
+found_text files (Some (NoMemory read)) = []
 
 -- what is wrong with a subject, what was found out about it, and what to do
 abbrev pub told_of : Files → Text → Fault → Option Reason → Option Found → Text
@@ -167,7 +176,7 @@ line_of text = codes "n2kdec: " ++ escaped false text ++ codes "\n"
 -- what is said of a fault, for this reason and with what was found out; nothing where it is of no file
 abbrev pub fault_sentence : Files → Command → Fault → Option Reason → Option Found → List ℕ
 fault_sentence files command fault reason found =
-    unwrap_or (option_map (λ subject. line_of (told_of files subject fault reason found)) (subject_of files command fault)) []
+    unwrap_or (option_map (λ subject. line_of (told_of files subject fault reason found)) (subject_of files command fault found)) []
 
 -- this is the known reason, where both are there
 abbrev pub IsAsKnown : Option Reason → Option Reason → Type 0

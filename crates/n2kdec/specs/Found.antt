@@ -1,4 +1,5 @@
--- What is found out about a fault: what a state is of that is refused, and how far a log was read.
+-- What is found out about a fault: what a state is of that is refused, how far a log was read, and what was read when
+-- memory was refused.
 use Rattle.std.specs.Prelude.{◌≡◌, ℕ, List, Option, Some, None, Result, Ok, Err, IfSome, IsSomeAnd, codes}
 use Rattle.std.specs.Prelude.{option_and_then, option_map}
 use Rattle.hex.specs.Hex.{encode_lower}
@@ -20,9 +21,11 @@ use Rattle.n2kdec.specs.declared.asked.Command.{Command}
 use Rattle.n2kdec.specs.declared.asked.Command.TheVariants.{Plain, Decode, Frames}
 use Rattle.n2kdec.specs.declared.ending.Ending.{Ending}
 use Rattle.n2kdec.specs.declared.fault.Fault.{Fault}
-use Rattle.n2kdec.specs.declared.fault.Fault.TheVariants.{Read, State}
+use Rattle.n2kdec.specs.declared.fault.Fault.TheVariants.{Read, State, Memory}
 use Rattle.n2kdec.specs.declared.found.Found.{Found}
-use Rattle.n2kdec.specs.declared.found.Found.TheVariants.{Tables, Windows, Lines}
+use Rattle.n2kdec.specs.declared.found.Found.TheVariants.{Tables, Windows, Lines, Memory as NoMemory}
+use Rattle.n2kdec.specs.declared.found.Reading.{Reading}
+use Rattle.n2kdec.specs.declared.found.Reading.TheVariants as reading
 use Rattle.n2kdec.specs.declared.work.Stop.{Stop}
 
 -- ---- a state that is another's
@@ -74,12 +77,18 @@ TellsLines P _ lines = Unit {0}
 
 -- ---- what is found out
 
+-- before a command begins, what was read when memory was refused
+abbrev pub noted : Fault → Reading → Option Found → Option Found
+noted Memory read found = Some (NoMemory read)
+noted _ read found = found
+
 -- By what a command was handed, and the lines that are told. What a state is of is not found out where memory for it is
--- refused. Of other faults nothing is.
+-- refused. A command reads its log. Of other faults nothing is found out.
 abbrev pub FoundAt : Command → List ℕ → Option (List ℕ) → Option ℕ → Fault → Option Found → Type 0
 FoundAt command table handed lines Read found = found ≡ option_map (λ n. Lines n) lines
 FoundAt command table handed lines (State fault) found =
     IfSome found (λ is. difference command table handed fault ≡ Some is)
+FoundAt command table handed lines Memory found = found ≡ Some (NoMemory reading.Log)
 FoundAt command table handed lines _ found = found ≡ None
 
 abbrev pub FoundIn : Command → List ℕ → Option (List ℕ) → Result Part Stop → Option Found → Type 0

@@ -12,7 +12,7 @@ use Rattle.n2kdec.specs.Commands.{Performs, Place, place, shelf}
 use Rattle.n2kdec.specs.Ending.{hint}
 use Rattle.n2kdec.specs.Fault.{IsBeforeLine, IsFaultMessage, longest_file, status_of}
 use Rattle.n2kdec.specs.FaultSentence.{IsAsKnown, fault_sentence, has_reason}
-use Rattle.n2kdec.specs.Found.{Finds}
+use Rattle.n2kdec.specs.Found.{Finds, noted}
 use Rattle.n2kdec.specs.Parser.{Shown, said_of}
 use Rattle.n2kdec.specs.Words.{IsAskedBy, IsRefused}
 use Rattle.n2kdec.specs.declared.asked.Request.{Request}
@@ -25,6 +25,8 @@ use Rattle.n2kdec.specs.declared.fault.Fault.{Fault}
 use Rattle.n2kdec.specs.declared.fault.Fault.TheVariants.{Words as WordsFault, TableSize, TableFile, StateSize}
 use Rattle.n2kdec.specs.declared.fault.Fault.TheVariants.{StateFile, Read, Memory, Save, Write}
 use Rattle.n2kdec.specs.declared.found.Found.{Found}
+use Rattle.n2kdec.specs.declared.found.Reading.{Reading}
+use Rattle.n2kdec.specs.declared.found.Reading.TheVariants as reading
 use Rattle.n2kdec.specs.declared.keeper.Keeper.{Ghosts as OfKeeper}
 use Rattle.n2kdec.specs.declared.machine.Outlets.{Outlets}
 use Rattle.n2kdec.specs.declared.reason.Reason.{Reason}
@@ -185,25 +187,36 @@ pub record ReadsFile {T : Type 0} (w : World) (name : Option Text) (too_large un
       (λ read. IsReadable w name × (after.failed ≡ before.failed) × Opens before after (if_named name))
       (λ fault. IsSome name × IsUnreadFile w name too_large unread before after fault)
 
--- The fault of a file, and the files that were opened until then: the table's, the state's, the log's. Memory may be
--- refused behind any of them.
-abbrev pub IsUnread : World → Files → FileUse → FileUse → Fault → Type 0
-IsUnread w files before after TableSize =
+-- the files that are opened before one is read, and with it
+abbrev pub files_before : Files → Reading → List (Option Text)
+files_before files reading.Table = []
+files_before files reading.State = if_named files.table
+files_before files reading.Log = files_before_log files
+
+abbrev pub files_with : Files → Reading → List (Option Text)
+files_with files reading.Table = if_named files.table
+files_with files reading.State = files_before_log files
+files_with files reading.Log = all_files files
+
+-- The fault of a file that is read, and the files that were opened until then: the table's, the state's, the log's.
+-- Memory may be refused before it is looked for.
+abbrev pub IsUnread : World → Files → Reading → FileUse → FileUse → Fault → Type 0
+IsUnread w files read before after TableSize =
     IsTooLarge w files.table × (after.failed ≡ before.failed) × Opens before after (if_named files.table)
-IsUnread w files before after TableFile =
+IsUnread w files read before after TableFile =
     IsUnreadable files.table before after × Opens before after (if_named files.table)
-IsUnread w files before after StateSize =
+IsUnread w files read before after StateSize =
     IsReadable w files.table × IsTooLarge w files.state × (after.failed ≡ before.failed)
     × Opens before after (files_before_log files)
-IsUnread w files before after StateFile =
+IsUnread w files read before after StateFile =
     IsReadable w files.table × IsUnreadable files.state before after × Opens before after (files_before_log files)
-IsUnread w files before after Read =
+IsUnread w files read before after Read =
     IsReadable w files.table × IsReadable w files.state × IsUnreadable files.log before after
     × Opens before after (all_files files)
-IsUnread w files before after Memory =
+IsUnread w files read before after Memory =
     (after.failed ≡ before.failed)
-    × ((first rest : List (Option Text)) × (all_files files ≡ first ++ rest) × Opens before after first)
-IsUnread w files before after _ = ⊥
+    × (Opens before after (files_before files read) ⊎ Opens before after (files_with files read))
+IsUnread w files read before after _ = ⊥
 
 -- ---- a command
 
@@ -261,12 +274,14 @@ pub record IsNotAdmitted (files : Files) (command : Command) (before after : Out
   pub failed : HasFailed before.failed_admissions after.failed_admissions
   pub else_same : after ≡ record before { failed_admissions = after.failed_admissions }
 
--- It is not begun, though its state is admitted, since a file is not read; and nothing is printed or kept.
+-- It is not begun, though its state is admitted, since a file is not read, which is noted where memory was refused; and
+-- nothing is printed or kept.
 pub record IsNotBegun (w : World) (files : Files) (command : Command) (before after : Outside) (fault : Fault)
     : Type 0 where
+  pub read : Reading
   pub admitted : IsStateAdmitted before.admits files command
-  pub unread : IsUnread w files before.files after.files fault
-  pub else_same : after ≡ record before { files = after.files }
+  pub unread : IsUnread w files read before.files after.files fault
+  pub else_same : after ≡ record before { files = after.files; found = noted fault read before.found }
 
 -- it is performed; or not begun; or its state is not admitted
 abbrev pub RunsCommand : World → Files → Command → Outside → Outside → Result Ending Fault → Type 0

@@ -2,13 +2,14 @@
 ghost use Rattle.std.specs.Prelude.{◌≡◌, ◌++◌, IfOk, OnOk, decimal, option_map};
 ghost use Rattle.n2kdec.specs.FaultSentence.{advice_of, fault_sentence, fault_words};
 ghost use Rattle.n2kdec.specs.FaultSentence.{line_of, named, save_advice, state_advice, state_words, subject_of};
+ghost use Rattle.n2kdec.specs.FaultSentence.{log_name, wanting};
 ghost use Rattle.n2kdec.specs.FaultSentence.{found_text, lines_text, some_lines_text, table_advice, table_words};
 ghost use Rattle.n2kdec.specs.FaultSentence.{tables_text, told_of, windows_text, words_of};
 
 use crate::asked::{Command, Files};
 use crate::escape::push_escaped;
 use crate::fault::Fault;
-use crate::found::Found;
+use crate::found::{Found, Reading};
 use crate::reason::Reason;
 use crate::words::Word;
 use n2k_join::StateFault;
@@ -63,7 +64,7 @@ fn fault_words(fault: Fault) -> &'static str
         Fault::State(fault) => state_words(fault),
         Fault::TableFile | Fault::StateFile | Fault::Read => "it can't be read",
         Fault::Write | Fault::Report => "it can't be written",
-        Fault::Memory => "there is no more for the table, the state or the log",
+        Fault::Memory => "there is no memory for it",
         Fault::Lines => "it has more lines than are counted",
         Fault::Save => "the state can't be saved",
     }
@@ -146,6 +147,7 @@ fn push_found(files: &Files, found: &Option<Found>, text: &mut Vec<u8>) -> Resul
         ),
         Some(Found::Windows(saved, window)) => push_windows(*saved, *window, text),
         Some(Found::Lines(lines)) => push_lines(*lines, text),
+        Some(Found::Memory(_)) => Ok(()),
     }
 }
 
@@ -178,7 +180,8 @@ fn save_advice(reason: &Option<Reason>) -> &'static str
 {
     match reason {
         None => "",
-        Some(Reason::System(_)) => "; the log was decoded, but its state is not surely saved",
+        Some(Reason::System(_)) =>
+            "; the log was decoded; the file has what it had, or the new state, unless it is written over in place",
         Some(Reason::Unfound(_)) => "; nothing was decoded",
         Some(Reason::Harm) => "; nothing was decoded: name another file for --save",
     }
@@ -205,18 +208,42 @@ fn text_of(word: &Option<Word>) -> Option<&str>
     Some(word.as_ref()?.as_str())
 }
 
+/// The log as it is called.
+fn log_name(log: &Option<Word>) -> &str
+    ensures { result.now ≡ log_name log.now }
+{
+    text_of(log).unwrap_or("standard input")
+}
+
+/// What was read when memory was refused, and else the words that were typed.
+fn wanting<'a>(files: &'a Files, found: &Option<Found>) -> Option<&'a str>
+    ensures { option_map (λ text. text.now) result ≡ wanting files.now found.now }
+{
+    match found {
+        Some(Found::Memory(Reading::Table)) => text_of(&files.table),
+        Some(Found::Memory(Reading::State)) => text_of(&files.state),
+        Some(Found::Memory(Reading::Log)) => Some(log_name(&files.log)),
+        _ => Some("the command line"),
+    }
+}
+
 /// What a fault is of: the name that was typed, or that of a stream.
-fn subject_of<'a>(files: &'a Files, command: &'a Command, fault: Fault) -> Option<&'a str>
-    ensures { option_map (λ text. text.now) result ≡ subject_of files.now command.now fault }
+fn subject_of<'a>(
+    files: &'a Files,
+    command: &'a Command,
+    fault: Fault,
+    found: &Option<Found>,
+) -> Option<&'a str>
+    ensures { option_map (λ text. text.now) result ≡ subject_of files.now command.now fault found.now }
 {
     match fault {
         Fault::Words | Fault::Report => None,
         Fault::Interface => Some("--candump"),
         Fault::TableSize | Fault::Table(_) | Fault::TableFile => text_of(&files.table),
         Fault::StateSize | Fault::State(_) | Fault::StateFile => text_of(&files.state),
-        Fault::Read | Fault::Lines => Some(text_of(&files.log).unwrap_or("standard input")),
+        Fault::Read | Fault::Lines => Some(log_name(&files.log)),
         Fault::Write => Some("standard output"),
-        Fault::Memory => Some("memory"),
+        Fault::Memory => wanting(files, found),
         Fault::Save => match command {
             Command::Decode { save, .. } => text_of(save),
             _ => None,
@@ -273,7 +300,7 @@ pub fn fault_sentence(
     ensures { IfOk result (λ text.
         text.items ≡ fault_sentence files.now command.now fault reason.now found.now) }
 {
-    match subject_of(files, command, fault) {
+    match subject_of(files, command, fault, found) {
         Some(subject) => line_of(
             alloc,
             &told_of(alloc, files, subject, fault, reason, found)?,

@@ -1,11 +1,11 @@
-//! What is found out about a fault, for whoever sits at a terminal: what a state is of that is refused, and how far a log
-//! was read.
+//! What is found out about a fault, for whoever sits at a terminal: what a state is of that is refused, how far a log was
+//! read, and what was read when memory was refused.
 ghost use Rattle.std.specs.Prelude.{◌≡◌, IfSome, Some, option_map};
 ghost use Rattle.hex.specs.Hex.{encode_lower};
 ghost use Rattle.serde_json.specs.View.{view};
 ghost use Rattle.sha2.specs.Sha256.{sha256};
 ghost use Rattle.n2k_join.specs.Resumed.{parsed};
-ghost use Rattle.n2kdec.specs.Found.{FoundIn, difference, number_in, tables, text_in, windows};
+ghost use Rattle.n2kdec.specs.Found.{FoundIn, difference, noted, number_in, tables, text_in, windows};
 
 use crate::asked::Command;
 use crate::fault::Fault;
@@ -17,6 +17,17 @@ use serde_json::Value;
 use sha2::{Digest, Sha256};
 use std::alloc::Global;
 
+/// What is read.
+#[derive(Clone, Copy, Debug)]
+pub enum Reading {
+    /// The table.
+    Table,
+    /// The state.
+    State,
+    /// The log.
+    Log,
+}
+
 /// What is found out about a fault.
 #[derive(Debug, Drop)]
 pub enum Found {
@@ -26,6 +37,8 @@ pub enum Found {
     Windows(u64, u64),
     /// How many lines were taken of a log before a read of it failed, those before a state too.
     Lines(u64),
+    /// What was read when memory was refused.
+    Memory(Reading),
 }
 
 /// The value of a state. None where memory is refused.
@@ -99,6 +112,15 @@ fn difference(
     }
 }
 
+/// Notes what was read, where a fault is that of memory.
+pub fn note_memory(fault: Fault, reading: Reading, found: &mut Option<Found>)
+    ensures { found.new ≡ noted fault reading found.old }
+{
+    if let Fault::Memory = fault {
+        *found = Some(Found::Memory(reading));
+    }
+}
+
 /// What is found out about what stopped a command, which was handed these bytes of a table and of a state.
 pub fn found_in(
     alloc: Global,
@@ -114,6 +136,7 @@ pub fn found_in(
         Err(stop) => match stop.fault {
             Fault::Read => Some(Found::Lines(stop.lines?)),
             Fault::State(fault) => difference(alloc, command, table, state, fault),
+            Fault::Memory => Some(Found::Memory(Reading::Log)),
             _ => None,
         },
     }

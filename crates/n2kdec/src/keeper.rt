@@ -229,6 +229,8 @@ impl<D: Disk> StateFiles<D> {
 
 impl<D: Disk> Keeper for StateFiles<D> {
     ghost use Rattle.std.specs.Prelude.{None};
+    ghost use Rattle.n2kdec.specs.declared.keeper.Unkept.TheVariants as causes;
+    ghost use Rattle.n2kdec.specs.declared.reason.Reason.TheVariants as reasons;
 
     ghost failed_keeps = { λ s. s.failed_keeps };
 
@@ -246,7 +248,7 @@ impl<D: Disk> Keeper for StateFiles<D> {
     fn admit(&mut self, name: &str, files: &Files) -> Result<(), Failed>
         ensures harmless { Admits (D.answers self.old.disk) name.now files.now result }
         ensures untouched { self.new.disk ≡ self.old.disk }
-        ensures why { OnErr result (IfSome self.new.failure IsOfAdmission) }
+        ensures why { OnErr result (IsSomeAnd self.new.failure IsOfAdmission) }
         ensures keeps { self.new.failed_keeps ≡ self.old.failed_keeps }
         ensures counted { CountsFailure self.old.failed_admissions self.new.failed_admissions result }
     {
@@ -258,7 +260,7 @@ impl<D: Disk> Keeper for StateFiles<D> {
         ensures calls { KeepsText (D.answers self.old.disk) (D.acts self.old.disk) (D.acts self.new.disk) name.now
             state.now result }
         ensures admissions { self.new.failed_admissions ≡ self.old.failed_admissions }
-        ensures why { OnErr result (IfSome self.new.failure IsOfKeep) }
+        ensures why { OnErr result (IsSomeAnd self.new.failure IsOfKeep) }
         ensures counted { CountsFailure self.old.failed_keeps self.new.failed_keeps result }
     {
         let kept = keep_state(self.alloc, &mut self.disk, name, state);
@@ -266,7 +268,8 @@ impl<D: Disk> Keeper for StateFiles<D> {
     }
 
     fn why_unkept(&self, alloc: Global, _name: &str) -> Option<Reason>
-        ensures { IfSome result (λ reason. IsSomeAnd self.now.failure (λ why. TellsOf why reason)) }
+        ensures told { IfSome result (λ reason. IsSomeAnd self.now.failure (λ why. TellsOf why reason)) }
+        ensures harm { self.now.failure ≡ Some causes.Harm → result ≡ Some reasons.Harm }
     {
         match self.failure? {
             Unkept::Harm => Some(Reason::Harm),

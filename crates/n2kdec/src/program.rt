@@ -19,6 +19,7 @@ use crate::ending::{Ending, hint};
 use crate::fault::{Fault, status};
 use crate::fault_message::{lines_of, write_fault, write_text};
 use crate::fault_sentence::fault_sentence;
+use crate::found::{Reading, note_memory};
 use crate::keeper::Keeper;
 use crate::machine::{Machine, Outlets};
 use crate::parser::Parser;
@@ -112,21 +113,39 @@ fn run_on_files<M: Machine, K: Keeper>(
         (outside M.Output.Sink M.Errors.Sink K.Keeper (M.files machine.old) outlets.old)
         (outside M.Output.Sink M.Errors.Sink K.Keeper (M.files machine.new) outlets.new) result }
 {
-    let table = read_file(
+    let table = match read_file(
         alloc,
         machine,
         &files.table,
         Fault::TableSize,
         Fault::TableFile,
-    )?;
-    let state = read_file(
+    ) {
+        Ok(table) => table,
+        Err(fault) => {
+            note_memory(fault, Reading::Table, &mut outlets.found);
+            return Err(fault);
+        }
+    };
+    let state = match read_file(
         alloc,
         machine,
         &files.state,
         Fault::StateSize,
         Fault::StateFile,
-    )?;
-    let mut log = open_log(machine, &files.log)?;
+    ) {
+        Ok(state) => state,
+        Err(fault) => {
+            note_memory(fault, Reading::State, &mut outlets.found);
+            return Err(fault);
+        }
+    };
+    let mut log = match open_log(machine, &files.log) {
+        Ok(log) => log,
+        Err(fault) => {
+            note_memory(fault, Reading::Log, &mut outlets.found);
+            return Err(fault);
+        }
+    };
     let table = table.unwrap_or(Vec::new(alloc));
     let state = state.as_ref().map(|bytes| bytes.as_slice());
     let answer = run_command(alloc, command, &table, state, &mut log, outlets);
