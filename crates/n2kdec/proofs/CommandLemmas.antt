@@ -1,5 +1,5 @@
 -- From what a run, the place of a state and the summary leave to what a command leaves.
-use Rattle.std.proofs.Common.{◌≡◌, ◌⊎◌, ◌≤◌, ◌+◌, length, ◌==◌, ◌++◌, Bool, true, false, cond, arith, ◌∙◌, ℕ, List, [], Option, Ok, Err, Result, IfOk, IfSome, ap, sym, subst, refl, inl, inr, append_assoc, ap₂, None}
+use Rattle.std.proofs.Common.{◌≡◌, ◌⊎◌, ◌≤◌, ◌+◌, length, ◌==◌, ◌++◌, Bool, true, false, cond, arith, ◌∙◌, ℕ, List, [], Option, Ok, Err, Result, IfSome, ap, sym, subst, refl, inl, inr, append_assoc, ap₂, None}
 use Rattle.std.proofs.KnownBytes.{Appends-nil, Appends-trans}
 use Rattle.std.proofs.lemmas.Bool.{false≢true}
 use Rattle.std.specs.Io.KnownBytes.{Appends}
