@@ -13,7 +13,6 @@ pub mod Members
 pub mod Found
 pub mod Heads
 pub mod Names
-pub mod Older
 pub mod OneKind
 pub mod OneLine
 pub mod Placed
@@ -21,7 +20,6 @@ pub mod Places
 pub mod Numbers
 pub mod RawBits
 pub mod Rooms
-pub mod SetPlaces
 pub mod SetSizes
 pub mod Splits
 pub mod Steps
