@@ -66,11 +66,7 @@ module _ (w : Window) (some : 0 < w.lines) where
   -- a frame gives the same message with a key's group so far and with what is kept of it
   gives-kept : (x : Frame) (s : Option (List Frame)) → IfSome s IsFine → option_map (message_of x) (completed (within w) s x) ≡ option_map (message_of x) (completed (within w) (kept_of x.key s) x)
   gives-kept x None fine = refl
-  gives-kept x (Some g) fine = by (complete g) refl
-    where
-      by : (c : Bool) → complete g ≡ c → option_map (message_of x) (completed (within w) (Some g) x) ≡ option_map (message_of x) (completed (within w) (option_map held_of (option_map (group_of x.key) (cond c None (Some g)))) x)
-      by true c = ap (λ b. message_from x (cond (b || within w g x) (x ∷ []) (g ++ x ∷ []))) c
-      by false c = gives-kept_open x g (within w g x) fine c refl
+  gives-kept x (Some g) fine = grind (arith, gives-kept_open)
 
 -- ---- what the last line of a log gives
 

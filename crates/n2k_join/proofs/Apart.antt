@@ -1,5 +1,5 @@
 -- Groups hold where each does and none has a key that was seen before it.
-use Rattle.std.proofs.Common.{◌≡◌, ◌≤◌, ℕ, ◌+◌, ◌<◌, Bool, true, false, not, ◌&&◌, ◌||◌, cond, List, [], ◌∷◌, ◌++◌, length, get_or, take, drop, map, Option, Some, refl, sym, ap, subst, ◌∙◌}
+use Rattle.std.proofs.Common.{arith, ◌≡◌, ◌≤◌, ℕ, ◌+◌, ◌<◌, Bool, true, false, not, ◌&&◌, ◌||◌, cond, List, [], ◌∷◌, ◌++◌, length, get_or, take, drop, map, Option, Some, refl, sym, ap, subst, ◌∙◌}
 use Rattle.std.specs.Prelude.{is_some}
 use Rattle.std.specs.List.{list_any, AllByRecursion}
 use Rattle.std.proofs.lemmas.Bool.{and_parts, leb-true}
@@ -48,14 +48,7 @@ none_of-last ks k (g ∷ gs) =
 hold-new : (kind : ℕ → Option Kind) (ks : List Key) (gs : List Group) → each_new kind ks gs ≡ (none_of ks gs && groups_hold kind gs)
 unfolding each_new groups_hold
 hold-new kind ks [] = refl
-hold-new kind ks (g ∷ gs) =
-    ap (λ b. group_holds kind g && (not (list_any (same_key g.key) ks) && b)) (hold-new kind (ks ++ g.key ∷ []) gs ∙ ap (λ b. b && groups_hold kind gs) (none_of-last ks g.key gs))
-    ∙ regroup (group_holds kind g) (not (list_any (same_key g.key) ks)) (none_of ks gs) (not (has g.key gs)) (groups_hold kind gs)
-  where
-    regroup : (h s n a r : Bool) → (h && (s && ((n && a) && r))) ≡ ((s && n) && (h && (a && r)))
-    regroup h true true a r = refl
-    regroup h true false a r = and-false h
-    regroup h false n a r = and-false h
+hold-new kind ks (g ∷ gs) = grind (arith, hold-new kind (ks ++ g.key ∷ []) gs ∙ ap (λ b. b && groups_hold kind gs) (none_of-last ks g.key gs), none_of-last, and-false)
 
 pub hold-each_new : (kind : ℕ → Option Kind) (gs : List Group) → each_new kind [] gs ≡ groups_hold kind gs
 hold-each_new kind gs = hold-new kind [] gs ∙ ap (λ b. b && groups_hold kind gs) (none_of-nil gs)

@@ -1,5 +1,5 @@
 -- Scattered frames arrive whole.
-use Rattle.std.proofs.Common.{◌≡◌, ◌<◌, ◌+◌, ℕ, true, List, [], ◌∷◌, length, refl, ap, subst, ◌∙◌, sym, Option, Some, None}
+use Rattle.std.proofs.Common.{arith, ◌≡◌, ◌<◌, ◌+◌, ℕ, true, List, [], ◌∷◌, length, refl, ap, subst, ◌∙◌, sym, Option, Some, None}
 use Rattle.std.specs.Prelude.{find, option_map, option_and_then}
 use Rattle.std.specs.Option.{option_or}
 use Rattle.std.specs.List.{AllByRecursion, AllZip, last_or, range_with_len}
@@ -160,11 +160,7 @@ broken_among-none w begun line (g ∷ gs) each = rw each.0 (broken_among-none w 
 
 pub none_broken : (w : Window) (fs : List Frame) → AllWhole (within w) fs → (line : ℕ) → broken_with w fs line ≡ []
 unfolding broken_with
-none_broken w fs whole line = filter_map-none (broken_begun w fs line) (λ begun. by_frame (frame_at begun fs)) (range_with_len 1 line)
-  where
-    by_frame : (o : Option Frame) → option_and_then (broken_by w fs line) o ≡ None
-    by_frame None = refl
-    by_frame (Some f) = ap (option_map (broken_of f.key)) (broken_among-none w f.line line (cut (within w) (of_key f.key fs)) (whole f.key))
+none_broken w fs whole line = grind (arith, filter_map-none, broken_among-none)
 
 none_last : (o : Option (List Frame)) (gs : List (List Frame)) → option_and_then incomplete o ≡ None → AllByRecursion (λ g. complete g ≡ true) gs → option_and_then incomplete (last_or o gs) ≡ None
 none_last o [] e each = e
@@ -172,11 +168,7 @@ none_last o (g ∷ gs) e each = none_last (Some g) gs (rw each.0 refl) each.1
 
 pub none_open : (ends : EndTest) (fs : List Frame) (n : ℕ) → AllWhole ends fs → open_groups ends n fs ≡ []
 unfolding open_groups begun_at
-none_open ends fs n whole = filter_map-none (begun_at ends fs) (λ line. by_frame line (frame_at line fs)) (range_with_len 1 n)
-  where
-    by_frame : (line : ℕ) (o : Option Frame) → option_and_then (λ (f : Frame). option_and_then (where_begun line f.key) (open_of ends f.key fs)) o ≡ None
-    by_frame line None = refl
-    by_frame line (Some f) = ap (option_and_then (where_begun line f.key)) (none_last None (cut ends (of_key f.key fs)) refl (whole f.key))
+none_open ends fs n whole = grind (arith, filter_map-none, none_last)
 
 none_open-within : (w : Window) (fs : List Frame) (n : ℕ) → AllWhole (within w) fs → open_within w n fs ≡ []
 unfolding waiting

@@ -56,11 +56,7 @@ module _ (w : Window) (kind : ℕ → Option Kind) (e : Entry) (nothing : IsNoth
   alone-same (f ∷ front) back (suc i) = alone-same front back i
 
   message-same : (front back : List Entry) (i : ℕ) → message w kind (front ++ e ∷ back) i ≡ message w kind (front ++ entries.Skip ∷ back) i
-  message-same front back i = λ j. option_or (option_map (λ (m : Keyed). m.message) (gathered (within w) (frames_from-same 1 front back j) i)) (by i j)
-    where
-      by : (i : ℕ) → option_and_then (alone kind) (entry_at (front ++ e ∷ back) i) ≡ option_and_then (alone kind) (entry_at (front ++ entries.Skip ∷ back) i)
-      by zero = refl
-      by (suc i) = alone-same front back i
+  message-same front back i = grind (arith, frames_from-same, alone-same)
 
   broken-same : (front back : List Entry) (i : ℕ) → broken w kind (front ++ e ∷ back) i ≡ broken w kind (front ++ entries.Skip ∷ back) i
   broken-same front back i = ap (λ fs. broken_with w fs i) (frames_from-same 1 front back)

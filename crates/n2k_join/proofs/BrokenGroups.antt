@@ -58,25 +58,7 @@ among-last w n j line (g ∷ h ∷ gs) up l = passed w j line g h gs (omega (ari
 
 -- with one
 among-one : (w : Window) (j : ℕ) (g : List Frame) (x : Frame) → 0 < w.lines → 0 < length g → broken_among w j x.line (grown (within w) (g ∷ []) x) ≡ cond (ends_by w j x g) (Some g) None
-among-one w j g x some nonempty = by (complete g) refl (within w g x) refl
-  where
-    alone : broken_among w j x.line ((x ∷ []) ∷ []) ≡ None
-    alone = among-open w j x.line (x ∷ []) (omega (arith, some))
-
-    by_line : (b : Bool) → nat_le x.line (first g + w.lines) ≡ b → (min (first g + w.lines) x.line == x.line) ≡ b
-    by_line true e = eq-eqb _ _ (omega (arith, leb-true x.line (first g + w.lines) e))
-    by_line false e = ne_eqb _ _ (λ f. omega (arith, leb-false x.line (first g + w.lines) e, f))
-
-    by : (c : Bool) → complete g ≡ c → (e : Bool) → within w g x ≡ e
-        → broken_among w j x.line (cond (c || e) (g ∷ (x ∷ []) ∷ []) ((g ++ x ∷ []) ∷ [])) ≡ cond (not c && ((first g == j) && (e && nat_le x.line (first g + w.lines)))) (Some g) None
-    by true t e f = ap (λ c. cond (not c && ((first g == j) && (min (first g + w.lines) x.line == x.line))) (Some g) (broken_among w j x.line ((x ∷ []) ∷ []))) t ∙ alone
-    by false t true f =
-        (λ i. cond (not (t i) && ((first g == j) && by_line (nat_le x.line (first g + w.lines)) refl i)) (Some g) (alone i))
-    by false t false f =
-        let late : is_late w g x ≡ false = (or_parts (misfits w g x) (is_late w g x) f).1 in
-        let before : x.line < first g + w.lines = leb-false (first g + w.lines) x.line late in
-        among-open w j x.line (g ++ x ∷ []) (omega (arith, first-push g x nonempty, before))
-        ∙ sym (ap (λ b. cond b (Some g) None) (and_right (first g == j) false refl))
+among-one w j g x some nonempty = grind (arith, among-open, eq-eqb, leb-true, ne_eqb, leb-false, or_parts, first-push, and_right)
 
 among-grown : (w : Window) (n j : ℕ) (gs : List (List Frame)) (x : Frame) → 0 < w.lines → AllByRecursion (IsUpTo n) gs → n < x.line → broken_among w j x.line (grown (within w) gs x) ≡ last_if (ends_by w j x) (last_or None gs)
 among-grown w n j [] x some up l = among-open w j x.line (x ∷ []) (omega (arith, some))
@@ -101,35 +83,12 @@ among-own w n gs x some up l = among-grown w n x.line gs x some up l ∙ by (las
 
 -- Earlier lines keep what is broken at them.
 among-stays_one : (w : Window) (j i : ℕ) (g : List Frame) (x : Frame) → 0 < w.lines → 0 < length g → i < x.line → broken_among w j i (grown (within w) (g ∷ []) x) ≡ broken_among w j i (g ∷ [])
-among-stays_one w j i g x some nonempty l = by (complete g) refl (within w g x) refl
-  where
-    alone : broken_among w j i ((x ∷ []) ∷ []) ≡ None
-    alone = among-open w j i (x ∷ []) (omega (arith, l))
-
-    at_line : (min (first g + w.lines) x.line == i) ≡ (first g + w.lines == i)
-    at_line =
-        same_bool _ _ (λ e. eq-eqb _ _ (omega (arith, l, eqb-true (min (first g + w.lines) x.line) i e)))
-        (λ e. eq-eqb _ _ (omega (arith, l, eqb-true (first g + w.lines) i e)))
-
-    by : (c : Bool) → complete g ≡ c → (e : Bool) → within w g x ≡ e
-        → broken_among w j i (cond (c || e) (g ∷ (x ∷ []) ∷ []) ((g ++ x ∷ []) ∷ [])) ≡ cond (not (complete g) && ((first g == j) && (first g + w.lines == i))) (Some g) None
-    by true t e f = λ k. cond (not (complete g) && ((first g == j) && at_line k)) (Some g) (alone k)
-    by false t true f = λ k. cond (not (complete g) && ((first g == j) && at_line k)) (Some g) (alone k)
-    by false t false f =
-        let late : is_late w g x ≡ false = (or_parts (misfits w g x) (is_late w g x) f).1 in
-        let before : x.line < first g + w.lines = leb-false (first g + w.lines) x.line late in
-        among-open w j i (g ++ x ∷ []) (omega (arith, first-push g x nonempty, before, l))
-        ∙ sym (among-open w j i g (omega (arith, before, l)))
+among-stays_one w j i g x some nonempty l = grind (arith, among-open, eq-eqb, eqb-true, or_parts, leb-false, first-push)
 
 among-stays : (w : Window) (n j i : ℕ) (gs : List (List Frame)) (x : Frame) → 0 < w.lines → AllByRecursion (IsUpTo n) gs → i < x.line → broken_among w j i (grown (within w) gs x) ≡ broken_among w j i gs
 among-stays w n j i [] x some up l = among-open w j i (x ∷ []) (omega (arith, l))
 among-stays w n j i (g ∷ []) x some up l = among-stays_one w j i g x some up.0.nonempty l
-among-stays w n j i (g ∷ h ∷ []) x some up l = by (closes (within w) h x) refl (among-stays_one w j i h x some up.1.0.nonempty l)
-  where
-    by : (b : Bool) → closes (within w) h x ≡ b → broken_among w j i (cond b (h ∷ (x ∷ []) ∷ []) ((h ++ x ∷ []) ∷ [])) ≡ broken_among w j i (h ∷ [])
-        → broken_among w j i (g ∷ cond b (h ∷ (x ∷ []) ∷ []) ((h ++ x ∷ []) ∷ [])) ≡ broken_among w j i (g ∷ h ∷ [])
-    by true e rest = ap (λ o. cond (not (complete g) && ((first g == j) && (min (first g + w.lines) (first h) == i))) (Some g) o) rest
-    by false e rest = λ k. cond (not (complete g) && ((first g == j) && (min (first g + w.lines) (first-push h x up.1.0.nonempty k) == i))) (Some g) (rest k)
+among-stays w n j i (g ∷ h ∷ []) x some up l = grind (arith, among-stays_one, first-push)
 among-stays w n j i (g ∷ h ∷ k ∷ gs) x some up l =
     ap (λ o. cond (not (complete g) && ((first g == j) && (min (first g + w.lines) (first h) == i))) (Some g) o) (among-stays w n j i (h ∷ k ∷ gs) x some up.1 l)
 
@@ -137,15 +96,7 @@ among-stays w n j i (g ∷ h ∷ k ∷ gs) x some up l =
 
 module _ (w : Window) (some : 0 < w.lines) where
   begun-stays : (n : ℕ) (fs : List Frame) (x : Frame) (i j : ℕ) → IsLog n fs → i < x.line → (x.line ≡ j → ⊥) → broken_begun w (fs ++ x ∷ []) i j ≡ broken_begun w fs i j
-  begun-stays n fs x i j log l other = ap (option_and_then (broken_by w (fs ++ x ∷ []) i)) (at_line j fs x other) ∙ by (frame_at j fs)
-    where
-      keyed : (f : Frame) (b : Bool) → same_key f.key x.key ≡ b → broken_by w (fs ++ x ∷ []) i f ≡ broken_by w fs i f
-      keyed f true e = ap (λ gs. option_map (broken_of f.key) (broken_among w f.line i gs)) (cut_of_same (within w) f.key fs x e) ∙ ap (option_map (broken_of f.key)) (among-stays w n f.line i (cut (within w) (of_key f.key fs)) x some (up_to (within w) n f.key fs log) l)
-      keyed f false e = ap (λ gs. option_map (broken_of f.key) (broken_among w f.line i gs)) (cut_of_other (within w) f.key fs x e)
-
-      by : (o : Option Frame) → option_and_then (broken_by w (fs ++ x ∷ []) i) o ≡ option_and_then (broken_by w fs i) o
-      by None = refl
-      by (Some f) = keyed f (same_key f.key x.key) refl
+  begun-stays n fs x i j log l other = grind (arith, at_line, cut_of_same, among-stays, up_to, cut_of_other)
 
   -- with a frame more each earlier line has the same groups broken at it
   pub broken-stays : (n : ℕ) (fs : List Frame) (x : Frame) (i : ℕ) → IsLog n fs → i < x.line → broken_with w (fs ++ x ∷ []) i ≡ broken_with w fs i
@@ -168,15 +119,7 @@ module _ (w : Window) (some : 0 < w.lines) where
   told_at : (t : List Frame → Bool) (u : Group → Bool) (k : Key) (j : ℕ) → (o : Option (List Frame)) → ((g : List Frame) → o ≡ Some g → complete g ≡ false → first g ≡ j → t g ≡ u (group_of k g))
       → option_map (broken_of k) (last_if (λ g. not (complete g) && ((first g == j) && t g)) o) ≡ option_and_then (told_if u) (option_and_then (where_begun j k) (option_and_then incomplete o))
   told_at t u k j None same = refl
-  told_at t u k j (Some g) same = by (complete g) refl (first g == j) refl
-    where
-      by : (c : Bool) → complete g ≡ c → (b : Bool) → (first g == j) ≡ b
-          → option_map (broken_of k) (cond (not c && (b && t g)) (Some g) None) ≡ option_and_then (told_if u) (option_and_then (where_begun j k) (cond c None (Some g)))
-      by true c b e = refl
-      by false c true e =
-          of_cond (option_map (broken_of k)) (t g) (Some g) None ∙ ap (λ b. cond b (Some (as_broken (group_of k g))) None) (same g refl c (eqb-true (first g) j e))
-          ∙ sym (ap (λ b. option_and_then (told_if u) (cond b (Some (group_of k g)) None)) e)
-      by false c false e = sym (ap (λ b. option_and_then (told_if u) (cond b (Some (group_of k g)) None)) e)
+  told_at t u k j (Some g) same = grind (arith, eqb-true)
 
   begun-none : (n line : ℕ) (fs : List Frame) (j : ℕ) → IsLog n fs → n < line → broken_begun w fs line j ≡ option_and_then (told_if (runs_out line)) (begun_at (within w) fs j)
   begun-none n line fs j log l = by (frame_at j fs) refl ∙ sym (ap (option_and_then (told_if (runs_out line))) (begun_at-key (within w) (within-ends w some) fs j))

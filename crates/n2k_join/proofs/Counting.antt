@@ -69,11 +69,7 @@ eqb_suc c l =
 -- a test holds of each where it holds of as many as there are
 all_by_count : (p : ℕ → Bool) (ns : List ℕ) → list_all p ns ≡ (count_by p ns == length ns)
 all_by_count p [] = refl
-all_by_count p (n ∷ ns) = rw (count_cons p n ns) (one (p n) (all_by_count p ns))
-  where
-    one : (b : Bool) → list_all p ns ≡ (count_by p ns == length ns) → b && list_all p ns ≡ ((cond b 1 0 + count_by p ns) == suc (length ns))
-    one true ih = ih ∙ eqb_suc _ _
-    one false ih = sym (ne_eqb _ _ (λ e. omega (arith, count_by-le-length p ns)))
+all_by_count p (n ∷ ns) = grind (arith, all_by_count p ns, count_cons, eqb_suc, ne_eqb, count_by-le-length)
 
 -- frames without a number twice, all below m: they have every number below m where they are m
 pub has_all_numbers : (m : ℕ) (fs : List Frame) → AllByRecursion (λ (f : Frame). f.number < m) fs → has_twice fs ≡ false → list_all (λ n. has_number n fs) (range_with_len 0 m) ≡ (length fs == m)

@@ -114,11 +114,7 @@ cut_first ends fs = record { none = refl; begins = begins fs; follows = first_fo
 
 grown-stays : (ends : EndTest) (gs : List (List Frame)) (x : Frame) (i : ℕ) (g : List Frame) → slice_get gs i ≡ Some g → IsSettled gs i g → slice_get (grown ends gs x) i ≡ Some g
 grown-stays ends [] x i g e settled = absurd (none-some g e)
-grown-stays ends (h ∷ []) x zero g e settled = by settled
-  where
-    by : (complete g ≡ true) ⊎ (0 + 1 < 1) → slice_get (cond (closes ends h x) (h ∷ (x ∷ []) ∷ []) ((h ++ x ∷ []) ∷ [])) 0 ≡ Some g
-    by (inl done) = ap (λ b. slice_get (cond b (h ∷ (x ∷ []) ∷ []) ((h ++ x ∷ []) ∷ [])) 0) (or_left (complete h) (ends h x) (ap complete (same_Some h g e) ∙ done)) ∙ e
-    by (inr past) = absurd (omega (arith, past))
+grown-stays ends (h ∷ []) x zero g e settled = grind (arith, or_left)
 grown-stays ends (h ∷ []) x (suc i) g e settled = absurd (none-some g e)
 grown-stays ends (h ∷ k ∷ gs) x zero g e settled = e
 grown-stays ends (h ∷ k ∷ gs) x (suc i) g e settled = grown-stays ends (k ∷ gs) x i g e (by settled)
@@ -129,21 +125,13 @@ grown-stays ends (h ∷ k ∷ gs) x (suc i) g e settled = grown-stays ends (k �
 
 grown-length : (ends : EndTest) (gs : List (List Frame)) (x : Frame) → length gs ≤ length (grown ends gs x)
 grown-length ends [] x = omega arith
-grown-length ends (g ∷ []) x = by (closes ends g x)
-  where
-    by : (b : Bool) → 1 ≤ length (cond b (g ∷ (x ∷ []) ∷ []) ((g ++ x ∷ []) ∷ []))
-    by true = omega arith
-    by false = omega arith
+grown-length ends (g ∷ []) x = grind (arith)
 grown-length ends (g ∷ h ∷ gs) x = omega (arith, grown-length ends (h ∷ gs) x)
 
 grown-begins : (ends : EndTest) (gs : List (List Frame)) (x : Frame) (i : ℕ) (g : List Frame) → AreGroups gs → slice_get gs i ≡ Some g → option_map first (slice_get (grown ends gs x) i) ≡ Some (first g)
 grown-begins ends [] x i g some e = absurd (none-some g e)
 grown-begins ends ([] ∷ gs) x i g some e = absurd (omega (arith, some.0))
-grown-begins ends ((f ∷ h) ∷ []) x zero g some e = by (closes ends (f ∷ h) x)
-  where
-    by : (b : Bool) → option_map first (slice_get (cond b ((f ∷ h) ∷ (x ∷ []) ∷ []) (((f ∷ h) ++ x ∷ []) ∷ [])) 0) ≡ Some (first g)
-    by true = ap (option_map first) e
-    by false = ap (option_map first) e
+grown-begins ends ((f ∷ h) ∷ []) x zero g some e = grind (arith)
 grown-begins ends ((f ∷ h) ∷ []) x (suc i) g some e = absurd (none-some g e)
 grown-begins ends ((f ∷ h) ∷ k ∷ gs) x zero g some e = ap (option_map first) e
 grown-begins ends ((f ∷ h) ∷ k ∷ gs) x (suc i) g some e = grown-begins ends (k ∷ gs) x i g some.1 e

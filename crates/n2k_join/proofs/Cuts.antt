@@ -38,11 +38,7 @@ from_has n (f ∷ g) e = by (nat_le n f.number) refl e (from_has n g)
 
 pub has-from : (n m : ℕ) (g : List Frame) → n ≤ m → has_number m g ≡ true → has_from n g ≡ true
 has-from n m [] l e = absurd (false≢true e)
-has-from n m (f ∷ g) l e = by (f.number == m) refl e (has-from n m g l)
-  where
-    by : (b : Bool) → (f.number == m) ≡ b → is_some (cond b (Some f.bytes) (carried g m)) ≡ true → (has_number m g ≡ true → has_from n g ≡ true) → (nat_le n f.number || has_from n g) ≡ true
-    by true is e later = or_left _ _ (le-leb n f.number (omega (arith, l, eqb-true f.number m is)))
-    by false is e later = or_right _ _ (later e)
+has-from n m (f ∷ g) l e = grind (arith, has-from n m g l, or_left, le-leb, eqb-true, or_right)
 
 -- whether a number stands in a group from one on is told by what the group carries
 pub has_from-same : (n : ℕ) (g h : List Frame) → carried g ≡ carried h → has_from n g ≡ has_from n h
@@ -118,11 +114,7 @@ module _ (ends : EndTest) where
   -- what holds of a frame alone and stays where one joins holds of each group
   cut_from-keeps : (Q : List Frame → Type 0) → ((x : Frame) → Q (x ∷ [])) → ((g : List Frame) (x : Frame) → closes ends g x ≡ false → Q g → Q (g ++ x ∷ [])) → (g fs : List Frame) → Q g → AllByRecursion Q (cut_from ends g fs)
   cut_from-keeps Q one more g [] h = (h, tt)
-  cut_from-keeps Q one more g (f ∷ fs) h = kept (closes ends g f) refl (cut_from-keeps Q one more (f ∷ []) fs (one f)) (cut_from-keeps Q one more (g ++ f ∷ []) fs)
-    where
-      kept : (b : Bool) → closes ends g f ≡ b → AllByRecursion Q (cut_from ends (f ∷ []) fs) → (Q (g ++ f ∷ []) → AllByRecursion Q (cut_from ends (g ++ f ∷ []) fs)) → AllByRecursion Q (cond b (g ∷ cut_from ends (f ∷ []) fs) (cut_from ends (g ++ f ∷ []) fs))
-      kept true e ended joined = (h, ended)
-      kept false e ended joined = joined (more g f e h)
+  cut_from-keeps Q one more g (f ∷ fs) h = grind (arith, cut_from-keeps Q one more (f ∷ []) fs (one f), cut_from-keeps Q one more (g ++ f ∷ []) fs)
 
   pub cut-keeps : (Q : List Frame → Type 0) → ((x : Frame) → Q (x ∷ [])) → ((g : List Frame) (x : Frame) → closes ends g x ≡ false → Q g → Q (g ++ x ∷ [])) → (fs : List Frame) → AllByRecursion Q (cut ends fs)
   unfolding cut

@@ -37,23 +37,10 @@ if_ended w line g = cond (not (is_waiting w line g)) (Some g) None
 ended-first : (w : Window) (line : ℕ) (gs : List Group) → Rise (λ (g : Group). g.first) 1 gs → (o : Option Group) → slice_get gs 0 ≡ o → slice_get (ended w line gs) 0 ≡ option_and_then (if_ended w line) o
 unfolding ended
 ended-first w line [] rise o e = ap (option_and_then (if_ended w line)) e
-ended-first w line (g ∷ gs) rise o e = by (is_waiting w line g) refl ∙ ap (option_and_then (if_ended w line)) e
-  where
-    by : (b : Bool) → is_waiting w line g ≡ b → slice_get (cond (not b) (g ∷ ended w line gs) (ended w line gs)) 0 ≡ cond (not (is_waiting w line g)) (Some g) None
-    by true t =
-        let l : line < g.first + w.lines = ltb-true _ _ t in
-        ap (λ (hs : List Group). slice_get hs 0) (later-wait w line (g.first + 1) gs rise.1 (omega (arith, l))) ∙ sym (ap (λ b. cond (not b) (Some g) None) t)
-    by false t = sym (ap (λ b. cond (not b) (Some g) None) t)
+ended-first w line (g ∷ gs) rise o e = grind (arith, ltb-true, later-wait)
 
 first-late : (w : Window) (line : ℕ) (gs : List Group) (g : Group) → Rise (λ (g : Group). g.first) 1 gs → slice_get (ended w line gs) 0 ≡ Some g → (gs ≡ g ∷ drop 1 gs) × (is_waiting w line g ≡ false)
-first-late w line gs g rise e = by gs (sym (ended-first w line gs rise (slice_get gs 0) refl) ∙ e)
-  where
-    by : (gs : List Group) → option_and_then (if_ended w line) (slice_get gs 0) ≡ Some g
-        → (gs ≡ g ∷ drop 1 gs) × (is_waiting w line g ≡ false)
-    by [] e = absurd (none-some g e)
-    by (h ∷ gs) e =
-        let late = cond_some (not (is_waiting w line h)) h g e in
-        (ap (λ k. k ∷ gs) late.1, ap (is_waiting w line) (sym late.1) ∙ not-true (is_waiting w line h) late.0)
+first-late w line gs g rise e = grind (arith, ended-first, none-some, cond_some, not-true)
 
 -- what is due is the first that is overdue, where a line follows
 pub due_by : (s : State) → (s.counts.lines ≡ most_lines → ⊥) → due s ≡ slice_get (overdue s) 0

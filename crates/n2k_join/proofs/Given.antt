@@ -62,13 +62,7 @@ module _ (ends : EndTest) where
 
   found_stays : (i : ℕ) (gs : List (List Frame)) (x : Frame) → (x.line ≡ i → ⊥) → find (is_done_at i) (grown ends gs x) ≡ find (is_done_at i) gs
   found_stays i [] x other = ap (λ b. cond b (Some (x ∷ [])) None) (done-not i (x ∷ []) other)
-  found_stays i (g ∷ []) x other = by (closes ends g x) refl
-    where
-      by : (b : Bool) → closes ends g x ≡ b → find (is_done_at i) (cond b (g ∷ (x ∷ []) ∷ []) ((g ++ x ∷ []) ∷ [])) ≡ cond (is_done_at i g) (Some g) None
-      by true e = ap (λ b. cond (is_done_at i g) (Some g) (cond b (Some (x ∷ [])) None)) (done-not i (x ∷ []) other)
-      by false e =
-          ap (λ b. cond b (Some (g ++ x ∷ [])) None) (done-not i (g ++ x ∷ []) (λ t. other (sym (last_line-push g x) ∙ t)))
-          ∙ sym (ap (λ b. cond (b && (last_line g == i)) (Some g) None) (or_parts (complete g) (ends g x) e).0)
+  found_stays i (g ∷ []) x other = grind (arith, done-not, last_line-push, or_parts)
   found_stays i (g ∷ h ∷ gs) x other = ap (λ o. cond (is_done_at i g) (Some g) o) (found_stays i (h ∷ gs) x other)
 
   -- the groups of frames of lines up to n
@@ -115,12 +109,4 @@ module _ (ends : EndTest) where
 
   pub gathered-stays : (fs : List Frame) (x : Frame) (i : ℕ) → (x.line ≡ i → ⊥) → gathered ends (fs ++ x ∷ []) i ≡ gathered ends fs i
   unfolding gathered
-  gathered-stays fs x i other = ap (option_and_then (gathered_by ends (fs ++ x ∷ []))) (at_line i fs x other) ∙ by (frame_at i fs) refl
-    where
-      keyed_stays : (f : Frame) → f.line ≡ i → (b : Bool) → same_key f.key x.key ≡ b → gathered_by ends (fs ++ x ∷ []) f ≡ gathered_by ends fs f
-      keyed_stays f at true e = ap (λ gs. option_map (keyed f) (find (is_done_at f.line) gs)) (cut_of_same f.key fs x e) ∙ ap (option_map (keyed f)) (found_stays f.line (cut ends (of_key f.key fs)) x (λ t. other (t ∙ at)))
-      keyed_stays f at false e = ap (λ gs. option_map (keyed f) (find (is_done_at f.line) gs)) (cut_of_other f.key fs x e)
-
-      by : (o : Option Frame) → frame_at i fs ≡ o → option_and_then (gathered_by ends (fs ++ x ∷ [])) o ≡ option_and_then (gathered_by ends fs) o
-      by None e = refl
-      by (Some f) e = keyed_stays f (eqb-true f.line i (find-passes (λ (f : Frame). f.line == i) fs f e)) (same_key f.key x.key) refl
+  gathered-stays fs x i other = grind (arith, at_line, cut_of_same, found_stays, cut_of_other, eqb-true, find-passes)

@@ -132,27 +132,7 @@ some-from (f ∷ h) some = or_left _ _ (le-leb 0 f.number (omega arith))
 
 -- what stood open with a frame 0, was complete, or has waited too long ends before another frame 0
 ends_before : (w : Window) (n : ℕ) (o : Option (List Frame)) (h : List Frame) (f : Frame) → IfSome o (IsUpTo n) → f.number ≡ 0 → n < f.line → IfSome (option_and_then incomplete o) (λ g. w.in_order ≡ false → n < first g + w.lines → has_number 0 g ≡ true) → o ≡ Some h → closes (within w) h f ≡ true
-ends_before w n o h f up zeroth past open_has last = by_test (complete h) refl (subst (λ (v : Option (List Frame)). IfSome (option_and_then incomplete v) (λ g. w.in_order ≡ false → n < first g + w.lines → has_number 0 g ≡ true)) last open_has)
-  where
-    is_up : IsUpTo n h
-    is_up = subst (λ (v : Option (List Frame)). IfSome v (IsUpTo n)) last up
-
-    falls : falls_back h f ≡ true
-    falls =
-        let before : first h ≤ n = first-le n h is_up in
-        and_from (nat_lt (first h) f.line) (has_from f.number h) (lt-ltb (first h) f.line (omega (arith, before, past))) (ap (λ m. has_from m h) zeroth ∙ some-from h is_up.nonempty)
-
-    by_time : (n < first h + w.lines) ⊎ (first h + w.lines ≤ n) → (n < first h + w.lines → has_number 0 h ≡ true) → within w h f ≡ true
-    by_time (inl l) has = or_left (misfits w h f) (is_late w h f) (or_left (repeats h f) (w.in_order && falls_back h f) (ap (λ n. has_number n h) zeroth ∙ has l))
-    by_time (inr l) has = or_right (misfits w h f) (is_late w h f) (le-leb (first h + w.lines) f.line (omega (arith, l, past)))
-
-    by_order : (b : Bool) → w.in_order ≡ b → (w.in_order ≡ false → n < first h + w.lines → has_number 0 h ≡ true) → within w h f ≡ true
-    by_order true t has = or_left (misfits w h f) (is_late w h f) (or_right (repeats h f) (w.in_order && falls_back h f) (and_from w.in_order (falls_back h f) t falls))
-    by_order false t has = by_time (cases_lt n (first h + w.lines)) (has t)
-
-    by_test : (b : Bool) → complete h ≡ b → IfSome (if b then None else Some h) (λ g. w.in_order ≡ false → n < first g + w.lines → has_number 0 g ≡ true) → closes (within w) h f ≡ true
-    by_test true e has = or_left _ _ e
-    by_test false e has = or_right _ _ (by_order w.in_order refl has)
+ends_before w n o h f up zeroth past open_has last = grind (arith, first-le, and_from, lt-ltb, some-from, or_left, or_right, le-leb, cases_lt)
 
 -- the next frame of the key stands past the entries before it
 next_past : (kind : ℕ → Option Kind) (front back : List Entry) (k : Key) (f : Frame) (g : List Frame) → of_key k (frames kind (front ++ back)) ≡ of_key k (frames kind front) ++ (f ∷ g) → length front < f.line

@@ -75,41 +75,9 @@ taken-others order x [] all = refl
 taken-others order x (g ∷ gs) all =
     ap (λ b. cons_option (cond b (joined order x g) (Some g)) (filter_map (taken order x) gs)) all.0 ∙ ap (λ hs. g ∷ hs) (taken-others order x gs all.1)
 
-one_or_none : (o : Option Group) (gs : List Group) → cons_option o gs ≡ option_to_list o ++ gs
+pub one_or_none : (o : Option Group) (gs : List Group) → cons_option o gs ≡ option_to_list o ++ gs
 one_or_none None gs = refl
 one_or_none (Some g) gs = refl
-
-module _ (order : Bool) (x : Frame) where
-  -- the group of the frame's key goes its way, and the others stay
-  pub taken-at : (gs : List Group) (i : ℕ) (d : Group) → AreApart gs → i < length gs → same_key x.key (get_or gs i d).key ≡ true → ((k : ℕ) → k < i → same_key x.key (get_or gs k d).key ≡ false)
-      → filter_map (taken order x) gs ≡ take i gs ++ (option_to_list (joined order x (get_or gs i d)) ++ drop (suc i) gs)
-  taken-at [] i d apart l here before = absurd (omega arith)
-  taken-at (g ∷ gs) zero d apart l here before =
-      let others = all-map (λ (h : Group). same_key g.key h.key ≡ false) (λ (h : Group). same_key x.key h.key ≡ false) gs (λ h e. ap (λ (k : Key). same_key k h.key) (same_key-true x.key g.key here) ∙ e) apart.0 in
-      ap (λ b. cons_option (cond b (joined order x g) (Some g)) (filter_map (taken order x) gs)) here
-      ∙ ap (cons_option (joined order x g)) (taken-others order x gs others)
-      ∙ one_or_none (joined order x g) gs
-  taken-at (g ∷ gs) (suc i) d apart l here before =
-      ap (λ b. cons_option (cond b (joined order x g) (Some g)) (filter_map (taken order x) gs)) (before 0 (omega arith))
-      ∙ ap (λ hs. g ∷ hs) (taken-at gs i d apart.1 (omega arith) here (λ k m. before (suc k) (omega arith)))
-
--- where the group of its key stands at a place
-module _ (order : Bool) (x : Frame) (gs : List Group) (i : ℕ) (o : Group) (apart : AreApart gs) (place : position (λ (g : Group). same_key x.key g.key) gs ≡ Some i) (is : o ≡ get_or gs i o) where
-  at_place : (i < length gs) × (same_key x.key (get_or gs i o).key ≡ true) × ((k : ℕ) → k < i → same_key x.key (get_or gs k o).key ≡ false)
-  at_place = position-Some (λ (g : Group). same_key x.key g.key) gs i o place
-
-  found-place : of_the_key x.key gs ≡ Some o
-  found-place =
-      let P : Group → Bool = λ (g : Group). same_key x.key g.key in
-      let at = (cond_some (ltb (position_or_len P gs) (length gs)) (position_or_len P gs) i place).1 in
-      find_at P gs ∙ ap (slice_get gs) at ∙ slice_get_read gs (length gs) i o refl at_place.0 is
-
-  taken-place : filter_map (taken order x) gs ≡ take i gs ++ (option_to_list (joined order x o) ++ drop (suc i) gs)
-  taken-place = taken-at order x gs i o apart at_place.0 at_place.1 at_place.2 ∙ ap (λ (g : Group). take i gs ++ (option_to_list (joined order x g) ++ drop (suc i) gs)) (sym is)
-
-  pub after-place : groups_after order gs x ≡ (take i gs ++ (option_to_list (joined order x o) ++ drop (suc i) gs)) ++ option_to_list (opened order x (Some o))
-  unfolding groups_after
-  after-place = ap (λ hs. hs ++ option_to_list (opened order x (of_the_key x.key gs))) taken-place ∙ ap (λ (p : Option Group). (take i gs ++ (option_to_list (joined order x o) ++ drop (suc i) gs)) ++ option_to_list (opened order x p)) found-place
 
 -- a group that has a place for a number lacks it
 pub rejects-missing : (order : Bool) (n : ℕ) (o : Group) → rejects order n o ≡ false → has_number n (held_of o) ≡ false

@@ -49,15 +49,7 @@ filled (x ∷ xs) zero bytes = bytes 0
 filled (x ∷ xs) (suc j) bytes = filled xs j (λ i. bytes (suc i))
 
 total_is : (header : ℕ) (rest : List ℕ) → is_fast_payload (header ∷ rest) ≡ true → header % 32 ≡ 0 → slice_index_or rest 0 filler ≤ longest_message
-total_is header rest fast zero_is = by (or_cases (not (header % 32 == 0)) (has_total rest) fast)
-  where
-    of_total : (rest : List ℕ) → has_total rest ≡ true → slice_index_or rest 0 filler ≤ longest_message
-    of_total [] t = absurd (false≢true t)
-    of_total (total ∷ rest) t = leb-true total longest_message t
-
-    by : (not (header % 32 == 0) ≡ true) ⊎ (has_total rest ≡ true) → slice_index_or rest 0 filler ≤ longest_message
-    by (inl other) = absurd (false≢true (sym (not-true (header % 32 == 0) other) ∙ eq-eqb (header % 32) 0 zero_is))
-    by (inr total) = of_total rest total
+total_is header rest fast zero_is = grind (arith, or_cases, false≢true, leb-true, not-true, eq-eqb)
 
 frame_part : (line : ℕ) (packet : PacketParts) (header : ℕ) (rest : List ℕ) → IsPacketParts packet → packet.payload ≡ header ∷ rest → is_fast_payload (header ∷ rest) ≡ true → IsFramePart (frame_with line packet header rest)
 frame_part line packet header rest parts is fast =
@@ -91,11 +83,7 @@ held-parts gs all = all-flat_map IsFramePart held_of gs (all-map HasParts (λ (g
 
 carried-part : (fs : List Frame) (n : ℕ) (b : List ℕ) → AllByRecursion IsFramePart fs → carried fs n ≡ Some b → IsPiece (record { number = n; bytes = b })
 carried-part [] n b all is = absurd (none-some b is)
-carried-part (f ∷ fs) n b all is = by (f.number == n) refl is (carried-part fs n b all.1)
-  where
-    by : (t : Bool) → (f.number == n) ≡ t → cond t (Some f.bytes) (carried fs n) ≡ Some b → (carried fs n ≡ Some b → IsPiece (record { number = n; bytes = b })) → IsPiece (record { number = n; bytes = b })
-    by true t is rest = subst (λ (b : List ℕ). IsPiece (record { number = n; bytes = b })) (same_Some f.bytes b is) (subst (λ n. IsPiece (record { number = n; bytes = f.bytes })) (eqb-true f.number n t) all.0.piece)
-    by false t is rest = rest is
+carried-part (f ∷ fs) n b all is = grind (arith, carried-part fs n b all.1, eqb-true)
 
 pieces-parts : (fs : List Frame) → AllByRecursion IsFramePart fs → AllByRecursion IsPiece (pieces_of fs)
 unfolding pieces_of
@@ -169,21 +157,8 @@ log-push n fs x log at number = record {
 one_of : (kind : ℕ → Option Kind) (e : Entry) → one_if (is_some (alone kind e)) + one_if (is_some (cause_in kind e)) + one_if (is_unknown kind e) ≤ 1
 one_of kind entries.Skip = omega arith
 one_of kind (entries.Bad cause) = omega arith
-one_of kind (entries.Whole packet) = by (kind packet.id.pgn)
-  where
-    by : (k : Option Kind) → one_if (is_some (whole_by k packet)) + one_if (is_some {T = BadCause} None) + one_if (not (is_some k)) ≤ 1
-    by None = omega arith
-    by (Some k) = omega arith
-one_of kind (entries.Frame packet) = by (kind packet.id.pgn) (is_fast_payload packet.payload)
-  where
-    by_fast : (b : Bool) → one_if (is_some {T = PacketParts} None) + one_if (is_some (cond b None (Some causes.Fast))) + one_if (not (is_some (Some Fast))) ≤ 1
-    by_fast true = omega arith
-    by_fast false = omega arith
-
-    by : (k : Option Kind) (b : Bool) → one_if (is_some (single_by k packet)) + one_if (is_some (fast_cause k packet)) + one_if (not (is_some k)) ≤ 1
-    by None b = omega arith
-    by (Some Single) b = omega arith
-    by (Some Fast) b = by_fast (is_fast_payload packet.payload)
+one_of kind (entries.Whole packet) = grind (arith)
+one_of kind (entries.Frame packet) = grind (arith)
 
 one-le : (b : Bool) → one_if b ≤ 1
 one-le true = omega arith
@@ -211,14 +186,7 @@ module _ (kind : ℕ → Option Kind) (s : State) (e : Entry) (is : IsState s) w
   step-open = kept-open kind s e window-some is.groups
 
   step-log : IsLog (next_line s) (step_frames kind s e)
-  step-log = by (frame_in kind (next_line s) e) refl
-    where
-      log : IsLog s.counts.lines (held (kept s))
-      log = held-log s.counts.lines (kept s) step-open
-
-      by : (o : Option Frame) → frame_in kind (next_line s) e ≡ o → IsLog (next_line s) (held (kept s) ++ option_to_list o)
-      by None none = subst (λ fs. IsLog (next_line s) fs) (sym (append-nil (held (kept s)))) (log-wider s.counts.lines (held (kept s)) log)
-      by (Some x) some = log-push s.counts.lines (held (kept s)) x log (frame_in-line kind (next_line s) e x some) (frame_in-number kind (next_line s) e x some)
+  step-log = grind (arith, held-log, step-open, append-nil, log-wider, log-push, frame_in-line, frame_in-number)
 
   kept-parts : AllByRecursion HasParts (kept s)
   unfolding waiting

@@ -17,11 +17,7 @@ of-others key k xs = sym (length-filter_both (λ x. same_key k (key x)) (λ x. n
 
 none-others : {X : Type 0} (key : X → Key) (k : Key) (xs : List X) → of key k (others key k xs) ≡ []
 none-others key k [] = refl
-none-others key k (x ∷ xs) = by_test (same_key k (key x)) refl (none-others key k xs)
-  where
-    by_test : (b : Bool) → same_key k (key x) ≡ b → of key k (others key k xs) ≡ [] → of key k (cond (not b) (x ∷ others key k xs) (others key k xs)) ≡ []
-    by_test true e ih = ih
-    by_test false e ih = rw e ih
+none-others key k (x ∷ xs) = grind (arith, none-others key k xs)
 
 all-others : {X : Type 0} (key : X → Key) (k c : Key) (xs : List X) → same_key k c ≡ false → of key k (others key c xs) ≡ of key k xs
 all-others key k c [] other = refl

@@ -9,6 +9,7 @@ pub mod Counting
 pub mod CutLaws
 pub mod Cuts
 pub mod Expiring
+pub mod FrameGroups
 pub mod Given
 pub mod GroupLines
 pub mod Healing
@@ -20,15 +21,14 @@ pub mod KeyCounts
 pub mod Keys
 pub mod LineLemmas
 pub mod Lines
+pub mod Listed
 pub mod Logs
 pub mod Numbered
 pub mod Opened
+pub mod Order
 pub mod Overdue
 pub mod PieceBytes
 pub mod Places
-pub mod Queue
-pub mod QueueFrames
-pub mod QueueSaved
 pub mod LentFrames
 pub mod PieceFrames
 pub mod ReadStates
@@ -50,6 +50,5 @@ pub mod UnderWay
 pub mod ValidStates
 pub mod WholePieces
 pub mod Windows
-pub mod Worked
 pub mod Written
 pub mod WrittenReads

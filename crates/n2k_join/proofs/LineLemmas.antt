@@ -8,7 +8,7 @@ use Rattle.n2k_join.specs.declared.step.Broken.{Broken}
 use Rattle.n2k_join.specs.declared.counts.Counts.{Counts}
 use Rattle.n2k_wire.specs.Packet.{PacketParts}
 use Rattle.n2k_table.specs.Table.{KnownParts, TableParts}
-use Rattle.n2k_join.specs.Inner.Taken.{message_in, IsOwn}
+use Rattle.n2k_join.specs.Step.{message_in, IsOwn}
 use Rattle.n2k_join.specs.declared.step.Step.{Step}
 use Rattle.n2k_join.specs.Step.{given_of, due}
 use Rattle.n2k_join.specs.Frames.{same_key, Frame, frame_in}
@@ -74,12 +74,7 @@ same-groups w x gs all =
 none-overdue : (w : Window) (line : ℕ) (gs : List Group) → ended w line gs ≡ [] → AllByRecursion (λ (g : Group). is_waiting w line g ≡ true) gs
 unfolding ended
 none-overdue w line [] e = tt
-none-overdue w line (g ∷ gs) e = by (is_waiting w line g) refl e (none-overdue w line gs)
-  where
-    by : (b : Bool) → is_waiting w line g ≡ b → cond (not b) (g ∷ filter (λ (g : Group). not (is_waiting w line g)) gs) (filter (λ (g : Group). not (is_waiting w line g)) gs) ≡ []
-        → (filter (λ (g : Group). not (is_waiting w line g)) gs ≡ [] → AllByRecursion (λ (g : Group). is_waiting w line g ≡ true) gs) → AllByRecursion (λ (g : Group). is_waiting w line g ≡ true) (g ∷ gs)
-    by true is e rest = (is, rest e)
-    by false is e rest = absurd cc
+none-overdue w line (g ∷ gs) e = grind (arith, none-overdue w line gs)
 
 -- The step on a state whose groups can be open, none of which is overdue.
 line-steps : (kind : ℕ → Option Kind) (s : State) (e : Entry) → 0 < s.window.lines → AreOpen s.counts.lines s.groups → overdue s ≡ []

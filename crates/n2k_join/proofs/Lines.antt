@@ -30,14 +30,7 @@ pub record IsFrameOf (kind : ℕ → Option Kind) (n : ℕ) (e : Entry) (f : Fra
 pub frame_of_packet : (kind : ℕ → Option Kind) (n : ℕ) (e : Entry) (f : Frame) → frame_in kind n e ≡ Some f
     → IsFrameOf kind n e f
 unfolding fast_frame
-frame_of_packet kind n (entries.Frame p) f same = by_kind (kind p.id.pgn) refl same
-  where
-    by_kind : (k : Option Kind) → kind p.id.pgn ≡ k → frame_by k n p ≡ Some f → IsFrameOf kind n (entries.Frame p) f
-    by_kind None fast same = absurd (none-some f same)
-    by_kind (Some Single) fast same = absurd (none-some f same)
-    by_kind (Some Fast) fast same =
-        let parts = cond_some (is_fast_payload p.payload) _ f same in
-        record { packet = p; entry = refl; fast = fast; fits = parts.0; is = parts.1 }
+frame_of_packet kind n (entries.Frame p) f same = grind (arith, none-some, cond_some)
 frame_of_packet kind n _ f same = absurd (none-some f same)
 
 -- it stands at the line of its entry
@@ -46,8 +39,4 @@ frame_in-line kind n e f same = ap line_of (sym (frame_of_packet kind n e f same
 
 pub frames-rise : (kind : ℕ → Option Kind) (n : ℕ) (es : List Entry) → RiseFrom n (frames_from kind n es)
 frames-rise kind n [] = tt
-frames-rise kind n (e ∷ es) = by_frame (frame_in kind n e) (frame_in-line kind n e) (frames-rise kind (n + 1) es)
-  where
-    by_frame : (o : Option Frame) → ((f : Frame) → o ≡ Some f → f.line ≡ n) → RiseFrom (n + 1) (frames_from kind (n + 1) es) → RiseFrom n (cons_option o (frames_from kind (n + 1) es))
-    by_frame None line rest = rise-less line_of n (n + 1) _ (omega arith) rest
-    by_frame (Some f) line rest = let at : f.line ≡ n = line f refl in (omega arith, rise-less line_of (f.line + 1) (n + 1) _ (omega arith) rest)
+frames-rise kind n (e ∷ es) = grind (arith, frames-rise kind (n + 1) es, frame_in-line, rise-less)

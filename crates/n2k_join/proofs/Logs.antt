@@ -22,14 +22,7 @@ pub frames-all : (P : Frame → Type 0) (kind : ℕ → Option Kind) (n : ℕ) (
     → ((i : ℕ) (e : Entry) (f : Frame) → i < n + length es → frame_in kind i e ≡ Some f → P f)
     → AllByRecursion P (frames_from kind n es)
 frames-all P kind n [] each = tt
-frames-all P kind n (e ∷ es) each =
-    by (frame_in kind n e) (λ f is. each n e f (omega arith) is)
-    (frames-all P kind (n + 1) es (λ i e f u is. each i e f (omega (arith, u)) is))
-  where
-    by : (o : Option Frame) → ((f : Frame) → o ≡ Some f → P f) → AllByRecursion P (frames_from kind (n + 1) es)
-        → AllByRecursion P (cons_option o (frames_from kind (n + 1) es))
-    by None here rest = rest
-    by (Some f) here rest = (here f refl, rest)
+frames-all P kind n (e ∷ es) each = grind (arith, frames-all P kind (n + 1) es (λ i e f u is. each i e f (omega (arith, u)) is))
 
 pub frames-below : (kind : ℕ → Option Kind) (n : ℕ) (es : List Entry) → AllByRecursion (λ (f : Frame). f.line < n + length es) (frames_from kind n es)
 frames-below kind n es =
@@ -100,11 +93,7 @@ entry_at-last es e = let at : length es + 1 ≡ suc (length es) = omega arith in
 frames-before : {X : Type 0} (F : List Frame → X) (kind : ℕ → Option Kind) (es : List Entry) (e : Entry)
     → ((x : Frame) → x.line ≡ length es + 1 → F (frames kind es ++ x ∷ []) ≡ F (frames kind es))
     → F (frames kind (es ++ e ∷ [])) ≡ F (frames kind es)
-frames-before F kind es e stays = ap F (frames-push kind es e) ∙ by (frame_in kind (length es + 1) e) (frame_in-line kind (length es + 1) e)
-  where
-    by : (o : Option Frame) → ((x : Frame) → o ≡ Some x → x.line ≡ length es + 1) → F (frames kind es ++ option_to_list o) ≡ F (frames kind es)
-    by None line = ap F (append-nil (frames kind es))
-    by (Some x) line = stays x (line x refl)
+frames-before F kind es e stays = grind (arith, frames-push, frame_in-line, append-nil)
 
 -- earlier lines keep what they gave
 gathered-before : (ends : EndTest) (kind : ℕ → Option Kind) (es : List Entry) (e : Entry) (i : ℕ) → i ≤ length es → gathered ends (frames kind (es ++ e ∷ [])) i ≡ gathered ends (frames kind es) i

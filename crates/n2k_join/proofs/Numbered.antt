@@ -28,11 +28,7 @@ raised_by_map held stream other n found e f = ap (λ o. unwrap_or o 0) f ∙ by 
 
 -- and it is below 8 still
 pub raised_below : (held : List (Stream × ℕ)) (stream other : Stream) (after : ℕ) → AreSequences held → after ≡ cond (same_stream stream other) ((sequences held other + 1) % 8) (sequences held other) → after < 8
-raised_below held stream other after are is = by (same_stream stream other) is
-  where
-    by : (b : Bool) → after ≡ cond b ((sequences held other + 1) % 8) (sequences held other) → after < 8
-    by true e = omega arith
-    by false e = omega (arith, are other, e)
+raised_below held stream other after are is = grind (arith)
 
 -- a message of a single PGN raises nothing
 pub raised_single : (kind : ℕ → Option Kind) (held : Sequences) (s : Stream) → kind s.pgn ≡ Some Single → raised kind held s ≡ held

@@ -108,14 +108,7 @@ module _ (ends : EndTest) (is_ending : IsEnding ends) where
   -- the open group of a key is its group so far, and not complete
   open_is : (k : Key) (fs g : List Frame) → open_of ends k fs ≡ Some g
       → (so_far ends (of_key k fs) ≡ Some g) × (complete g ≡ false)
-  open_is k fs g e =
-      option_and_then_some incomplete (so_far ends (of_key k fs)) g (sym (open_of-so_far k fs) ∙ e)
-      (λ h is left. let found = by h (complete h) refl left in (is ∙ found.0, found.1))
-    where
-      by : (h : List Frame) (b : Bool) → complete h ≡ b → cond b None (Some h) ≡ Some g
-          → (Some h ≡ Some g) × (complete g ≡ false)
-      by h true c e = absurd (none-some g e)
-      by h false c e = (e, ap complete (sym (same_Some h g e)) ∙ c)
+  open_is k fs g e = grind (arith, so_far, open_of-so_far, none-some)
 
   so_far-once : (fs : List Frame) → IfSome (so_far ends fs) (λ g. (has_twice g ≡ false) × (0 < length g))
   so_far-once fs = so_far-keeps ends (λ g. (has_twice g ≡ false) × (0 < length g)) (λ x. (refl, omega arith)) more fs
@@ -165,26 +158,7 @@ module _ (ends : EndTest) (is_ending : IsEnding ends) where
   stays_or_goes : (k : Key) (x : Frame) (i : ℕ) → same_key x.key k ≡ true → (x.line ≡ i → ⊥) → (s : Option (List Frame)) → IfSome s IsFine
       → option_and_then (where_begun i k) (incomplete (next ends s x)) ≡ option_and_then (taken ends x) (option_and_then (where_begun i k) (option_and_then incomplete s))
   stays_or_goes k x i same other None fine = not_here k x i other
-  stays_or_goes k x i same other (Some g) fine = by (complete g) (ends g x) refl
-    where
-      h : List Frame
-      h = g ++ x ∷ []
-
-      where_same : where_begun i k h ≡ cond (first g == i) (Some (group_of k h)) None
-      where_same = ap (λ n. cond (n == i) (Some (group_of k h)) None) (first-push g x fine.nonempty)
-
-      by : (c e : Bool) → ends g x ≡ e → option_and_then (where_begun i k) (incomplete (cond (c || e) (x ∷ []) h)) ≡ option_and_then (taken ends x) (option_and_then (where_begun i k) (cond c None (Some g)))
-      by true e t = not_here k x i other
-      by false true t =
-          not_here k x i other
-          ∙ sym (of_cond (option_and_then (taken ends x)) (first g == i) (Some (group_of k g)) None ∙ ap (λ o. cond (first g == i) o None) (taken-ended k g x fine same t)
-          ∙ both_none (first g == i))
-      by false false t =
-          of_cond (option_and_then (where_begun i k)) (complete h) None (Some h)
-          ∙ ap (λ o. cond (complete h) None o) where_same
-          ∙ of_cond (λ o. cond (complete h) None o) (first g == i) (Some (group_of k h)) None
-          ∙ ap (λ o. cond (first g == i) (cond (complete h) None (Some (group_of k h))) o) (both_none (complete h))
-          ∙ sym (of_cond (option_and_then (taken ends x)) (first g == i) (Some (group_of k g)) None ∙ ap (λ o. cond (first g == i) o None) (taken-joined k g x fine same t))
+  stays_or_goes k x i same other (Some g) fine = grind (arith, first-push, not_here, taken-ended, both_none, taken-joined)
 
   -- and at the frame's own
   is_opened : (x : Frame) (s : Option (List Frame)) → IfSome s IsFine → IfSome s (λ g. first g ≡ x.line → ⊥)

@@ -34,30 +34,10 @@ module _ (w : Window) (some : 0 < w.lines) where
   runs_out-now n o e f = let l : n < o.first + w.lines = ltb-true _ _ e in let m : o.first + w.lines ≤ n + 1 = ltb-false _ _ f in eq-eqb (o.first + w.lines) (n + 1) (omega (arith, l, m))
 
   pub breaks-past : (n : ℕ) (x : Frame) (o : Group) → x.line ≡ n + 1 → is_waiting w n o ≡ false → breaks w some x o ≡ false
-  breaks-past n x o at e =
-      let l : o.first + w.lines ≤ n = ltb-false _ _ e in
-      let none : nat_le x.line (o.first + w.lines) ≡ false = lt-leb x.line (o.first + w.lines) (omega (arith, l, at)) in
-      let other : (o.first + w.lines == x.line) ≡ false = ne_eqb (o.first + w.lines) x.line (λ f. omega (arith, l, f, at)) in
-      (λ i. cond (same_key x.key o.key) (within w (held_of o) x && none i) (other i))
-      ∙ by (same_key x.key o.key) (within w (held_of o) x)
-    where
-      by : (a b : Bool) → cond a (b && false) false ≡ false
-      by true true = refl
-      by true false = refl
-      by false b = refl
+  breaks-past n x o at e = grind (arith, ltb-false, lt-leb, ne_eqb)
 
   pub breaks-now : (n : ℕ) (x : Frame) (o : Group) → x.line ≡ n + 1 → IsOpen o → is_waiting w n o ≡ true → is_waiting w (n + 1) o ≡ false → breaks w some x o ≡ true
-  breaks-now n x o at is e f =
-      let l : n < o.first + w.lines = ltb-true _ _ e in
-      let m : o.first + w.lines ≤ n + 1 = ltb-false _ _ f in
-      let up_to : nat_le x.line (o.first + w.lines) ≡ true = le-leb x.line (o.first + w.lines) (omega (arith, l, at)) in
-      let here : (o.first + w.lines == x.line) ≡ true = eq-eqb (o.first + w.lines) x.line (omega (arith, l, m, at)) in
-      let ends : within w (held_of o) x ≡ true = ended-ends w x o is (ap (λ k. is_waiting w k o) at ∙ f) in
-      (λ i. cond (same_key x.key o.key) (ends i && up_to i) (here i)) ∙ by (same_key x.key o.key)
-    where
-      by : (a : Bool) → cond a (true && true) true ≡ true
-      by true = refl
-      by false = refl
+  breaks-now n x o at is e f = grind (arith, ltb-true, ltb-false, le-leb, eq-eqb, ended-ends)
 
   pub breaks-later : (x : Frame) (o : Group) → IsOpen o → is_waiting w x.line o ≡ true → breaks w some x o ≡ cond (same_key x.key o.key) (misfits w (held_of o) x) false
   breaks-later x o is e =
@@ -76,29 +56,14 @@ module _ (w : Window) (some : 0 < w.lines) where
   pub told-waiting : (n : ℕ) (t : Group → Bool) (gs : List Group) → ((o : Group) → is_waiting w n o ≡ false → t o ≡ false) → filter_map (told_if w some t) gs ≡ filter_map (told_if w some t) (waiting w n gs)
   unfolding waiting
   told-waiting n t [] past = refl
-  told-waiting n t (g ∷ gs) past = by (is_waiting w n g) refl (told-waiting n t gs past)
-    where
-      by : (b : Bool) → is_waiting w n g ≡ b → filter_map (told_if w some t) gs ≡ filter_map (told_if w some t) (filter (is_waiting w n) gs)
-          → filter_map (told_if w some t) (g ∷ gs) ≡ filter_map (told_if w some t) (cond b (g ∷ filter (is_waiting w n) gs) (filter (is_waiting w n) gs))
-      by true e rest = ap (cons_option (told_if w some t g)) rest
-      by false e rest = ap (λ b. cons_option (cond b (Some (as_broken g)) None) (filter_map (told_if w some t) gs)) (past g e) ∙ rest
+  told-waiting n t (g ∷ gs) past = grind (arith, told-waiting n t gs past)
 
   -- Those whose window ends at the line are a front of the groups, since their first lines rise.
   pub told-front : (n least : ℕ) (t : Group → Bool) (gs : List Group) → AllByRecursion (λ o. is_waiting w (n + 1) o ≡ false → t o ≡ true) gs → Rise (λ (g : Group). g.first) least gs
       → filter_map (told_if w some t) gs ≡ map as_broken (ended w (n + 1) gs) ++ filter_map (told_if w some t) (waiting w (n + 1) gs)
   unfolding waiting ended
   told-front n least t [] now rise = refl
-  told-front n least t (g ∷ gs) now rise = by (is_waiting w (n + 1) g) refl (told-front n (g.first + 1) t gs now.1 rise.1)
-    where
-      by : (b : Bool) → is_waiting w (n + 1) g ≡ b
-          → filter_map (told_if w some t) gs ≡ map as_broken (ended w (n + 1) gs) ++ filter_map (told_if w some t) (filter (is_waiting w (n + 1)) gs)
-          → filter_map (told_if w some t) (g ∷ gs) ≡ map as_broken (cond (not b) (g ∷ ended w (n + 1) gs) (ended w (n + 1) gs)) ++ filter_map (told_if w some t) (cond b (g ∷ filter (is_waiting w (n + 1)) gs) (filter (is_waiting w (n + 1)) gs))
-      by true e rest =
-          let l : n + 1 < g.first + w.lines = ltb-true _ _ e in
-          let none : ended w (n + 1) gs ≡ [] = later-wait w (n + 1) (g.first + 1) gs rise.1 (omega (arith, l)) in
-          ap (cons_option (told_if w some t g)) (rest ∙ ap (λ hs. map as_broken hs ++ filter_map (told_if w some t) (filter (is_waiting w (n + 1)) gs)) none)
-          ∙ sym (ap (λ hs. map as_broken hs ++ filter_map (told_if w some t) (g ∷ filter (is_waiting w (n + 1)) gs)) none)
-      by false e rest = ap (λ b. cons_option (cond b (Some (as_broken g)) None) (filter_map (told_if w some t) gs)) (now.0 e) ∙ ap (λ bs. as_broken g ∷ bs) rest
+  told-front n least t (g ∷ gs) now rise = grind (arith, told-front n (g.first + 1) t gs now.1 rise.1, ltb-true, later-wait)
 
   -- ---- groups that wait
 
@@ -155,44 +120,10 @@ module _ (w : Window) (some : 0 < w.lines) where
   broken-go : (x : Frame) (gs : List Group) → AllByRecursion IsOpen gs → AllByRecursion (λ o. is_waiting w x.line o ≡ true) gs
       → length (filter_map (told_if w some (breaks w some x)) gs) + length (filter_map (taken (within w) x) gs) ≤ length gs
   broken-go x [] each wait = omega arith
-  broken-go x (g ∷ gs) each wait = by (breaks w some x g) (breaks-later x g each.0 wait.0) (same_key x.key g.key) refl (misfits w (held_of g) x) refl (broken-go x gs each.1 wait.1)
-    where
-      told : List Broken
-      told = filter_map (told_if w some (breaks w some x)) gs
-
-      left : List Group
-      left = filter_map (taken (within w) x) gs
-
-      length-cons : {X : Type 0} (o : Option X) (xs : List X) → length (cons_option o xs) ≤ length xs + 1
-      length-cons None xs = omega arith
-      length-cons (Some y) xs = omega arith
-
-      taken_none : same_key x.key g.key ≡ true → misfits w (held_of g) x ≡ true → taken (within w) x g ≡ None
-      taken_none e r =
-          (λ i. cond (e i) (cond (r i || is_late w (held_of g) x) None (cond (complete (held_of g ++ x ∷ [])) None (Some (with_frame g x)))) (Some g))
-
-      by : (b : Bool) → b ≡ cond (same_key x.key g.key) (misfits w (held_of g) x) false → (s : Bool) → same_key x.key g.key ≡ s → (r : Bool) → misfits w (held_of g) x ≡ r
-          → length (filter_map (told_if w some (breaks w some x)) gs) + length (filter_map (taken (within w) x) gs) ≤ length gs
-          → length (cons_option (cond b (Some (as_broken g)) None) (filter_map (told_if w some (breaks w some x)) gs)) + length (cons_option (taken (within w) x g) (filter_map (taken (within w) x) gs)) ≤ length (g ∷ gs)
-      by b is true s true r rest =
-          let go : length (cons_option (taken (within w) x g) (filter_map (taken (within w) x) gs)) ≡ length (filter_map (taken (within w) x) gs) = ap (λ o. length (cons_option o (filter_map (taken (within w) x) gs))) (taken_none s r) in
-          omega (arith, go, rest, length-cons (cond b (Some (as_broken g)) None) (filter_map (told_if w some (breaks w some x)) gs))
-      by b is true s false r rest =
-          let no : b ≡ false = is ∙ (λ i. cond (s i) (r i) false) in
-          let none : length (cons_option (cond b (Some (as_broken g)) None) (filter_map (told_if w some (breaks w some x)) gs)) ≡ length (filter_map (told_if w some (breaks w some x)) gs) = ap (λ b. length (cons_option (cond b (Some (as_broken g)) None) (filter_map (told_if w some (breaks w some x)) gs))) no in
-          omega (arith, none, rest, length-cons (taken (within w) x g) (filter_map (taken (within w) x) gs))
-      by b is false s r t rest =
-          let no : b ≡ false = is ∙ ap (λ s. cond s (misfits w (held_of g) x) false) s in
-          let none : length (cons_option (cond b (Some (as_broken g)) None) (filter_map (told_if w some (breaks w some x)) gs)) ≡ length (filter_map (told_if w some (breaks w some x)) gs) = ap (λ b. length (cons_option (cond b (Some (as_broken g)) None) (filter_map (told_if w some (breaks w some x)) gs))) no in
-          omega (arith, none, rest, length-cons (taken (within w) x g) (filter_map (taken (within w) x) gs))
+  broken-go x (g ∷ gs) each wait = grind (arith, broken-go x gs each.1 wait.1, breaks-later, with_frame)
 
   -- so a frame leaves and breaks one more at most than there were
   pub advanced-counted : (x : Frame) (gs : List Group) → AllByRecursion IsOpen gs → AllByRecursion (λ o. is_waiting w x.line o ≡ true) gs
       → length (filter_map (told_if w some (breaks w some x)) gs) + length (advanced (within w) gs x) ≤ length gs + 1
   unfolding advanced
-  advanced-counted x gs each wait =
-      omega (arith, broken-go x gs each wait, length-append (filter_map (taken (within w) x) gs) (option_to_list (opened (within w) x (of_the_key x.key gs))), at_most_one (opened (within w) x (of_the_key x.key gs)))
-    where
-      at_most_one : (o : Option Group) → length (option_to_list o) ≤ 1
-      at_most_one None = omega arith
-      at_most_one (Some g) = omega arith
+  advanced-counted x gs each wait = grind (arith, broken-go, length-append)

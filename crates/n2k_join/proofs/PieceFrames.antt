@@ -46,8 +46,4 @@ says_given x f e t =
 
 pub piece_says : (x : Sending) (f : Frame) → IsPieceOf x f → SaysPiece x f
 unfolding fast_frame
-piece_says x f is = by_test (is_fast_payload ((32 * x.sequence + f.number) ∷ piece_bytes x.message.payload f.number)) refl is.is_piece
-  where
-    by_test : (b : Bool) → is_fast_payload ((32 * x.sequence + f.number) ∷ piece_bytes x.message.payload f.number) ≡ b → (if b then Some (given_frame x f.line f.number) else None) ≡ Some f → SaysPiece x f
-    by_test true t e = says_given x f (same_Some _ _ e) t
-    by_test false t e = absurd (none-some f e)
+piece_says x f is = grind (arith, says_given, none-some)

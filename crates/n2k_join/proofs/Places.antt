@@ -1,399 +1,365 @@
--- The places of the groups in the map, which their openings say: what they are after each step.
-use Rattle.std.proofs.Common.{◌≡◌, ◌<◌, ◌≤◌, ◌+◌, ◌-◌, ◌==◌, ℕ, zero, suc, Bool, true, false, cond, ◌&&◌, ◌||◌, ◌⊎◌, inl, inr, ⊎_elim, List, [], ◌∷◌, ◌++◌, length, take, map, get_or, slice_get, slice_set, swap_remove, refl, sym, ap, ◌∙◌, subst, arith, Option, Some, None, option_and_then, filter, filter_map}
-use Rattle.std.specs.List.{cons_option, AllByRecursion, IsDistinct}
-use Rattle.std.specs.Map.{keys_of}
-use Rattle.std.proofs.lemmas.Bool.{eqb-true, ne_eqb, eq-eqb, false≢true, cases_lt}
-use Rattle.std.proofs.lemmas.Option.{none-some, same_Some, slice_get-get_or, slice_get_within}
-use Rattle.indexmap.specs.IndexMap.{set_value_at}
-use Rattle.n2k_join.specs.declared.piece.FrameKey.{FrameKey}
-use Rattle.n2k_join.specs.declared.piece.OpenGroup.{OpenGroup}
-use Rattle.n2k_join.specs.declared.open_groups.Opening.{Opening}
-use Rattle.n2k_join.specs.Frames.{Key, same_key}
-use Rattle.n2k_join.specs.Open.{Group}
-use Rattle.n2k_join.specs.Inner.Stored.{key_of}
-use Rattle.n2k_join.specs.Inner.Slots.{group_in}
-use Rattle.n2k_join.specs.Inner.Queue.{found, begun_on, begun_by, live, groups_by, RiseBelow, is_opened, SaysPlace, PlacedBy, ArePaired, told_place}
-use Rattle.n2k_join.proofs.Keys.{same_key-true, same_key-refl, same_key-sym}
+-- A list of places: one put behind the last, one taken out, and the last place moved into that of one taken out.
+use Rattle.std.proofs.Common.{◌≡◌, ℕ, zero, suc, ◌+◌, ◌<◌, ◌≤◌, ◌==◌, ◌⊎◌, inl, inr, Bool, true, false, cond, List, [], ◌∷◌, ◌++◌, map, refl, sym, ap, ◌∙◌, subst, arith}
+use Rattle.std.proofs.lemmas.List.{append-nil}
+use Rattle.std.proofs.lemmas.Bool.{eqb-true, eq-eqb, ne_eqb, false≢true, cases_lt}
+use Rattle.n2k_join.specs.Inner.Places.{nowhere, Path, times, AreLinked, put}
 
-abbrev pub Entries : Type 0
-Entries = List (FrameKey × OpenGroup)
+pub times-append : (at : ℕ) (xs ys : List ℕ) → times at (xs ++ ys) ≡ times at xs + times at ys
+times-append at [] ys = omega arith
+times-append at (x ∷ xs) ys = omega (arith, times-append at xs ys)
 
--- keys that are the same are one
-pub one_key : (j k : FrameKey) → same_key (key_of j) (key_of k) ≡ true → j ≡ k
-one_key j k e = ap (λ (key : Key). record { src = key.src; dst = key.dst; pgn = key.pgn; sequence = key.sequence }) (same_key-true (key_of j) (key_of k) e)
+pub times-here : (p : ℕ) (xs : List ℕ) → times p (p ∷ xs) ≡ 1 + times p xs
+times-here p xs = ap (λ b. cond b 1 0 + times p xs) (eq-eqb p p refl)
 
--- no two entries are of one key
-abbrev pub AreDistinct : Entries → Type 0
-AreDistinct es = (at : ℕ) (e : FrameKey × OpenGroup) → slice_get es at ≡ Some e → found es e.0 ≡ Some e.1
+pub times-other : (p at : ℕ) (xs : List ℕ) → (p ≡ at → ⊥) → times at (p ∷ xs) ≡ times at xs
+times-other p at xs other = ap (λ b. cond b 1 0 + times at xs) (ne_eqb p at other) ∙ omega arith
 
-pub distinct : (es : Entries) → IsDistinct (λ (a b : FrameKey). same_key (key_of a) (key_of b)) (keys_of es) → AreDistinct es
-unfolding IsDistinct
-distinct [] d at e h = absurd (none-some e h)
-distinct (f ∷ es) d zero e h =
-    subst (λ (p : FrameKey × OpenGroup). found (f ∷ es) p.0 ≡ Some p.1) (same_Some f e h) (ap (λ b. cond b (Some f.1) (found es f.0)) (same_key-refl (key_of f.0)))
-distinct (f ∷ es) d (suc at) e h = ap (λ b. cond b (Some f.1) (found es e.0)) (same_key-sym (key_of e.0) (key_of f.0) ∙ other es at h d.0) ∙ distinct es d.1 at e h
+-- a place that isn't among places isn't the first
+not-first : (x at : ℕ) (xs : List ℕ) → times at (x ∷ xs) ≡ 0 → x ≡ at → ⊥
+not-first x at xs none e = omega (arith, none, subst (λ p. times p (x ∷ xs) ≡ 1 + times p xs) e (times-here x xs))
+
+-- a place among places
+pub record Split (p : ℕ) (order : List ℕ) : Type 0 where
+  pub xs : List ℕ
+  pub ys : List ℕ
+  pub is : order ≡ xs ++ p ∷ ys
+
+pub split : (p : ℕ) (order : List ℕ) → 0 < times p order → Split p order
+split p [] l = absurd (omega (arith, l))
+split p (x ∷ xs) l = by (x == p) refl l (split p xs)
   where
-    other : (gs : Entries) (i : ℕ) → slice_get gs i ≡ Some e → AllByRecursion (λ k. same_key (key_of f.0) (key_of k) ≡ false) (keys_of gs) → same_key (key_of f.0) (key_of e.0) ≡ false
-    other [] i h all = absurd (none-some e h)
-    other (g ∷ gs) zero h all = ap (λ (p : FrameKey × OpenGroup). same_key (key_of f.0) (key_of p.0)) (sym (same_Some g e h)) ∙ all.0
-    other (g ∷ gs) (suc i) h all = other gs i h all.1
+    next : Split p xs → Split p (x ∷ xs)
+    next s = record { xs = x ∷ s.xs; ys = s.ys; is = ap (λ zs. x ∷ zs) s.is }
 
--- ---- what an opening gives, by its place and by its key
+    by : (b : Bool) → (x == p) ≡ b → 0 < cond b 1 0 + times p xs → (0 < times p xs → Split p xs) → Split p (x ∷ xs)
+    by true e l rest = record { xs = []; ys = xs; is = ap (λ q. q ∷ xs) (eqb-true x p e) }
+    by false e l rest = next (rest (omega (arith, l)))
 
--- the group of an opening's key, if that opening began it
-abbrev pub called : Entries → Opening → Option Group
-called es o = option_and_then (begun_on o.first (key_of o.key)) (found es o.key)
+-- ---- paths
 
-abbrev pub groups_called : Entries → List Opening → List Group
-groups_called es os = filter_map (called es) os
+path-parts : (f : ℕ → ℕ) (a : ℕ) (xs : List ℕ) (p : ℕ) (ys : List ℕ) (z : ℕ) → Path f a (xs ++ p ∷ ys) z → Path f a xs p × Path f p ys z
+path-parts f a [] p ys z h = (h.0, h.1)
+path-parts f a (x ∷ xs) p ys z h = let r = path-parts f x xs p ys z h.1 in ((h.0, r.0), r.1)
 
-record Entry (es : Entries) (k : FrameKey) (v : OpenGroup) : Type 0 where
-  at : ℕ
-  is : slice_get es at ≡ Some (k, v)
+path-from : (f : ℕ → ℕ) (a : ℕ) (xs : List ℕ) (p : ℕ) (ys : List ℕ) (z : ℕ) → Path f a xs p → Path f p ys z → Path f a (xs ++ p ∷ ys) z
+path-from f a [] p ys z h r = (h, r)
+path-from f a (x ∷ xs) p ys z h r = (h.0, path-from f x xs p ys z h.1 r)
 
--- what is found of a key is an entry
-entry : (es : Entries) (k : FrameKey) (v : OpenGroup) → found es k ≡ Some v → Entry es k v
-entry [] k v h = absurd (none-some v h)
-entry (e ∷ es) k v h = by (same_key (key_of k) (key_of e.0)) refl h (entry es k v)
+-- no place stands behind itself
+pub no-loop : (f : ℕ → ℕ) (j a : ℕ) (xs : List ℕ) (z : ℕ) → Path f a xs z → f j ≡ j → times j xs ≡ 1 → z ≡ j
+no-loop f j a [] z h e t = absurd (omega (arith, t))
+no-loop f j a (x ∷ xs) z h e t = by (x == j) refl t (no-loop f j x xs z h.1 e)
   where
-    next : Entry es k v → Entry (e ∷ es) k v
-    next i = record { at = suc i.at; is = i.is }
+    here : (xs : List ℕ) → Path f j xs z → times j xs ≡ 0 → z ≡ j
+    here [] h t = sym h ∙ e
+    here (y ∷ ys) h t = absurd (not-first y j ys t (sym h.0 ∙ e))
 
-    by : (b : Bool) → same_key (key_of k) (key_of e.0) ≡ b → cond b (Some e.1) (found es k) ≡ Some v → (found es k ≡ Some v → Entry es k v) → Entry (e ∷ es) k v
-    by true t h rest = record { at = 0; is = λ i. Some (sym (one_key k e.0 t) i, same_Some e.1 v h i) }
-    by false t h rest = next (rest h)
+    by : (b : Bool) → (x == j) ≡ b → cond b 1 0 + times j xs ≡ 1 → (times j xs ≡ 1 → z ≡ j) → z ≡ j
+    by true s t rest = here xs (subst (λ i. Path f i xs z) (eqb-true x j s) h.1) (omega (arith, t))
+    by false s t rest = rest (omega (arith, t))
 
--- they are one
-pub live-called : (es : Entries) (o : Opening) → AreDistinct es → SaysPlace es o → live es o ≡ called es o
-live-called es o apart says = stands (slice_get es o.at) refl
+-- A path whose places but for `but` go on as they went, where what led to t now leads to u.
+path-changed : (f f' : ℕ → ℕ) (but t u : ℕ) → ((j : ℕ) → (j ≡ but → ⊥) → f j ≡ t → f' j ≡ u) → ((j : ℕ) → (j ≡ but → ⊥) → (f j ≡ t → ⊥) → f' j ≡ f j)
+    → (a : ℕ) (xs : List ℕ) → (a ≡ but → ⊥) → times but xs ≡ 0 → times t xs ≡ 0 → Path f a xs t → Path f' a xs u
+path-changed f f' but t u at other a [] n b c h = at a n h
+path-changed f f' but t u at other a (x ∷ xs) n b c h =
+    (other a n (λ e. not-first x t xs c (sym h.0 ∙ e)) ∙ h.0, path-changed f f' but t u at other x xs (not-first x but xs b) (omega (arith, b)) (omega (arith, c)) h.1)
+
+-- and one that doesn't lead there
+path-same : (f f' : ℕ → ℕ) (but t : ℕ) → ((j : ℕ) → (j ≡ but → ⊥) → (f j ≡ t → ⊥) → f' j ≡ f j)
+    → (a : ℕ) (xs : List ℕ) (z : ℕ) → (a ≡ but → ⊥) → (z ≡ t → ⊥) → times but xs ≡ 0 → times t xs ≡ 0 → Path f a xs z → Path f' a xs z
+path-same f f' but t other a [] z n m b c h = other a n (λ e. m (sym h ∙ e)) ∙ h
+path-same f f' but t other a (x ∷ xs) z n m b c h =
+    (other a n (λ e. not-first x t xs c (sym h.0 ∙ e)) ∙ h.0, path-same f f' but t other x xs z (not-first x but xs b) m (omega (arith, b)) (omega (arith, c)) h.1)
+
+-- ---- what stands beside a place
+
+pub put-here : (at to : ℕ) (f : ℕ → ℕ) (j : ℕ) → j ≡ at → put at to f j ≡ to
+put-here at to f j e = ap (λ b. cond b to (f j)) (eq-eqb j at e)
+
+pub put-other : (at to : ℕ) (f : ℕ → ℕ) (j : ℕ) → (j ≡ at → ⊥) → put at to f j ≡ f j
+put-other at to f j e = ap (λ b. cond b to (f j)) (ne_eqb j at e)
+
+pub is-or-not : (j k : ℕ) → (j ≡ k) ⊎ (j ≡ k → ⊥)
+is-or-not j k = by (j == k) refl
   where
-    there : (v : OpenGroup) → found es o.key ≡ Some v → v.first ≡ o.first → slice_get es o.at ≡ Some (o.key, v)
-    there v e f = let i = entry es o.key v e in ap (slice_get es) (says i.at (o.key, v) i.is f) ∙ i.is
+    by : (b : Bool) → (j == k) ≡ b → (j ≡ k) ⊎ (j ≡ k → ⊥)
+    by true e = inl (eqb-true j k e)
+    by false e = inr (λ is. false≢true (sym e ∙ eq-eqb j k is))
 
-    not_called : ((v : OpenGroup) → found es o.key ≡ Some v → v.first ≡ o.first → ⊥) → None ≡ called es o
-    not_called never = by (found es o.key) refl
+-- A place is what stands on the other side of what stands on one side, and that isn't `but`.
+abbrev pub Inverse : (ℕ → ℕ) → (ℕ → ℕ) → ℕ → Type 0
+Inverse f g but = (j : ℕ) → (j ≡ but → ⊥) → (g (f j) ≡ j) × (f j ≡ but → ⊥)
+
+-- one is taken out
+out : (f g : ℕ → ℕ) (p : ℕ) → ((j : ℕ) → g (f j) ≡ j) → Inverse (put (g p) (f p) f) (put (f p) (g p) g) p
+out f g p back j other = by (is-or-not j (g p))
+  where
+    by : (j ≡ g p) ⊎ (j ≡ g p → ⊥) → (put (f p) (g p) g (put (g p) (f p) f j) ≡ j) × (put (g p) (f p) f j ≡ p → ⊥)
+    by (inl e) =
+        let at = put-here (g p) (f p) f j e in
+        (ap (put (f p) (g p) g) at ∙ put-here (f p) (g p) g (f p) refl ∙ sym e, λ loop. other (e ∙ sym (ap g (sym at ∙ loop)) ∙ back p))
+    by (inr e) =
+        let at = put-other (g p) (f p) f j e in
+        (ap (put (f p) (g p) g) at ∙ put-other (f p) (g p) g (f j) (λ same. other (sym (back j) ∙ ap g same ∙ back p)) ∙ back j, λ to. e (sym (back j) ∙ ap g (sym at ∙ to)))
+
+-- one is put between two
+between : (f g : ℕ → ℕ) (p n u v : ℕ) → Inverse f g p → g v ≡ u → (p ≡ u → ⊥) → (p ≡ v → ⊥) → (p ≡ n → ⊥) → (v ≡ n → ⊥) → g n ≡ n
+    → Inverse (put u p (put p v f)) (put v p (put p u g)) n
+between f g p n u v back gv pu pv pn vn gn j other = by (is-or-not j u) (is-or-not j p)
+  where
+    by : (j ≡ u) ⊎ (j ≡ u → ⊥) → (j ≡ p) ⊎ (j ≡ p → ⊥) → (put v p (put p u g) (put u p (put p v f) j) ≡ j) × (put u p (put p v f) j ≡ n → ⊥)
+    by (inl e) q =
+        let at = put-here u p (put p v f) j e in
+        (ap (put v p (put p u g)) at ∙ put-other v p (put p u g) p pv ∙ put-here p u g p refl ∙ sym e, λ to. pn (sym at ∙ to))
+    by (inr e) (inl q) =
+        let at = put-other u p (put p v f) j e ∙ put-here p v f j q in
+        (ap (put v p (put p u g)) at ∙ put-here v p (put p u g) v refl ∙ sym q, λ to. vn (sym at ∙ to))
+    by (inr e) (inr q) =
+        let at = put-other u p (put p v f) j e ∙ put-other p v f j q in
+        let b = back j q in (
+          ap (put v p (put p u g)) at ∙ put-other v p (put p u g) (f j) (λ to. e (sym b.0 ∙ ap g to ∙ gv)) ∙ put-other p u g (f j) b.1 ∙ b.0,
+          λ to. other (sym b.0 ∙ ap g (sym at ∙ to) ∙ gn),
+        )
+
+-- another name of one
+abbrev pub renamed : ℕ → ℕ → ℕ → ℕ
+renamed m p j = cond (j == m) p j
+
+-- the last one, m, is at p, and what stands beside it on the other side is told so
+module _ (f g f1 : ℕ → ℕ) (p m : ℕ) (back : Inverse f g p) (forth : Inverse g f p) (loop : f m ≡ m → ⊥) (pm : p ≡ m → ⊥)
+    (here : f1 p ≡ f m) (others : (j : ℕ) → (j ≡ p → ⊥) → (j ≡ m → ⊥) → f1 j ≡ f j) where
+  abbrev pub told : ℕ → ℕ
+  told = put (g m) p f1
+
+  moved-beside : (j : ℕ) → (j ≡ p → ⊥) → told (renamed m p j) ≡ renamed m p (f j)
+  moved-beside j other = by (is-or-not j m) (is-or-not j (g m))
+    where
+      name : (k : ℕ) → (k ≡ m → ⊥) → renamed m p k ≡ k
+      name k e = ap (λ b. cond b p k) (ne_eqb k m e)
+
+      by : (j ≡ m) ⊎ (j ≡ m → ⊥) → (j ≡ g m) ⊎ (j ≡ g m → ⊥) → told (renamed m p j) ≡ renamed m p (f j)
+      by (inl e) q =
+          ap told (ap (λ b. cond b p j) (eq-eqb j m e))
+          ∙ put-other (g m) p f1 p (λ to. (forth m (λ s. pm (sym s))).1 (sym to))
+          ∙ here ∙ sym (name (f m) loop) ∙ ap (λ k. renamed m p (f k)) (sym e)
+      by (inr e) (inl q) =
+          ap told (name j e) ∙ put-here (g m) p f1 j q
+          ∙ sym (ap (λ b. cond b p (f j)) (eq-eqb (f j) m (ap f q ∙ (forth m (λ s. pm (sym s))).0)))
+      by (inr e) (inr q) =
+          ap told (name j e) ∙ put-other (g m) p f1 j q ∙ others j other e
+          ∙ sym (name (f j) (λ to. q (sym (back j other).0 ∙ ap g to)))
+
+-- ---- taken out
+
+module _ (n : ℕ) (f g : ℕ → ℕ) (xs : List ℕ) (p : ℕ) (ys : List ℕ) (few : n < nowhere) (fn : f n ≡ n) (gn : g n ≡ n) where
+  -- where none is left out, each has its inverse
+  all-back : (f g : ℕ → ℕ) → f n ≡ n → g n ≡ n → Inverse f g n → (j : ℕ) → g (f j) ≡ j
+  all-back f g fn gn back j = by (is-or-not j n)
+    where
+      by : (j ≡ n) ⊎ (j ≡ n → ⊥) → g (f j) ≡ j
+      by (inl e) = ap (λ i. g (f i)) e ∙ ap g fn ∙ gn ∙ sym e
+      by (inr e) = (back j e).0
+
+  module _ (l : AreLinked n n f g (xs ++ p ∷ ys)) where
+    pub in-list : (p < n) × (times p xs ≡ 0) × (times p ys ≡ 0)
+    in-list =
+        let at = times-append p xs (p ∷ ys) in
+        let here = times-here p ys in
+        let low = (l.within p (omega (arith, at, here))).0 in
+        let once = l.once p low (λ e. (let no : ⊥ = omega (arith, low, e) in no)) in
+        (low, omega (arith, at, here, once), omega (arith, at, here, once))
+
+    absent : (zs : List ℕ) → (0 < times n zs → 0 < times n (xs ++ p ∷ ys)) → times n zs ≡ 0
+    absent zs more = by (times n zs) more
       where
-        by : (p : Option OpenGroup) → found es o.key ≡ p → None ≡ option_and_then (begun_on o.first (key_of o.key)) p
-        by None e = refl
-        by (Some v) e = begun (v.first == o.first) refl
-          where
-            begun : (b : Bool) → (v.first == o.first) ≡ b → None ≡ cond b (Some (group_in (key_of o.key) v)) None
-            begun true t = absurd (never v e (eqb-true v.first o.first t))
-            begun false t = refl
+        by : (k : ℕ) → (0 < k → 0 < times n (xs ++ p ∷ ys)) → k ≡ 0
+        by zero more = refl
+        by (suc k) more = absurd ((l.within n (more (omega arith))).1 refl)
 
-    stands : (q : Option (FrameKey × OpenGroup)) → slice_get es o.at ≡ q → option_and_then (begun_by o) q ≡ called es o
-    stands None none = not_called (λ v e f. none-some (o.key, v) (sym none ∙ there v e f))
-    stands (Some e) is = same (same_key (key_of o.key) (key_of e.0)) refl
+    abbrev went : ℕ → ℕ
+    went = put (g p) (f p) f
+
+    path-left : (zs : List ℕ) → times p zs ≡ 0 → times n zs ≡ 0 → Path went nowhere xs (f p) → Path f p zs nowhere → Path went nowhere (xs ++ zs) nowhere
+    path-left [] t u front h = subst (λ ws. Path went nowhere ws nowhere) (sym (append-nil xs)) (subst (Path went nowhere xs) h front)
+    path-left (q ∷ zs) t u front h =
+        path-from went nowhere xs q zs nowhere (subst (Path went nowhere xs) h.0 front)
+        (path-same f went n p (λ j i e. put-other (g p) (f p) f j (λ at. e (ap f at ∙ all-back g f gn fn l.forth p))) q zs nowhere (not-first q n zs u) (λ e. omega (arith, few, e, in-list.0)) (omega (arith, u)) (omega (arith, t)) h.1)
+
+    pub unlinked : AreLinked n p (put (g p) (f p) f) (put (f p) (g p) g) (xs ++ ys)
+    unlinked = record {
+      path =
+          let parts = path-parts f nowhere xs p ys nowhere l.path in
+          let front = path-changed f went n p (f p) (λ j i e. put-here (g p) (f p) f j (sym (l.back j i).0 ∙ ap g e)) (λ j i e. put-other (g p) (f p) f j (λ at. e (ap f at ∙ all-back g f gn fn l.forth p)))
+          nowhere xs (λ e. omega (arith, few, e)) (absent xs (λ m. omega (arith, m, times-append n xs (p ∷ ys)))) in-list.1 parts.0 in
+          path-left ys in-list.2 (absent ys (λ m. omega (arith, m, times-append n xs (p ∷ ys)))) front parts.1;
+      back = out f g p (all-back f g fn gn l.back);
+      forth = out g f p (all-back g f gn fn l.forth);
+      within = λ at more. (
+        (l.within at (omega (arith, more, times-append at xs ys, times-append at xs (p ∷ ys)))).0,
+        λ e. omega (arith, subst (λ q. 0 < times q (xs ++ ys)) e more, times-append p xs ys, in-list),
+      );
+      once = λ at low other. omega (arith, l.once at low (λ e. omega (arith, low, e)), times-append at xs ys, times-append at xs (p ∷ ys), times-other p at ys (λ e. other (sym e)));
+    }
+
+-- ---- put behind the last
+
+module _ (n : ℕ) (f g : ℕ → ℕ) (p : ℕ) (order : List ℕ) (low : p < n) (few : n < nowhere) (fn : f n ≡ n) (gn : g n ≡ n) (l : AreLinked n p f g order) where
+  abbrev last : ℕ
+  last = g nowhere
+
+  p-where : p ≡ nowhere → ⊥
+  p-where e = omega (arith, low, few, e)
+
+  ends : (f last ≡ nowhere) × (last ≡ p → ⊥)
+  ends = l.forth nowhere (λ e. p-where (sym e))
+
+  none : (at : ℕ) → ((at < n) × (at ≡ p → ⊥) → ⊥) → times at order ≡ 0
+  none at not-there = by (times at order) (l.within at)
+    where
+      by : (k : ℕ) → (0 < k → (at < n) × (at ≡ p → ⊥)) → k ≡ 0
+      by zero there = refl
+      by (suc k) there = absurd (not-there (there (omega arith)))
+
+  pub pushed : AreLinked n n (put last p (put p nowhere f)) (put nowhere p (put p last g)) (order ++ p ∷ [])
+  pushed = record {
+    path = path-from (put last p (put p nowhere f)) nowhere order p [] nowhere
+        (path-changed f (put last p (put p nowhere f)) p nowhere p
+        (λ j i e. put-here last p (put p nowhere f) j (sym (l.back j i).0 ∙ ap g e))
+        (λ j i e. put-other last p (put p nowhere f) j (λ at. e (ap f at ∙ ends.0)) ∙ put-other p nowhere f j i)
+        nowhere order (λ e. p-where (sym e)) (none p (λ there. there.1 refl)) (none nowhere (λ there. omega (arith, few, there.0))) l.path)
+        (put-other last p (put p nowhere f) p (λ e. ends.1 (sym e)) ∙ put-here p nowhere f p refl);
+    back = between f g p n last nowhere l.back refl (λ e. ends.1 (sym e)) p-where (λ e. omega (arith, low, e)) (λ e. omega (arith, few, e)) gn;
+    forth = between g f p n nowhere last l.forth ends.0 p-where (λ e. ends.1 (sym e)) (λ e. omega (arith, low, e)) (λ e. omega (arith, few, sym (ap f e ∙ fn) ∙ ends.0)) fn;
+    within = λ at more. within at (is-or-not p at) more;
+    once = λ at less other. once at less (is-or-not p at);
+  }
+    where
+      within : (at : ℕ) → (p ≡ at) ⊎ (p ≡ at → ⊥) → 0 < times at (order ++ p ∷ []) → (at < n) × (at ≡ n → ⊥)
+      within at (inl e) more = (omega (arith, low, e), λ s. omega (arith, low, e, s))
+      within at (inr e) more = let there = l.within at (omega (arith, more, times-append at order (p ∷ []), times-other p at [] e)) in (there.0, λ s. omega (arith, there.0, s))
+
+      once : (at : ℕ) → at < n → (p ≡ at) ⊎ (p ≡ at → ⊥) → times at (order ++ p ∷ []) ≡ 1
+      once at less (inl e) = subst (λ q. times q (order ++ p ∷ []) ≡ 1) e (omega (arith, times-append p order (p ∷ []), times-here p [], none p (λ there. there.1 refl)))
+      once at less (inr e) = omega (arith, times-append at order (p ∷ []), times-other p at [] e, l.once at less (λ s. e (sym s)))
+
+-- ---- the last place moved, or gone
+
+path-renamed : (f f' r : ℕ → ℕ) (but : ℕ) → ((j : ℕ) → (j ≡ but → ⊥) → f' (r j) ≡ r (f j)) → (a : ℕ) (xs : List ℕ) (z : ℕ) → (a ≡ but → ⊥) → times but xs ≡ 0 → Path f a xs z → Path f' (r a) (map r xs) (r z)
+path-renamed f f' r but h a [] z n t p = h a n ∙ ap r p
+path-renamed f f' r but h a (x ∷ xs) z n t p = (h a n ∙ ap r p.0, path-renamed f f' r but h x xs z (not-first x but xs t) (omega (arith, t)) p.1)
+
+module _ (m : ℕ) (f g f1 g1 : ℕ → ℕ) (order : List ℕ) (few : suc m < nowhere) where
+  -- where it is the one that was taken out
+  pub dropped : ((j : ℕ) → (j ≡ m → ⊥) → f1 j ≡ f j) → ((j : ℕ) → (j ≡ m → ⊥) → g1 j ≡ g j) → AreLinked (suc m) m f g order → AreLinked m m f1 g1 order
+  dropped fs gs l = record {
+    path = path-same f f1 m m (λ j i e. fs j i) nowhere order nowhere (λ e. omega (arith, few, e)) (λ e. omega (arith, few, e)) none none l.path;
+    back = λ j i. let b = l.back j i in (ap g1 (fs j i) ∙ gs (f j) b.1 ∙ b.0, λ e. b.1 (sym (fs j i) ∙ e));
+    forth = λ j i. let b = l.forth j i in (ap f1 (gs j i) ∙ fs (g j) b.1 ∙ b.0, λ e. b.1 (sym (gs j i) ∙ e));
+    within = λ at more. let there = l.within at more in (below at there.0 there.1, there.1);
+    once = λ at less i. l.once at (omega (arith, less)) i;
+  }
+    where
+      below : (at : ℕ) → at < suc m → (at ≡ m → ⊥) → at < m
+      below at less i = by (cases_lt at m)
+        where
+          by : (at < m) ⊎ (m ≤ at) → at < m
+          by (inl h) = h
+          by (inr h) = absurd (i (omega (arith, h, less)))
+
+      none : times m order ≡ 0
+      none = by (times m order) (l.within m)
+        where
+          by : (k : ℕ) → (0 < k → (m < suc m) × (m ≡ m → ⊥)) → k ≡ 0
+          by zero there = refl
+          by (suc k) there = absurd ((there (omega arith)).1 refl)
+
+  module _ (p : ℕ) (low : p < m) (f-here : f1 p ≡ f m) (f-others : (j : ℕ) → (j ≡ p → ⊥) → (j ≡ m → ⊥) → f1 j ≡ f j) (g-here : g1 p ≡ g m) (g-others : (j : ℕ) → (j ≡ p → ⊥) → (j ≡ m → ⊥) → g1 j ≡ g j) where
+    pm : p ≡ m → ⊥
+    pm e = omega (arith, low, e)
+
+    kept-name : (j : ℕ) → (j ≡ m → ⊥) → renamed m p j ≡ j
+    kept-name j e = ap (λ b. cond b p j) (ne_eqb j m e)
+
+    new-name : (j : ℕ) → j ≡ m → renamed m p j ≡ p
+    new-name j e = ap (λ b. cond b p j) (eq-eqb j m e)
+
+    never-last : (j : ℕ) → renamed m p j ≡ m → ⊥
+    never-last j e = by (is-or-not j m)
       where
-        same : (b : Bool) → same_key (key_of o.key) (key_of e.0) ≡ b → cond b (begun_on o.first (key_of o.key) e.1) None ≡ called es o
-        same true t = sym (ap (option_and_then (begun_on o.first (key_of o.key))) (ap (found es) (one_key o.key e.0 t) ∙ apart o.at e is))
-        same false t = not_called (λ v h f. false≢true (sym t ∙ ap (λ (p : FrameKey × OpenGroup). same_key (key_of o.key) (key_of p.0)) (same_Some e (o.key, v) (sym is ∙ there v h f)) ∙ same_key-refl (key_of o.key)))
+        by : (j ≡ m) ⊎ (j ≡ m → ⊥) → ⊥
+        by (inl h) = pm (sym (new-name j h) ∙ e)
+        by (inr h) = h (sym (kept-name j h) ∙ e)
 
-pub all-called : (es : Entries) (os : List Opening) → AreDistinct es → AllByRecursion (SaysPlace es) os → groups_by es os ≡ groups_called es os
-all-called es [] apart said = refl
-all-called es (o ∷ os) apart said = λ i. cons_option (live-called es o apart said.0 i) (all-called es os apart said.1 i)
+    renamed-back : (h k : ℕ → ℕ) (h' k' : ℕ → ℕ) → ((j : ℕ) → (j ≡ p → ⊥) → h' (renamed m p j) ≡ renamed m p (h j)) → ((j : ℕ) → (j ≡ p → ⊥) → k' (renamed m p j) ≡ renamed m p (k j)) → Inverse h k p → Inverse h' k' m
+    renamed-back h k h' k' hs ks back j other = by (is-or-not j p)
+      where
+        named : (i : ℕ) → renamed m p i ≡ j → (i ≡ p → ⊥) → (k' (h' j) ≡ j) × (h' j ≡ m → ⊥)
+        named i is n =
+            let at = ap h' (sym is) ∙ hs i n in
+            (ap k' at ∙ ks (h i) (back i n).1 ∙ ap (renamed m p) (back i n).0 ∙ is, λ e. never-last (h i) (sym at ∙ e))
 
--- ---- openings that are paired give the same
+        by : (j ≡ p) ⊎ (j ≡ p → ⊥) → (k' (h' j) ≡ j) × (h' j ≡ m → ⊥)
+        by (inl e) = named m (new-name m refl ∙ sym e) (λ s. pm (sym s))
+        by (inr e) = named j (kept-name j other) e
 
-pub paired-refl : (os : List Opening) → ArePaired os os
-paired-refl [] = tt
-paired-refl (o ∷ os) = (refl, refl, paired-refl os)
+    times-kept : (at : ℕ) → (at ≡ m → ⊥) → (at ≡ p → ⊥) → (xs : List ℕ) → times at (map (renamed m p) xs) ≡ times at xs
+    times-kept at am ap' [] = refl
+    times-kept at am ap' (x ∷ xs) = by (is-or-not x m) (times-kept at am ap' xs)
+      where
+        by : (x ≡ m) ⊎ (x ≡ m → ⊥) → times at (map (renamed m p) xs) ≡ times at xs → times at (renamed m p x ∷ map (renamed m p) xs) ≡ times at (x ∷ xs)
+        by (inl e) rest = ap (λ y. times at (y ∷ map (renamed m p) xs)) (new-name x e) ∙ times-other p at (map (renamed m p) xs) (λ s. ap' (sym s)) ∙ rest ∙ sym (times-other x at xs (λ s. am (sym s ∙ e)))
+        by (inr e) rest = ap (λ y. times at (y ∷ map (renamed m p) xs)) (kept-name x e) ∙ omega (arith, rest)
 
-pub paired-told : (first at : ℕ) (os : List Opening) → ArePaired os (map (told_place first at) os)
-paired-told first at [] = tt
-paired-told first at (o ∷ os) = (refl, refl, paired-told first at os)
+    times-moved : (xs : List ℕ) → times p xs ≡ 0 → times p (map (renamed m p) xs) ≡ times m xs
+    times-moved [] none = refl
+    times-moved (x ∷ xs) none = by (is-or-not x m) (times-moved xs (omega (arith, none)))
+      where
+        by : (x ≡ m) ⊎ (x ≡ m → ⊥) → times p (map (renamed m p) xs) ≡ times m xs → times p (renamed m p x ∷ map (renamed m p) xs) ≡ times m (x ∷ xs)
+        by (inl e) rest = ap (λ y. times p (y ∷ map (renamed m p) xs)) (new-name x e) ∙ times-here p (map (renamed m p) xs) ∙ omega (arith, rest, subst (λ y. times m (y ∷ xs) ≡ 1 + times m xs) (sym e) (times-here m xs))
+        by (inr e) rest = ap (λ y. times p (y ∷ map (renamed m p) xs)) (kept-name x e) ∙ times-other x p (map (renamed m p) xs) (not-first x p xs none) ∙ rest ∙ sym (times-other x m xs e)
 
-pub called-paired : (es : Entries) (os ps : List Opening) → ArePaired os ps → groups_called es os ≡ groups_called es ps
-called-paired es [] [] two = refl
-called-paired es [] (p ∷ ps) two = absurd two
-called-paired es (o ∷ os) [] two = absurd two
-called-paired es (o ∷ os) (p ∷ ps) two = λ i. cons_option (option_and_then (begun_on (two.0 i) (key_of (two.1 i))) (found es (two.1 i))) (called-paired es os ps two.2 i)
+    times-last : (xs : List ℕ) → times m (map (renamed m p) xs) ≡ 0
+    times-last [] = refl
+    times-last (x ∷ xs) = times-other (renamed m p x) m (map (renamed m p) xs) (never-last x) ∙ times-last xs
 
-pub rise-paired : (least next : ℕ) (os ps : List Opening) → ArePaired os ps → RiseBelow least next os → RiseBelow least next ps
-rise-paired least next [] [] two r = r
-rise-paired least next [] (p ∷ ps) two r = absurd two
-rise-paired least next (o ∷ os) [] two r = absurd two
-rise-paired least next (o ∷ os) (p ∷ ps) two r = (subst (λ n. least ≤ n) two.0 r.0, subst (λ n. RiseBelow (n + 1) next ps) two.0 (rise-paired (o.first + 1) next os ps two.2 r.1))
+    module _ (l : AreLinked (suc m) p f g order) where
+      loop : f m ≡ m → ⊥
+      loop e = omega (arith, few, no-loop f m nowhere order nowhere l.path e (l.once m (omega arith) (λ s. pm (sym s))))
 
-pub opened-paired : (key : FrameKey) (group : OpenGroup) (os ps : List Opening) → ArePaired os ps → is_opened key group os ≡ is_opened key group ps
-opened-paired key group [] [] two = refl
-opened-paired key group [] (p ∷ ps) two = absurd two
-opened-paired key group (o ∷ os) [] two = absurd two
-opened-paired key group (o ∷ os) (p ∷ ps) two = λ i. (same_key (key_of key) (key_of (two.1 i)) && (group.first == two.0 i)) || opened-paired key group os ps two.2 i
+      pub f-moved : (j : ℕ) → (j ≡ p → ⊥) → put (g m) p f1 (renamed m p j) ≡ renamed m p (f j)
+      f-moved = moved-beside f g f1 p m l.back l.forth loop pm f-here f-others
 
--- ---- where the openings are fewer
+      pub g-moved : (j : ℕ) → (j ≡ p → ⊥) → put (f m) p g1 (renamed m p j) ≡ renamed m p (g j)
+      g-moved = moved-beside g f g1 p m l.forth l.back (λ e. loop (ap f (sym e) ∙ (l.forth m (λ s. pm (sym s))).0)) pm g-here g-others
 
-pub said-kept : (es : Entries) (P : Opening → Bool) (os : List Opening) → AllByRecursion (SaysPlace es) os → AllByRecursion (SaysPlace es) (filter P os)
-said-kept es P [] said = tt
-said-kept es P (o ∷ os) said = by (P o) (said-kept es P os said.1)
-  where
-    by : (b : Bool) → AllByRecursion (SaysPlace es) (filter P os) → AllByRecursion (SaysPlace es) (cond b (o ∷ filter P os) (filter P os))
-    by true rest = (said.0, rest)
-    by false rest = rest
-
-pub placed-kept : (next : ℕ) (es : Entries) (P : Opening → Bool) (os : List Opening) → PlacedBy next es os → PlacedBy next es (filter P os)
-placed-kept next es P os placed = record { apart = placed.apart; begun = placed.begun; said = said-kept es P os placed.said }
-
-pub placed-later : (next more : ℕ) (es : Entries) (os : List Opening) → next ≤ more → PlacedBy next es os → PlacedBy more es os
-placed-later next more es os l placed = record { apart = placed.apart; begun = λ at e h. omega (arith, l, placed.begun at e h); said = placed.said }
-
-pub placed-rest : (next : ℕ) (es : Entries) (o : Opening) (os : List Opening) → PlacedBy next es (o ∷ os) → PlacedBy next es os
-placed-rest next es o os placed = record { apart = placed.apart; begun = placed.begun; said = placed.said.1 }
-
--- ---- where the entries are others
-
-pub said-changed : (P : ℕ → Type 0) (es es' : Entries) (os : List Opening) → AllByRecursion (λ (o : Opening). P o.first) os → ((o : Opening) → P o.first → SaysPlace es o → SaysPlace es' o) → AllByRecursion (SaysPlace es) os → AllByRecursion (SaysPlace es') os
-said-changed P es es' [] all change said = tt
-said-changed P es es' (o ∷ os) all change said = (change o all.0 said.0, said-changed P es es' os all.1 change said.1)
-
-pub said-push : (es : Entries) (os : List Opening) (o : Opening) → AllByRecursion (SaysPlace es) os → SaysPlace es o → AllByRecursion (SaysPlace es) (os ++ o ∷ [])
-said-push es [] o said says = (says, tt)
-said-push es (p ∷ os) o said says = (said.0, said-push es os o said.1 says)
-
--- one more
-pushed : (es : Entries) (e : FrameKey × OpenGroup) (i : ℕ) (f : FrameKey × OpenGroup) → slice_get (es ++ e ∷ []) i ≡ Some f → (slice_get es i ≡ Some f) ⊎ ((i ≡ length es) × (f ≡ e))
-pushed [] e zero f h = inr (refl, sym (same_Some e f h))
-pushed [] e (suc i) f h = absurd (none-some f h)
-pushed (d ∷ es) e zero f h = inl h
-pushed (d ∷ es) e (suc i) f h = by (pushed es e i f h)
-  where
-    by : (slice_get es i ≡ Some f) ⊎ ((i ≡ length es) × (f ≡ e)) → (slice_get es i ≡ Some f) ⊎ ((suc i ≡ suc (length es)) × (f ≡ e))
-    by (inl g) = inl g
-    by (inr g) = inr (ap suc g.0, g.1)
-
-pub placed-push : (line : ℕ) (es : Entries) (os : List Opening) (k : FrameKey) (v : OpenGroup) → v.first ≡ line → AllByRecursion (λ (o : Opening). o.first < line) os → AreDistinct (es ++ (k, v) ∷ []) → PlacedBy line es os
-    → PlacedBy (line + 1) (es ++ (k, v) ∷ []) (os ++ record { first = v.first; key = k; at = length es } ∷ [])
-placed-push line es os k v first before apart placed = record {
-  apart = apart;
-  begun = λ at e h. begun at e (pushed es (k, v) at e h);
-  said = said-push (es ++ (k, v) ∷ []) os _ (said-changed (λ n. n < line) es (es ++ (k, v) ∷ []) os before (λ o l says at e h f. old o l says at e f (pushed es (k, v) at e h)) placed.said) (λ at e h f. new at e f (pushed es (k, v) at e h));
-}
-  where
-    begun : (at : ℕ) (e : FrameKey × OpenGroup) → (slice_get es at ≡ Some e) ⊎ ((at ≡ length es) × (e ≡ (k, v))) → e.1.first < line + 1
-    begun at e (inl h) = omega (arith, placed.begun at e h)
-    begun at e (inr h) = omega (arith, first, ap (λ (p : FrameKey × OpenGroup). p.1.first) h.1)
-
-    old : (o : Opening) → o.first < line → SaysPlace es o → (at : ℕ) (e : FrameKey × OpenGroup) → e.1.first ≡ o.first → (slice_get es at ≡ Some e) ⊎ ((at ≡ length es) × (e ≡ (k, v))) → o.at ≡ at
-    old o l says at e f (inl h) = says at e h f
-    old o l says at e f (inr h) = absurd (omega (arith, l, f, first, ap (λ (p : FrameKey × OpenGroup). p.1.first) h.1))
-
-    new : (at : ℕ) (e : FrameKey × OpenGroup) → e.1.first ≡ v.first → (slice_get es at ≡ Some e) ⊎ ((at ≡ length es) × (e ≡ (k, v))) → length es ≡ at
-    new at e f (inl h) = absurd (omega (arith, f, first, placed.begun at e h))
-    new at e f (inr h) = sym h.0
-
--- another value
-written : (es : Entries) (i : ℕ) (w : OpenGroup) (j : ℕ) (f : FrameKey × OpenGroup) → slice_get (set_value_at es i w) j ≡ Some f → ((j ≡ i) × (f.1 ≡ w)) ⊎ (slice_get es j ≡ Some f)
-written [] i w j f h = absurd (none-some f h)
-written (e ∷ es) zero w zero f h = inl (refl, sym (ap (λ (p : FrameKey × OpenGroup). p.1) (same_Some (e.0, w) f h)))
-written (e ∷ es) zero w (suc j) f h = inr h
-written (e ∷ es) (suc i) w zero f h = inr h
-written (e ∷ es) (suc i) w (suc j) f h = by (written es i w j f h)
-  where
-    by : ((j ≡ i) × (f.1 ≡ w)) ⊎ (slice_get es j ≡ Some f) → ((suc j ≡ suc i) × (f.1 ≡ w)) ⊎ (slice_get es j ≡ Some f)
-    by (inl g) = inl (ap suc g.0, g.1)
-    by (inr g) = inr g
-
-pub keys-written : (es : Entries) (i : ℕ) (w : OpenGroup) → keys_of (set_value_at es i w) ≡ keys_of es
-keys-written [] i w = refl
-keys-written (e ∷ es) zero w = refl
-keys-written (e ∷ es) (suc i) w = ap (λ ks. e.0 ∷ ks) (keys-written es i w)
-
-pub written-distinct : (es : Entries) (i : ℕ) (w : OpenGroup) → IsDistinct (λ (a b : FrameKey). same_key (key_of a) (key_of b)) (keys_of es) → AreDistinct (set_value_at es i w)
-written-distinct es i w d = distinct (set_value_at es i w) (subst (IsDistinct (λ (a b : FrameKey). same_key (key_of a) (key_of b))) (sym (keys-written es i w)) d)
-
--- of the same line
-pub placed-written : (next : ℕ) (es : Entries) (os : List Opening) (i : ℕ) (k : FrameKey) (v w : OpenGroup) → slice_get es i ≡ Some (k, v) → w.first ≡ v.first → AreDistinct (set_value_at es i w) → PlacedBy next es os → PlacedBy next (set_value_at es i w) os
-placed-written next es os i k v w there first apart placed = record {
-  apart = apart;
-  begun = λ at e h. begun at e (written es i w at e h);
-  said = said-changed (λ n. n ≡ n) es (set_value_at es i w) os (all os) (λ o l says at e h f. old o says at e f (written es i w at e h)) placed.said;
-}
-  where
-    all : (os : List Opening) → AllByRecursion (λ (o : Opening). o.first ≡ o.first) os
-    all [] = tt
-    all (o ∷ os) = (refl, all os)
-
-    begun : (at : ℕ) (e : FrameKey × OpenGroup) → ((at ≡ i) × (e.1 ≡ w)) ⊎ (slice_get es at ≡ Some e) → e.1.first < next
-    begun at e (inl h) = omega (arith, first, ap (λ (g : OpenGroup). g.first) h.1, placed.begun i (k, v) there)
-    begun at e (inr h) = placed.begun at e h
-
-    old : (o : Opening) → SaysPlace es o → (at : ℕ) (e : FrameKey × OpenGroup) → e.1.first ≡ o.first → ((at ≡ i) × (e.1 ≡ w)) ⊎ (slice_get es at ≡ Some e) → o.at ≡ at
-    old o says at e f (inl h) = says i (k, v) there (sym first ∙ ap (λ (g : OpenGroup). g.first) (sym h.1) ∙ f) ∙ sym h.0
-    old o says at e f (inr h) = says at e h f
-
--- of this line, with its opening
-pub placed-reopened : (line : ℕ) (es : Entries) (os : List Opening) (i : ℕ) (k : FrameKey) (w : OpenGroup) → w.first ≡ line → AllByRecursion (λ (o : Opening). o.first < line) os → AreDistinct (set_value_at es i w) → PlacedBy line es os
-    → PlacedBy (line + 1) (set_value_at es i w) (os ++ record { first = line; key = k; at = i } ∷ [])
-placed-reopened line es os i k w first before apart placed = record {
-  apart = apart;
-  begun = λ at e h. begun at e (written es i w at e h);
-  said = said-push (set_value_at es i w) os _ (said-changed (λ n. n < line) es (set_value_at es i w) os before (λ o l says at e h f. old o l says at e f (written es i w at e h)) placed.said) (λ at e h f. new at e f (written es i w at e h));
-}
-  where
-    begun : (at : ℕ) (e : FrameKey × OpenGroup) → ((at ≡ i) × (e.1 ≡ w)) ⊎ (slice_get es at ≡ Some e) → e.1.first < line + 1
-    begun at e (inl h) = omega (arith, first, ap (λ (g : OpenGroup). g.first) h.1)
-    begun at e (inr h) = omega (arith, placed.begun at e h)
-
-    old : (o : Opening) → o.first < line → SaysPlace es o → (at : ℕ) (e : FrameKey × OpenGroup) → e.1.first ≡ o.first → ((at ≡ i) × (e.1 ≡ w)) ⊎ (slice_get es at ≡ Some e) → o.at ≡ at
-    old o l says at e f (inl h) = absurd (omega (arith, l, f, first, ap (λ (g : OpenGroup). g.first) h.1))
-    old o l says at e f (inr h) = says at e h f
-
-    new : (at : ℕ) (e : FrameKey × OpenGroup) → e.1.first ≡ line → ((at ≡ i) × (e.1 ≡ w)) ⊎ (slice_get es at ≡ Some e) → i ≡ at
-    new at e f (inl h) = sym h.0
-    new at e f (inr h) = absurd (omega (arith, f, placed.begun at e h))
-
--- one goes, and the last takes its place
-taken : {X : Type 0} (n : ℕ) (xs : List X) (i : ℕ) (x : X) → slice_get (take n xs) i ≡ Some x → (i < n) × (slice_get xs i ≡ Some x)
-taken zero xs i x h = absurd (none-some x h)
-taken (suc n) [] i x h = absurd (none-some x h)
-taken (suc n) (y ∷ xs) zero x h = (omega arith, h)
-taken (suc n) (y ∷ xs) (suc i) x h = let rest = taken n xs i x h in (omega (arith, rest.0), rest.1)
-
-placed_in : {X : Type 0} (xs : List X) (i : ℕ) (y : X) (j : ℕ) (x : X) → slice_get (slice_set xs i y) j ≡ Some x → ((j ≡ i) × (y ≡ x)) ⊎ ((j ≡ i → ⊥) × (slice_get xs j ≡ Some x))
-placed_in [] i y j x h = absurd (none-some x h)
-placed_in (z ∷ xs) zero y zero x h = inl (refl, same_Some y x h)
-placed_in (z ∷ xs) zero y (suc j) x h = inr (λ e. (let no : ⊥ = omega (arith, e) in no), h)
-placed_in (z ∷ xs) (suc i) y zero x h = inr (λ e. (let no : ⊥ = omega (arith, e) in no), h)
-placed_in (z ∷ xs) (suc i) y (suc j) x h = by (placed_in xs i y j x h)
-  where
-    by : ((j ≡ i) × (y ≡ x)) ⊎ ((j ≡ i → ⊥) × (slice_get xs j ≡ Some x)) → ((suc j ≡ suc i) × (y ≡ x)) ⊎ ((suc j ≡ suc i → ⊥) × (slice_get xs j ≡ Some x))
-    by (inl g) = inl (ap suc g.0, g.1)
-    by (inr g) = inr (λ e. g.0 (omega (arith, e)), g.1)
-
-module _ (es : Entries) (i : ℕ) (d : FrameKey × OpenGroup) (within : i < length es) where
-  abbrev left : Entries
-  left = swap_remove es i d
-
-  moved : (j : ℕ) (f : FrameKey × OpenGroup) → slice_get left j ≡ Some f → (j < length es - 1) × (((j ≡ i) × (slice_get es (length es - 1) ≡ Some f)) ⊎ ((j ≡ i → ⊥) × (slice_get es j ≡ Some f)))
-  moved j f h =
-      let cut = taken (length es - 1) (slice_set es i (get_or es (length es - 1) d)) j f h in
-      (cut.0, by (placed_in es i (get_or es (length es - 1) d) j f cut.1))
-    where
-      by : ((j ≡ i) × (get_or es (length es - 1) d ≡ f)) ⊎ ((j ≡ i → ⊥) × (slice_get es j ≡ Some f)) → ((j ≡ i) × (slice_get es (length es - 1) ≡ Some f)) ⊎ ((j ≡ i → ⊥) × (slice_get es j ≡ Some f))
-      by (inl g) = inl (g.0, slice_get-get_or es (length es - 1) d (omega (arith, within)) ∙ ap Some g.1)
-      by (inr g) = inr g
-
-  begun-left : (next : ℕ) → ((at : ℕ) (e : FrameKey × OpenGroup) → slice_get es at ≡ Some e → e.1.first < next) → (at : ℕ) (e : FrameKey × OpenGroup) → slice_get left at ≡ Some e → e.1.first < next
-  begun-left next begun at e h = by (moved at e h).1
-    where
-      by : ((at ≡ i) × (slice_get es (length es - 1) ≡ Some e)) ⊎ ((at ≡ i → ⊥) × (slice_get es at ≡ Some e)) → e.1.first < next
-      by (inl g) = begun (length es - 1) e g.1
-      by (inr g) = begun at e g.1
-
-  -- where it was the last
-  pub placed-last : (next : ℕ) (os : List Opening) → slice_get left i ≡ None → AreDistinct left → PlacedBy next es os → PlacedBy next left os
-  placed-last next os none apart placed = record { apart = apart; begun = begun-left next placed.begun; said = said os placed.said }
-    where
-      says : (o : Opening) → SaysPlace es o → SaysPlace left o
-      says o old at e h f = by (moved at e h).1
+      out-of-it : times p order ≡ 0
+      out-of-it = by (times p order) (l.within p)
         where
-          by : ((at ≡ i) × (slice_get es (length es - 1) ≡ Some e)) ⊎ ((at ≡ i → ⊥) × (slice_get es at ≡ Some e)) → o.at ≡ at
-          by (inl g) = absurd (none-some e (sym none ∙ sym (ap (slice_get left) g.0) ∙ h))
-          by (inr g) = old at e g.1 f
+          by : (k : ℕ) → (0 < k → (p < suc m) × (p ≡ p → ⊥)) → k ≡ 0
+          by zero there = refl
+          by (suc k) there = absurd ((there (omega arith)).1 refl)
 
-      said : (os : List Opening) → AllByRecursion (SaysPlace es) os → AllByRecursion (SaysPlace left) os
-      said [] all = tt
-      said (o ∷ os) all = (says o all.0, said os all.1)
-
-  -- and where it wasn't
-  pub placed-moved : (next : ℕ) (os : List Opening) (m : FrameKey × OpenGroup) → slice_get left i ≡ Some m → AreDistinct left → PlacedBy next es os → PlacedBy next left (map (told_place m.1.first i) os)
-  placed-moved next os m there apart placed = record { apart = apart; begun = begun-left next placed.begun; said = said os placed.said }
-    where
-      was : ((i ≡ i) × (slice_get es (length es - 1) ≡ Some m)) ⊎ ((i ≡ i → ⊥) × (slice_get es i ≡ Some m)) → slice_get es (length es - 1) ≡ Some m
-      was (inl g) = g.1
-      was (inr g) = absurd (g.0 refl)
-
-      says : (o : Opening) → SaysPlace es o → SaysPlace left (told_place m.1.first i o)
-      says o old at e h f = by (moved at e h).1
+      pub moved : AreLinked m m (put (g m) p f1) (put (f m) p g1) (map (renamed m p) order)
+      moved = record {
+        path =
+            let same = kept-name nowhere (λ e. omega (arith, few, e)) in
+            subst (λ z. Path (put (g m) p f1) z (map (renamed m p) order) z) same (path-renamed f (put (g m) p f1) (renamed m p) p f-moved nowhere order nowhere (λ e. omega (arith, low, few, e)) out-of-it l.path);
+        back = renamed-back f g (put (g m) p f1) (put (f m) p g1) f-moved g-moved l.back;
+        forth = renamed-back g f (put (f m) p g1) (put (g m) p f1) g-moved f-moved l.forth;
+        within = λ at more. within at more (is-or-not at m) (is-or-not at p);
+        once = λ at less other. once at less other (is-or-not at p);
+      }
         where
-          told : (b : Bool) → (o.first == m.1.first) ≡ b → (at ≡ i → ⊥) → slice_get es at ≡ Some e → cond b i o.at ≡ at
-          told true t other g =
-              let last = old (length es - 1) m (was (moved i m there).1) (sym (eqb-true o.first m.1.first t)) in
-              absurd (omega (arith, (moved at e h).0, last, old at e g f))
-          told false t other g = old at e g f
+          within : (at : ℕ) → 0 < times at (map (renamed m p) order) → (at ≡ m) ⊎ (at ≡ m → ⊥) → (at ≡ p) ⊎ (at ≡ p → ⊥) → (at < m) × (at ≡ m → ⊥)
+          within at more (inl e) q = absurd (omega (arith, more, subst (λ i. times i (map (renamed m p) order) ≡ 0) (sym e) (times-last order)))
+          within at more (inr e) (inl q) = (omega (arith, low, q), e)
+          within at more (inr e) (inr q) = let there = l.within at (omega (arith, more, times-kept at e q order)) in (by (cases_lt at m) there.0, e)
+            where
+              by : (at < m) ⊎ (m ≤ at) → at < suc m → at < m
+              by (inl h) less = h
+              by (inr h) less = absurd (e (omega (arith, h, less)))
 
-          by : ((at ≡ i) × (slice_get es (length es - 1) ≡ Some e)) ⊎ ((at ≡ i → ⊥) × (slice_get es at ≡ Some e)) → (told_place m.1.first i o).at ≡ at
-          by (inl g) =
-              let same = same_Some m e (sym there ∙ sym (ap (slice_get left) g.0) ∙ h) in
-              ap (λ b. cond b i o.at) (eq-eqb o.first m.1.first (sym f ∙ ap (λ (p : FrameKey × OpenGroup). p.1.first) (sym same))) ∙ sym g.0
-          by (inr g) = told (o.first == m.1.first) refl g.0 g.1
-
-      said : (os : List Opening) → AllByRecursion (SaysPlace es) os → AllByRecursion (SaysPlace left) (map (told_place m.1.first i) os)
-      said [] all = tt
-      said (o ∷ os) all = (says o all.0, said os all.1)
-
--- ---- an opening found by its line
-
-pub in_order : (least next : ℕ) (os : List Opening) → RiseBelow least next os → (i : ℕ) (o : Opening) → slice_get os i ≡ Some o → least ≤ o.first
-in_order least next [] r i o h = absurd (none-some o h)
-in_order least next (p ∷ os) r zero o h = subst (λ (q : Opening). least ≤ q.first) (same_Some p o h) r.0
-in_order least next (p ∷ os) r (suc i) o h = omega (arith, r.0, in_order (p.first + 1) next os r.1 i o h)
-
-pub rises : (least next : ℕ) (os : List Opening) → RiseBelow least next os → (i j : ℕ) (o p : Opening) → i < j → slice_get os i ≡ Some o → slice_get os j ≡ Some p → o.first < p.first
-rises least next [] r i j o p l h g = absurd (none-some o h)
-rises least next (q ∷ os) r zero zero o p l h g = absurd (omega (arith, l))
-rises least next (q ∷ os) r zero (suc j) o p l h g = omega (arith, ap (λ (s : Opening). s.first) (same_Some q o h), in_order (q.first + 1) next os r.1 j p g)
-rises least next (q ∷ os) r (suc i) zero o p l h g = absurd (omega (arith, l))
-rises least next (q ∷ os) r (suc i) (suc j) o p l h g = rises (q.first + 1) next os r.1 i j o p (omega (arith, l)) h g
-
--- none is of that line
-pub told-none : (first at : ℕ) (os : List Opening) → ((i : ℕ) (o : Opening) → slice_get os i ≡ Some o → o.first ≡ first → ⊥) → map (told_place first at) os ≡ os
-told-none first at [] none = refl
-told-none first at (o ∷ os) none =
-    λ i. record { first = o.first; key = o.key; at = same i } ∷ told-none first at os (λ j p h. none (suc j) p h) i
-  where
-    same : cond (o.first == first) at o.at ≡ o.at
-    same = ap (λ b. cond b at o.at) (ne_eqb o.first first (none 0 o refl))
-
--- that one is
-pub told-one : (first at : ℕ) (os : List Opening) (n : ℕ) (o : Opening) → slice_get os n ≡ Some o → o.first ≡ first → ((i : ℕ) (p : Opening) → slice_get os i ≡ Some p → p.first ≡ first → i ≡ n)
-    → map (told_place first at) os ≡ slice_set os n (record { first = o.first; key = o.key; at = at })
-told-one first at [] n o h f only = absurd (none-some o h)
-told-one first at (p ∷ os) zero o h f only = λ i. record { first = parts.0 i; key = parts.1 i; at = same i } ∷ told-none first at os rest i
-  where
-    is : p ≡ o
-    is = same_Some p o h
-
-    parts : (p.first ≡ o.first) × (p.key ≡ o.key)
-    parts = (ap (λ (q : Opening). q.first) is, ap (λ (q : Opening). q.key) is)
-
-    same : cond (p.first == first) at p.at ≡ at
-    same = ap (λ b. cond b at p.at) (eq-eqb p.first first (parts.0 ∙ f))
-
-    rest : (i : ℕ) (q : Opening) → slice_get os i ≡ Some q → q.first ≡ first → ⊥
-    rest i q g e = let s = only (suc i) q g e in omega (arith, s)
-told-one first at (p ∷ os) (suc n) o h f only = λ i. record { first = p.first; key = p.key; at = same i } ∷ told-one first at os n o h f (λ j q g e. (let s = only (suc j) q g e in omega (arith, s))) i
-  where
-    same : cond (p.first == first) at p.at ≡ p.at
-    same = ap (λ b. cond b at p.at) (ne_eqb p.first first (λ e. (let s = only 0 p refl e in omega (arith, s))))
-
--- those up to one before the line are, and those from one that isn't aren't
-module _ (next first : ℕ) (os : List Opening) (rise : RiseBelow 1 next os) (m : ℕ) (p : Opening) (there : slice_get os m ≡ Some p) where
-  pub before-it : p.first < first → (i : ℕ) (o : Opening) → i < m + 1 → slice_get os i ≡ Some o → o.first < first
-  before-it l i o le h = ⊎_elim
-      (λ less. omega (arith, l, rises 1 next os rise i m o p less h there))
-      (λ more. let at : i ≡ m = omega (arith, le, more) in omega (arith, l, ap (λ (q : Opening). q.first) (same_Some o p (sym h ∙ ap (slice_get os) at ∙ there))))
-      (cases_lt i m)
-
-  pub from-it : first ≤ p.first → (i : ℕ) (o : Opening) → m ≤ i → slice_get os i ≡ Some o → first ≤ o.first
-  from-it l i o le h = ⊎_elim
-      (λ less. omega (arith, l, rises 1 next os rise m i p o less there h))
-      (λ more. let at : i ≡ m = omega (arith, le, more) in omega (arith, l, ap (λ (q : Opening). q.first) (same_Some o p (sym h ∙ ap (slice_get os) at ∙ there))))
-      (cases_lt m i)
-
--- where these are before the line and those not, one at most is of it
-module _ (next first place : ℕ) (os : List Opening) (rise : RiseBelow 1 next os) (before : (i : ℕ) (o : Opening) → i < place → slice_get os i ≡ Some o → o.first < first) (from : (i : ℕ) (o : Opening) → place ≤ i → slice_get os i ≡ Some o → first ≤ o.first) where
-  of_it : (i : ℕ) (o : Opening) → slice_get os i ≡ Some o → o.first ≡ first → place ≤ i
-  of_it i o h e = ⊎_elim (λ less. absurd (omega (arith, e, before i o less h))) (λ more. more) (cases_lt i place)
-
-  pub only-there : (p : Opening) → slice_get os place ≡ Some p → (i : ℕ) (o : Opening) → slice_get os i ≡ Some o → o.first ≡ first → i ≡ place
-  only-there p there i o h e = ⊎_elim
-      (λ less. absurd (omega (arith, e, rises 1 next os rise place i p o less there h, from place p (omega arith) there)))
-      (λ more. omega (arith, more, of_it i o h e))
-      (cases_lt place i)
-
-  pub told-past : (at : ℕ) → length os ≤ place → os ≡ map (told_place first at) os
-  told-past at past = sym (told-none first at os (λ i o h e. (let no : ⊥ = omega (arith, past, of_it i o h e, slice_get_within os i o h) in no)))
-
-  pub told-other : (at : ℕ) (p : Opening) → slice_get os place ≡ Some p → (p.first ≡ first → ⊥) → os ≡ map (told_place first at) os
-  told-other at p there other = sym (told-none first at os (λ i o h e. other (ap (λ (q : Opening). q.first) (same_Some p o (sym there ∙ ap (slice_get os) (sym (only-there p there i o h e)) ∙ h)) ∙ e)))
+          once : (at : ℕ) → at < m → (at ≡ m → ⊥) → (at ≡ p) ⊎ (at ≡ p → ⊥) → times at (map (renamed m p) order) ≡ 1
+          once at less other (inl e) = subst (λ i. times i (map (renamed m p) order) ≡ 1) (sym e) (times-moved order out-of-it ∙ l.once m (omega arith) (λ s. pm (sym s)))
+          once at less other (inr e) = times-kept at other e order ∙ l.once at (omega (arith, less)) e

@@ -80,12 +80,7 @@ unfolding at_line
 at_line-cases gives k [] [] line each = inr (refl, tt)
 at_line-cases gives k [] (g ∷ gs) line each = absurd each
 at_line-cases gives k (x ∷ xs) [] line each = absurd each
-at_line-cases gives k (x ∷ xs) (g ∷ gs) line each = by_place (cases_eq (last_line g) line) (at_line-cases gives k xs gs line each.1)
-  where
-    by_place : (last_line g ≡ line) ⊎ (last_line g ≡ line → ⊥) → AtLine gives k xs gs line → AtLine gives k (x ∷ xs) (g ∷ gs) line
-    by_place (inl here) rest = inl (x, ap (λ b. if b then Some x else at_line xs gs line) (eq-eqb (last_line g) line here), sym (ap gives here) ∙ each.0)
-    by_place (inr other) (inl rest) = inl (rest.0, ap (λ b. if b then Some x else at_line xs gs line) (ne_eqb (last_line g) line other) ∙ rest.1, rest.2)
-    by_place (inr other) (inr rest) = inr (ap (λ b. if b then Some x else at_line xs gs line) (ne_eqb (last_line g) line other) ∙ rest.0, (ne_eqb (last_line g) line other, rest.1))
+at_line-cases gives k (x ∷ xs) (g ∷ gs) line each = grind (arith, at_line-cases gives k xs gs line each.1, cases_eq, eq-eqb, ne_eqb)
 
 -- what a frame gathers of the group that it completes
 abbrev made : Frame → Option (List Frame) → Option Keyed
@@ -115,15 +110,7 @@ none_of_key ends fs k gs line cut_is none = by_frame (frame_at line fs) refl
 
 filter-filter_map : {X : Type 0} (k : Key) (h : X → Option Keyed) (xs : List X) → filter (λ (m : Keyed). same_key k m.key) (filter_map h xs) ≡ filter_map (λ x. kept k (h x)) xs
 filter-filter_map k h [] = refl
-filter-filter_map k h (x ∷ xs) = by_given (h x) (filter-filter_map k h xs)
-  where
-    by_test : (b : Bool) (m : Keyed) (rest : List Keyed) → cond b (m ∷ rest) rest ≡ cons_option (if b then Some m else None) rest
-    by_test true m rest = refl
-    by_test false m rest = refl
-
-    by_given : (o : Option Keyed) → filter (λ (m : Keyed). same_key k m.key) (filter_map h xs) ≡ filter_map (λ y. kept k (h y)) xs → filter (λ (m : Keyed). same_key k m.key) (cons_option o (filter_map h xs)) ≡ cons_option (kept k o) (filter_map (λ y. kept k (h y)) xs)
-    by_given None ih = ih
-    by_given (Some m) ih = by_test (same_key k m.key) m _ ∙ ap (cons_option (kept k (Some m))) ih
+filter-filter_map k h (x ∷ xs) = grind (arith, filter-filter_map k h xs)
 
 map-filter_map : {X Y Z : Type 0} (g : Y → Z) (h : X → Option Y) (xs : List X) → map g (filter_map h xs) ≡ filter_map (λ x. option_map g (h x)) xs
 map-filter_map g h [] = refl

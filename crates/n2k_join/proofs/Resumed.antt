@@ -29,13 +29,7 @@ held_of-any P o each = held_of-all P (λ _. Unit {0}) o (λ p _. each p) (all-an
 -- frames of one line and key
 key_at-one : (i l : ℕ) (k : Key) (fs : List Frame) → AllByRecursion (λ (f : Frame). (f.line ≡ l) × (f.key ≡ k)) fs → 0 < length fs → key_at i fs ≡ cond (l == i) (Some k) None
 key_at-one i l k [] all some = absurd (omega (arith, some))
-key_at-one i l k (f ∷ fs) all some = by (l == i) refl
-  where
-    by : (b : Bool) → (l == i) ≡ b → key_at i (f ∷ fs) ≡ cond b (Some k) None
-    by true e = ap (λ b. option_map (λ (f : Frame). f.key) (cond b (Some f) (frame_at i fs))) (ap (λ n. n == i) all.0.0 ∙ e) ∙ ap Some all.0.1
-    by false e =
-        let other : l ≡ i → ⊥ = eqb-false l i e in
-        ap (option_map (λ (f : Frame). f.key)) (find-none (λ (f : Frame). f.line == i) (f ∷ fs) (all-map (λ (f : Frame). (f.line ≡ l) × (f.key ≡ k)) (λ (f : Frame). (f.line == i) ≡ false) (f ∷ fs) (λ f h. ne_eqb f.line i (λ x. other (sym h.0 ∙ x))) all))
+key_at-one i l k (f ∷ fs) all some = grind (arith, eqb-false, find-none, all-map, ne_eqb)
 
 key_at-append : (i : ℕ) (fs gs : List Frame) → key_at i (fs ++ gs) ≡ option_or (key_at i fs) (key_at i gs)
 key_at-append i fs gs =

@@ -62,20 +62,12 @@ filter_map-range h k a (suc n) e =
 -- what is found passes the test
 pub find-passes : {X : Type 0} (p : X → Bool) (xs : List X) (x : X) → find p xs ≡ Some x → p x ≡ true
 find-passes p [] x e = absurd (none-some x e)
-find-passes p (y ∷ ys) x e = by (p y) refl e (find-passes p ys x)
-  where
-    by : (b : Bool) → p y ≡ b → cond b (Some y) (find p ys) ≡ Some x → (find p ys ≡ Some x → p x ≡ true) → p x ≡ true
-    by true t e rest = ap p (sym (same_Some y x e)) ∙ t
-    by false t e rest = rest e
+find-passes p (y ∷ ys) x e = grind (arith, find-passes p ys x)
 
 -- what holds of all holds of what is found
 pub find-all : {X : Type 0} (P : X → Type 0) (p : X → Bool) (xs : List X) (x : X) → AllByRecursion P xs → find p xs ≡ Some x → P x
 find-all P p [] x all e = absurd (none-some x e)
-find-all P p (y ∷ ys) x all e = by (p y) e (find-all P p ys x all.1)
-  where
-    by : (b : Bool) → cond b (Some y) (find p ys) ≡ Some x → (find p ys ≡ Some x → P x) → P x
-    by true e rest = subst P (same_Some y x e) all.0
-    by false e rest = rest e
+find-all P p (y ∷ ys) x all e = grind (arith, find-all P p ys x all.1)
 
 -- where nothing passes, nothing is found
 pub find-none : {X : Type 0} (p : X → Bool) (xs : List X) → AllByRecursion (λ x. p x ≡ false) xs → find p xs ≡ None
@@ -85,11 +77,7 @@ find-none p (x ∷ xs) all = ap (λ b. cond b (Some x) (find p xs)) all.0 ∙ fi
 -- nothing is found where nothing passes
 pub passes_none : {X : Type 0} (p : X → Bool) (xs : List X) → find p xs ≡ None → AllByRecursion (λ x. p x ≡ false) xs
 passes_none p [] e = tt
-passes_none {X} p (x ∷ xs) e = by (p x) refl e (passes_none p xs)
-  where
-    by : (b : Bool) → p x ≡ b → cond b (Some x) (find p xs) ≡ None → (find p xs ≡ None → AllByRecursion (λ x. p x ≡ false) xs) → AllByRecursion (λ x. p x ≡ false) (x ∷ xs)
-    by true t e rest = absurd (none-some x (sym e))
-    by false t e rest = (t, rest e)
+passes_none {X} p (x ∷ xs) e = grind (arith, passes_none p xs, none-some)
 
 -- where none passes, each fails
 pub none_any : {X : Type 0} (p : X → Bool) (xs : List X) → list_any p xs ≡ false → AllByRecursion (λ x. p x ≡ false) xs
@@ -225,23 +213,7 @@ module _ {A : Type 0} (number : A → ℕ) where
   look-range a zero [] r all = refl
   look-range a zero (x ∷ xs) r all = absurd (omega (arith, r.0, all.0))
   look-range a (suc n) [] r all = look-range (a + 1) n [] tt tt
-  look-range a (suc n) (x ∷ xs) r all = by (number x == a) refl (look-range (a + 1) n xs) (look-range (a + 1) n (x ∷ xs))
-    where
-      shifted : (ys : List A) → AllByRecursion (λ y. number y < a + suc n) ys → AllByRecursion (λ y. number y < (a + 1) + n) ys
-      shifted ys h = all-map (λ y. number y < a + suc n) (λ y. number y < (a + 1) + n) ys (λ y l. omega arith) h
-
-      by : (b : Bool) → (number x == a) ≡ b
-          → (Rise number (a + 1) xs → AllByRecursion (λ y. number y < (a + 1) + n) xs → filter_map (look xs) (range_with_len (a + 1) n) ≡ xs)
-          → (Rise number (a + 1) (x ∷ xs) → AllByRecursion (λ y. number y < (a + 1) + n) (x ∷ xs) → filter_map (look (x ∷ xs)) (range_with_len (a + 1) n) ≡ x ∷ xs)
-          → cons_option (cond b (Some x) (look xs a)) (filter_map (look (x ∷ xs)) (range_with_len (a + 1) n)) ≡ x ∷ xs
-      by true e past here =
-          let is = eqb-true (number x) a e in
-          let r' : Rise number (a + 1) xs = subst (λ k. Rise number (k + 1) xs) is r.1 in
-          ap (λ t. x ∷ t) (filter_map-range (look (x ∷ xs)) (look xs) (a + 1) n (λ i l u. look-there x xs i (λ f. omega (arith, is, f))) ∙ past r' (shifted xs all.1))
-      by false e past here =
-          let not_here : number x ≡ a → ⊥ = eqb-false (number x) a e in
-          let above : a + 1 ≤ number x = omega (arith, r.0, not_here) in
-          ap (λ o. cons_option o (filter_map (look (x ∷ xs)) (range_with_len (a + 1) n))) (look-below (number x + 1) a xs r.1 (omega arith)) ∙ here (above, r.1) (shifted (x ∷ xs) all)
+  look-range a (suc n) (x ∷ xs) r all = grind (arith, look-range (a + 1) n xs, look-range (a + 1) n (x ∷ xs), all-map, eqb-true, filter_map-range, look-there, eqb-false, look-below)
 
   -- what each number of a range gives rises, where it has that number
   pub rise-range : (h : ℕ → Option A) → ((i : ℕ) (x : A) → h i ≡ Some x → number x ≡ i) → (least a n : ℕ) → least ≤ a → Rise number least (filter_map h (range_with_len a n))
@@ -288,8 +260,4 @@ all-filter_map {Y = Y} P h (x ∷ xs) each = by (h x) refl (all-filter_map P h x
 -- the same, where the numbers of the range matter
 pub all-range : {Y : Type 0} (P : Y → Type 0) (h : ℕ → Option Y) (a n : ℕ) → ((i : ℕ) (y : Y) → a ≤ i → i < a + n → h i ≡ Some y → P y) → AllByRecursion P (filter_map h (range_with_len a n))
 all-range P h a zero each = tt
-all-range {Y} P h a (suc n) each = by (h a) refl (all-range P h (a + 1) n (λ i y l u e. each i y (omega arith) (omega arith) e))
-  where
-    by : (o : Option Y) → h a ≡ o → AllByRecursion P (filter_map h (range_with_len (a + 1) n)) → AllByRecursion P (cons_option o (filter_map h (range_with_len (a + 1) n)))
-    by None e rest = rest
-    by (Some y) e rest = (each a y (omega arith) (omega arith) e, rest)
+all-range {Y} P h a (suc n) each = grind (arith, all-range P h (a + 1) n (λ i y l u e. each i y (omega arith) (omega arith) e))

@@ -1,5 +1,5 @@
 -- The text of a state, as its parts are written one after the other.
-use Rattle.std.proofs.Common.{◌≡◌, ℕ, ◌+◌, Bool, true, false, List, [], ◌∷◌, ◌++◌, Option, Some, None, option_to_list, filter_map, flat_map, refl, sym, ap, ◌∙◌, append_assoc, append-nil, zero-add, codes}
+use Rattle.std.proofs.Common.{arith, ◌≡◌, ℕ, ◌+◌, Bool, true, false, List, [], ◌∷◌, ◌++◌, Option, Some, None, option_to_list, filter_map, flat_map, refl, sym, ap, ◌∙◌, append_assoc, append-nil, zero-add, codes}
 use Rattle.std.proofs.lemmas.Grind.{flat_map-append}
 use Rattle.std.specs.List.{range_with_len}
 use Rattle.json.specs.Print.{print}
@@ -23,15 +23,7 @@ pieces_below carries n = filter_map (piece_at carries) (range_with_len 0 n)
 pub pieces_below-more : (carries : ℕ → Option (List ℕ)) (n : ℕ) (before : List Token)
     → (before ++ pieces_tokens (pieces_below carries n)) ++ piece_tokens (piece_at carries n) ≡ before ++ pieces_tokens (pieces_below carries (n + 1))
 unfolding pieces_tokens pieces_below
-pieces_below-more carries n before =
-    append_assoc before _ _ ∙ ap (λ ts. before ++ ts) (
-    ap (λ ts. pieces_tokens (pieces_below carries n) ++ ts) (one (piece_at carries n))
-    ∙ sym (flat_map-append (λ p. tokens_of (piece_tree p)) (pieces_below carries n) (option_to_list (piece_at carries n)))
-    ∙ ap pieces_tokens (sym (filter_map-push (piece_at carries) (range_with_len 0 n) n) ∙ ap (filter_map (piece_at carries)) (sym (rw zero-add at (range-push 0 n)))))
-  where
-    one : (o : Option Piece) → piece_tokens o ≡ flat_map (λ p. tokens_of (piece_tree p)) (option_to_list o)
-    one None = refl
-    one (Some p) = sym (append-nil _)
+pieces_below-more carries n before = grind (arith, append_assoc, flat_map-append, filter_map-push, zero-add, range-push, flat_map, append-nil)
 
 pub more_written : (carries : ℕ → Option (List ℕ)) (n : ℕ) (before written now : List Token)
     → now ≡ written ++ piece_tokens (piece_at carries n) → written ≡ before ++ pieces_tokens (pieces_below carries n)

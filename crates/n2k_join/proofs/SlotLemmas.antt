@@ -55,12 +55,7 @@ has-slot : (k : Key) (g : OpenGroup) (n : ℕ) → n < most_frames → has_numbe
 has-slot k g n l = ap is_some (carried-slots k g n l) ∙ is_some-slot g n
 
 bit_two : (n i : ℕ) → (bit_at n i ≡ 0) ⊎ (bit_at n i ≡ 1)
-bit_two n i = by (bit_at n i) (bit_at-lt n i)
-  where
-    by : (r : ℕ) → r < 2 → (r ≡ 0) ⊎ (r ≡ 1)
-    by zero l = inl refl
-    by (suc zero) l = inr refl
-    by (suc (suc r)) l = absurd (omega (arith, l))
+bit_two n i = grind (arith, bit_at-lt)
 
 module _ (k : Key) (g : OpenGroup) (last : ℕ) (small : last < most_frames) (fits : g.mask < 2 ^ 32) where
   abbrev pub h : List Frame

@@ -35,11 +35,7 @@ pub parsed_some : (bs : List ℕ) (d : Data) → IsUtf8 bs → read bs ≡ Some 
 parsed_some bs d text is = ap (or_cause NotJson) (parsed_by bs true (is_utf8-from_IsUtf8 bs text) ∙ is)
 
 pub parsed_none : (bs : List ℕ) → (IsUtf8 bs → read bs ≡ None) → or_cause NotJson (parsed bs) ≡ Err NotJson
-parsed_none bs none = ap (or_cause NotJson) (by (is_utf8 bs) refl)
-  where
-    by : (b : Bool) → is_utf8 bs ≡ b → parsed bs ≡ None
-    by true e = parsed_by bs true e ∙ none (IsUtf8-from_is_utf8 bs e)
-    by false e = parsed_by bs false e
+parsed_none bs none = grind (arith, parsed_by, IsUtf8-from_is_utf8)
 
 pub untrue : (b : Bool) → b ≡ false → IsTrue b → ⊥
 untrue true e h = cc
@@ -128,15 +124,7 @@ module _ (kind : ℕ → Option Kind) (id : List ℕ) (w : Window) (c : Counts) 
   valid_groups is_true = valid_by ∙ ap (λ b. b && groups_hold kind gs) is_true
 
   pub groups_broken : (fault : StateFault) → r ≡ true → valid_if (groups_hold kind gs) gs ≡ Err fault → valid_if (is_valid kind spelled) spelled ≡ Err fault
-  groups_broken fault is_true broken = ap (λ b. valid_if b spelled) (valid_groups is_true) ∙ by (groups_hold kind gs) broken
-    where
-      map_fault : Result (List Group) StateFault → Result State StateFault
-      map_fault (Ok x) = Err Invalid
-      map_fault (Err f) = Err f
-
-      by : (b : Bool) → valid_if b gs ≡ Err fault → valid_if b spelled ≡ Err fault
-      by true h = cc
-      by false h = ap map_fault h
+  groups_broken fault is_true broken = grind (arith, valid_groups)
 
   module _ (stored : List Group) (held : ℕ) (is_true : r ≡ true) (holds : valid_if (groups_hold kind gs) gs ≡ Ok stored) (len : held ≡ length stored) where
     abbrev reached : State

@@ -19,11 +19,7 @@ use Rattle.std.proofs.Math.Bool.{and-true}
 -- a number that the pieces have carries the bytes of that piece
 pub carried_pieces : (x : Sending) (fs : List Frame) (n : ℕ) → AllByRecursion (IsPieceOf x) fs → has_number n fs ≡ true → carried fs n ≡ Some (piece_bytes x.message.payload n)
 carried_pieces x [] n pieces has = absurd (false≢true has)
-carried_pieces x (f ∷ fs) n pieces has = by_test (f.number == n) refl has (carried_pieces x fs n pieces.1)
-  where
-    by_test : (b : Bool) → (f.number == n) ≡ b → is_some (if b then Some f.bytes else carried fs n) ≡ true → (is_some (carried fs n) ≡ true → carried fs n ≡ Some (piece_bytes x.message.payload n)) → (if b then Some f.bytes else carried fs n) ≡ Some (piece_bytes x.message.payload n)
-    by_test true e h ih = ap Some ((piece_says x f pieces.0).bytes ∙ ap (piece_bytes x.message.payload) (eqb-true f.number n e))
-    by_test false e h ih = ih h
+carried_pieces x (f ∷ fs) n pieces has = grind (arith, carried_pieces x fs n pieces.1, piece_says, eqb-true)
 
 pieces_below : (x : Sending) (fs : List Frame) → AllByRecursion (IsPieceOf x) fs → AllByRecursion (λ (f : Frame). f.number < last_piece x.message + 1) fs
 pieces_below x fs pieces =

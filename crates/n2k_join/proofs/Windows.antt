@@ -62,14 +62,7 @@ waits-before w line g e = let l : line + 1 < g.first + w.lines = ltb-true _ _ e 
 pub waiting-later : (w : Window) (n : ℕ) (gs : List Group) → waiting w (n + 1) (waiting w n gs) ≡ waiting w (n + 1) gs
 unfolding waiting
 waiting-later w n [] = refl
-waiting-later w n (g ∷ gs) = by (is_waiting w n g) refl (is_waiting w (n + 1) g) refl (waiting-later w n gs)
-  where
-    by : (b : Bool) → is_waiting w n g ≡ b → (c : Bool) → is_waiting w (n + 1) g ≡ c → waiting w (n + 1) (waiting w n gs) ≡ waiting w (n + 1) gs
-        → filter (is_waiting w (n + 1)) (cond b (g ∷ filter (is_waiting w n) gs) (filter (is_waiting w n) gs)) ≡ cond c (g ∷ filter (is_waiting w (n + 1)) gs) (filter (is_waiting w (n + 1)) gs)
-    by true e true f rest = ap (λ t. cond t (g ∷ filter (is_waiting w (n + 1)) (filter (is_waiting w n) gs)) (filter (is_waiting w (n + 1)) (filter (is_waiting w n) gs))) f ∙ ap (λ hs. g ∷ hs) rest
-    by true e false f rest = ap (λ t. cond t (g ∷ filter (is_waiting w (n + 1)) (filter (is_waiting w n) gs)) (filter (is_waiting w (n + 1)) (filter (is_waiting w n) gs))) f ∙ rest
-    by false e true f rest = absurd (let l : n + 1 < g.first + w.lines = ltb-true _ _ f in let m : g.first + w.lines ≤ n = ltb-false _ _ e in omega (arith, l, m))
-    by false e false f rest = rest
+waiting-later w n (g ∷ gs) = grind (arith, waiting-later w n gs, ltb-true, ltb-false)
 
 -- groups that begin later than one that waits wait
 pub later-wait : (w : Window) (line least : ℕ) (gs : List Group) → Rise (λ (g : Group). g.first) least gs → line < least + w.lines → ended w line gs ≡ []
@@ -92,32 +85,11 @@ all-waiting w line gs = all-passed (is_waiting w line) gs
 
 -- a group that goes on keeps its first line
 taken-first : (ends : EndTest) (x : Frame) (g h : Group) → taken ends x g ≡ Some h → h.first ≡ g.first
-taken-first ends x g h e = by (same_key x.key g.key) (ends (held_of g) x) (complete (held_of g ++ x ∷ [])) e
-  where
-    by : (a b c : Bool) → cond a (cond b None (cond c None (Some (with_frame g x)))) (Some g) ≡ Some h → h.first ≡ g.first
-    by true true c e = absurd (none-some h e)
-    by true false true e = absurd (none-some h e)
-    by true false false e = ap first_of (sym (same_Some (with_frame g x) h e))
-    by false b c e = ap first_of (sym (same_Some g h e))
+taken-first ends x g h e = grind (arith, with_frame, none-some, first_of)
 
 waiting-taken : (ends : EndTest) (w : Window) (line : ℕ) (x : Frame) (gs : List Group) → filter (is_waiting w line) (filter_map (taken ends x) gs) ≡ filter_map (taken ends x) (filter (is_waiting w line) gs)
 waiting-taken ends w line x [] = refl
-waiting-taken ends w line x (g ∷ gs) = by (taken ends x g) refl (is_waiting w line g) refl (waiting-taken ends w line x gs)
-  where
-    rest : List Group
-    rest = filter_map (taken ends x) gs
-
-    by : (o : Option Group) → taken ends x g ≡ o → (b : Bool) → is_waiting w line g ≡ b → filter (is_waiting w line) (filter_map (taken ends x) gs) ≡ filter_map (taken ends x) (filter (is_waiting w line) gs)
-        → filter (is_waiting w line) (cons_option o (filter_map (taken ends x) gs)) ≡ filter_map (taken ends x) (cond b (g ∷ filter (is_waiting w line) gs) (filter (is_waiting w line) gs))
-    by None e true f same = same ∙ sym (ap (λ o. cons_option o (filter_map (taken ends x) (filter (is_waiting w line) gs))) e)
-    by None e false f same = same
-    by (Some h) e b f same =
-        ap (λ t. cond t (h ∷ filter (is_waiting w line) (filter_map (taken ends x) gs)) (filter (is_waiting w line) (filter_map (taken ends x) gs))) (ap (λ n. nat_lt line (n + w.lines)) (taken-first ends x g h e) ∙ f)
-        ∙ by_test b
-      where
-        by_test : (b : Bool) → cond b (h ∷ filter (is_waiting w line) (filter_map (taken ends x) gs)) (filter (is_waiting w line) (filter_map (taken ends x) gs)) ≡ filter_map (taken ends x) (cond b (g ∷ filter (is_waiting w line) gs) (filter (is_waiting w line) gs))
-        by_test true = ap (λ hs. h ∷ hs) same ∙ sym (ap (λ o. cons_option o (filter_map (taken ends x) (filter (is_waiting w line) gs))) e)
-        by_test false = same
+waiting-taken ends w line x (g ∷ gs) = grind (arith, waiting-taken ends w line x gs, taken-first)
 
 -- a frame at the line at which a group's window has ended ends it
 pub ended-ends : (w : Window) (x : Frame) (g : Group) → IsOpen g → is_waiting w x.line g ≡ false → within w (held_of g) x ≡ true
@@ -135,18 +107,7 @@ waits-ends w x g is e =
 
 -- what the code asks of a group of an earlier line
 pub misfits-rejects : (w : Window) (x : Frame) (g : Group) → IsOpen g → g.first < x.line → misfits w (held_of g) x ≡ rejects w.in_order x.number g
-misfits-rejects w x g is l = by w.in_order
-  where
-    later : nat_lt (first (held_of g)) x.line ≡ true
-    later = let at : first (held_of g) ≡ g.first = first-held g g.pieces is.nonempty in lt-ltb (first (held_of g)) x.line (omega (arith, at, l))
-
-    own : (b : Bool) → has_number x.number (held_of g) ≡ b → (b || has_from x.number (held_of g)) ≡ has_from x.number (held_of g)
-    own true e = sym (has-from x.number x.number (held_of g) (omega arith) e)
-    own false e = refl
-
-    by : (b : Bool) → (repeats (held_of g) x || (b && falls_back (held_of g) x)) ≡ cond b (has_from x.number (held_of g)) (has_number x.number (held_of g))
-    by true = ap (λ t. repeats (held_of g) x || (t && has_from x.number (held_of g))) later ∙ own (has_number x.number (held_of g)) refl
-    by false = or-false (repeats (held_of g) x)
+misfits-rejects w x g is l = grind (arith, first-held, lt-ltb, has-from, or-false)
 
 -- What tells a group whose window has ended from none as little, finds the same group of a key among those that wait.
 pub key-waiting : {X : Type 0} (w : Window) (x : Frame) (F : Option Group → X)
@@ -183,19 +144,7 @@ opened-waiting w x =
 
 -- a group that a frame opens waits
 begun-waits : (ends : EndTest) (w : Window) (x : Frame) (o : Option Group) → 0 < w.lines → filter (is_waiting w x.line) (option_to_list (opened ends x o)) ≡ option_to_list (opened ends x o)
-begun-waits ends w x o some = by o
-  where
-    alone : (b : Bool) → filter (is_waiting w x.line) (option_to_list (cond b None (Some (group_of x.key (x ∷ []))))) ≡ option_to_list (cond b None (Some (group_of x.key (x ∷ []))))
-    alone true = refl
-    alone false = ap (λ t. cond t (group_of x.key (x ∷ []) ∷ []) []) (lt-ltb x.line (x.line + w.lines) (omega (arith, some)))
-
-    by_test : (g : Group) (b : Bool) → filter (is_waiting w x.line) (option_to_list (cond b (started x) None)) ≡ option_to_list (cond b (started x) None)
-    by_test g true = alone (complete (x ∷ []))
-    by_test g false = refl
-
-    by : (o : Option Group) → filter (is_waiting w x.line) (option_to_list (opened ends x o)) ≡ option_to_list (opened ends x o)
-    by None = alone (complete (x ∷ []))
-    by (Some g) = by_test g (ends (held_of g) x)
+begun-waits ends w x o some = grind (arith, lt-ltb)
 
 -- The groups whose window ends at the frame's line go, and then the frame is taken.
 pub advanced-waiting : (w : Window) (x : Frame) (gs : List Group) → 0 < w.lines → AllByRecursion IsOpen gs → AreApart gs → waiting w x.line (advanced (within w) gs x) ≡ advanced (within w) (waiting w x.line gs) x

@@ -1,6 +1,7 @@
 -- Words that only private clauses, invariants and proofs of this crate use.
 pub mod Apart
-pub mod Queue
+pub mod Order
+pub mod Places
 pub mod SavedTokens
 pub mod Slots
 pub mod Stored

@@ -1,10 +1,12 @@
 -- What a line answers, as the definitions see it.
-use Rattle.std.specs.Prelude.{◌≡◌, ◌≤◌, ◌<◌, ◌↔◌, ℕ, ◌+◌, ◌-◌, ◌==◌, Bool, true, false, not, if◌then◌else◌, List, drop}
+use Rattle.std.specs.Prelude.{◌≡◌, ◌≤◌, ◌<◌, ◌↔◌, ℕ, ◌+◌, ◌-◌, ◌==◌, is_some, Bool, true, false, not, if◌then◌else◌, List, drop}
 use Rattle.std.specs.Prelude.{length, slice_get, Option, Some, None, option_map, option_to_list, Result, IfOk, OnOk}
 use Rattle.std.specs.Prelude.{OnErr, IsErrOf}
 use Rattle.std.specs.List.{list_any}
 use Rattle.n2k_wire.specs.Packet.{PacketParts}
 use Rattle.n2k_wire.specs.declared.entry.Entry.{Entry}
+use Rattle.n2k_wire.specs.declared.entry.Entry.TheVariants as entries
+use Rattle.n2k_table.specs.Table.{KnownParts, TableParts}
 use Rattle.n2k_table.specs.declared.definition.Kind.{Kind}
 use Rattle.n2k_join.specs.declared.fault.JoinFault.{JoinFault}
 use Rattle.n2k_join.specs.declared.fault.JoinFault.TheVariants.{Memory, TooManyLines}
@@ -19,9 +21,26 @@ use Rattle.n2k_join.specs.Counts.{most_lines}
 abbrev pub given_of : Step → Given
 given_of step = record { message = step.message; cause = step.bad; broken = option_to_list step.broken }
 
--- the step of a line, without its number
-abbrev pub step_in : LentStep → Step
-step_in step = record { message = option_map (λ m. m.packet.now) step.message; bad = step.bad; broken = step.broken }
+-- the packet of an entry, if it has one
+abbrev pub packet_in : Entry → Option PacketParts
+packet_in entries.Skip = None
+packet_in (entries.Bad cause) = None
+packet_in (entries.Frame packet) = Some packet
+packet_in (entries.Whole packet) = Some packet
+
+-- the packet of a line as its message, where it is one
+abbrev pub message_in : Bool → Option PacketParts → Option PacketParts
+message_in is_message own = if is_message then own else None
+
+-- a message that an entry now has, and what its table has of its PGN
+abbrev pub IsOwn : TableParts → Option KnownParts → Option PacketParts → Type 0
+IsOwn t None own = Unit {0}
+IsOwn t (Some known) None = ⊥
+IsOwn t (Some known) (Some packet) = known ≡ record { table = t; pgn = packet.id.pgn }
+
+-- the step of a line that left this entry, without its number
+abbrev pub step_in : Entry → LentStep → Step
+step_in e step = record { message = message_in (is_some step.message) (packet_in e); bad = step.bad; broken = step.broken }
 
 abbrev pub opens_by : List Group → Option Frame → Bool
 opens_by groups None = false

@@ -6,10 +6,10 @@ ghost use Rattle.n2k_table.specs.Table.{kind};
 ghost use Rattle.n2k_join.specs.Frames.{frame_in, frame_by, fast_frame};
 ghost use Rattle.n2k_join.specs.Messages.{is_unknown, alone, cause_in, single_by, fast_cause};
 ghost use Rattle.n2k_join.specs.State.{IsOpen, AreApart};
-ghost use Rattle.n2k_join.specs.Step.{opens_by};
+ghost use Rattle.n2k_join.specs.Step.{opens_by, packet_in, IsOwn};
 ghost use Rattle.n2k_join.specs.Inner.Stored.{gives_by, leaves_by};
-ghost use Rattle.n2k_join.specs.Inner.Queue.{listed, IsKept};
-ghost use Rattle.n2k_join.specs.Inner.Taken.{given_of_taken, packet_in, IsOwn};
+ghost use Rattle.n2k_join.specs.Inner.Order.{listed, IsKept};
+ghost use Rattle.n2k_join.specs.Inner.Taken.{given_of_taken};
 
 use crate::frame::fast_frame;
 use crate::frame_taking::take_frame;
@@ -84,7 +84,7 @@ pub(crate) fn packet_of(entry: Entry) -> Option<Packet>
     }
 }
 
-/// Takes a frame of a fast PGN into the open groups, and lets go of openings where few of them are of open groups.
+/// Takes a frame of a fast PGN into the open groups.
 #[tactic(auto, unfolding(crate::specs::Frames::fast_frame))]
 fn take_fast<'t>(
     in_order: bool,
@@ -114,7 +114,6 @@ fn take_fast<'t>(
         return Ok(Taken::bad_line(BadCause::Fast));
     };
     let (is_message, broken) = take_frame(in_order, groups, line, &frame, packet)?;
-    groups.trim();
     let message = if is_message { Some(known) } else { None };
     Ok(Taken {
         broken,

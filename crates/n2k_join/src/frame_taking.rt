@@ -4,10 +4,10 @@ ghost use Rattle.std.specs.List.{AllByRecursion};
 ghost use Rattle.n2k_join.specs.Frames.{same_key};
 ghost use Rattle.n2k_join.specs.State.{IsOpen, AreApart};
 ghost use Rattle.n2k_join.specs.Inner.Stored.{rejects, key_of, frame_of, of_the_key, groups_after, gained, lost};
-ghost use Rattle.n2k_join.specs.Inner.Queue.{found, StandsAt, listed, IsKept};
-ghost use Rattle.n2k_join.specs.Inner.Taken.{message_in};
+ghost use Rattle.n2k_join.specs.Inner.Order.{found, StandsAt, listed, IsKept};
+ghost use Rattle.n2k_join.specs.Step.{message_in};
 
-use crate::open_groups::{OpenGroups, Opening, make_place, push};
+use crate::open_groups::OpenGroups;
 use crate::piece::{FastFrame, FrameKey, OpenGroup};
 use crate::step::Broken;
 use n2k_wire::Packet;
@@ -77,9 +77,10 @@ fn join_at(
         ≡ groups_after in_order (listed groups.old) (frame_of line packet.old frame.now) }
     ensures kept { IsKept (line + 1) groups.new }
 {
-    let Some(group) = groups.groups.get_index_mut(at) else {
+    let Some(linked) = groups.groups.get_index_mut(at) else {
         unreachable!()
     };
+    let group = &mut linked.group;
     group.take(frame.piece);
     if group.is_complete() {
         group.write_message(packet);
@@ -114,24 +115,14 @@ fn reopen_at(
         ≡ groups_after in_order (listed groups.old) (frame_of line packet.old frame.now) }
     ensures kept { IsKept (line + 1) groups.new }
 {
-    make_place(&groups.groups, &mut groups.openings);
-    let Some(group) = groups.groups.get_index_mut(at) else {
-        unreachable!()
-    };
-    let broken = Some(group.broken(&frame.key));
+    let broken = Some(groups.groups[at].group.broken(&frame.key));
     let fresh = OpenGroup::open(line, frame);
     if fresh.is_complete() {
         fresh.write_message(packet);
         groups.remove_at(at);
         return (true, broken);
     }
-    *group = fresh;
-    let opening = Opening {
-        first: line,
-        key: frame.key,
-        at,
-    };
-    push(&mut groups.openings, opening);
+    groups.replace_at(at, fresh);
     (false, broken)
 }
 
@@ -165,7 +156,10 @@ pub(crate) fn take_frame(
         let is_message = open_last(in_order, groups, line, frame, packet)?;
         return Ok((is_message, None));
     };
-    if groups.groups[at].rejects(in_order, frame.piece.number) {
+    if groups.groups[at]
+        .group
+        .rejects(in_order, frame.piece.number)
+    {
         return Ok(reopen_at(in_order, groups, at, line, frame, packet));
     }
     let is_message = join_at(in_order, groups, at, line, frame, packet);

@@ -1,7 +1,7 @@
 //! The join: the open groups and the counts of a log, taken on line by line.
 ghost use Rattle.std.specs.Prelude.{◌≡◌, ◌+◌, ◌*◌, ◌≤◌, ◌<◌, ◌↔◌, ℕ, [], length, IfOk, IfSome, OnOk, OnErr, IsErrOf, IsSome, IsNone, Ok, Option, None, Some, true, is_some, option_map};
 ghost use Rattle.n2k_table.specs.declared.definition.Kind.{Kind};
-ghost use Rattle.n2k_table.specs.Table.{kind, TableParts};
+ghost use Rattle.n2k_table.specs.Table.{kind};
 ghost use Rattle.n2k_wire.specs.declared.entry.Entry.{Entry};
 ghost use Rattle.n2k_wire.specs.Entry.{IsShort, IsEntry};
 ghost use Rattle.n2k_wire.specs.Packet.{IsPacket, IsPacketParts};
@@ -12,12 +12,12 @@ ghost use Rattle.n2k_join.specs.State.{state, step_given, step_after, AreCounts,
 ghost use Rattle.n2k_join.specs.Refusal.{GivesOrMemory};
 ghost use Rattle.n2k_join.specs.Resumed.{is_valid, resumed, state_of_parts, valid_if};
 ghost use Rattle.n2k_join.specs.Saved.{IsId, state_text, bare_bytes, group_bytes};
-ghost use Rattle.n2k_join.specs.Step.{given_of, step_in, opens, due, expired, TakesLine};
+ghost use Rattle.n2k_join.specs.Step.{given_of, packet_in, step_in, opens, due, expired, IsOwn, TakesLine};
 ghost use Rattle.n2k_join.specs.Laws.{ExpiresFirst};
-ghost use Rattle.n2k_join.specs.Inner.Taken.{given_of_taken, message_in, packet_in, IsOwn};
+ghost use Rattle.n2k_join.specs.Inner.Taken.{given_of_taken};
 
 use crate::counts::{Counts, MOST_LINES};
-use crate::entry_taking::{Taken, packet_in, packet_of, take_entry};
+use crate::entry_taking::{Taken, packet_of, take_entry};
 use crate::fault::{JoinFault, StateFault};
 use crate::laws;
 use crate::open_groups::OpenGroups;
@@ -25,9 +25,9 @@ use crate::saved::{
     SpelledGroup, SpelledState, format_in, parsed, read_state, rules_hold, state_text,
     stored_groups, waits_hold, written_parts,
 };
-use crate::step::{Broken, LentStep, Step, TableMessage};
+use crate::step::{Broken, LentStep, Step};
 use crate::window::Window;
-use n2k_table::{KnownPgn, Table};
+use n2k_table::Table;
 use n2k_wire::{Entry, Id, Packet};
 use std::alloc::{AllocError, Global};
 use std::marker::Model;
@@ -43,7 +43,7 @@ pub struct Join {
 }
 
 impl Model for Join {
-    ghost use Rattle.n2k_join.specs.Inner.Queue.{listed, IsKept};
+    ghost use Rattle.n2k_join.specs.Inner.Order.{listed, IsKept};
     ghost use Rattle.std.specs.Prelude.{◌+◌};
     ghost use Rattle.n2k_join.specs.State.{State, IsState};
 
@@ -118,17 +118,6 @@ fn count_line(taken: &Taken<'_>, held: usize, counts: &mut Counts)
     count_if(taken.bad.is_some(), &mut counts.bad);
     count_if(taken.is_unknown, &mut counts.unknown);
     count_if(taken.broken.is_some(), &mut counts.broken);
-}
-
-/// The message that an entry has, where its PGN has been found.
-fn lent<'a>(found: Option<KnownPgn<'a>>, entry: &'a Entry) -> Option<TableMessage<'a>>
-    ensures message { option_map (λ m. m.packet.now) result ≡ message_in (is_some found.entry) (packet_in entry.now) }
-    ensures pgn { (t : TableParts) → IsOwn t found.entry (packet_in entry.now)
-        → IfSome result (λ m. m.pgn ≡ record { table = t; pgn = m.packet.now.id.pgn }) }
-{
-    let pgn = found?;
-    let packet = packet_in(entry)?;
-    Some(TableMessage { packet, pgn })
 }
 
 impl Join {
@@ -276,9 +265,8 @@ impl Join {
         })
     }
 
-    /// Takes the next line as `line` does, as an entry that stays where it is, and lends the message from it: where a
-    /// group is complete, the entry's packet becomes its message. After a refusal the join is as it was, and so is the
-    /// entry, which the clause of `take` alone can say: the logic has no value of what a call may have lent.
+    /// Takes the next line as `line` does, as an entry that stays where it is and has the message: where a group is
+    /// complete, the entry's packet becomes its message. After a refusal the join is as it was, and so is the entry.
     ///
     /// ```rust
     /// let table = sample_table(alloc)?;
@@ -287,21 +275,21 @@ impl Join {
     /// let mut entry = read_line("(1.0) can0 09F8027F#0500".as_bytes(), Packing::Frames);
     /// let step = join.lend(&table, &mut entry)?;
     /// assert_eq!(rt; step.line, 1);
-    /// let message = step.message.ok_or("a message")?;
+    /// let message = message_of(step.message, &entry).ok_or("a message")?;
     /// assert_eq!(rt; message.packet.id().pgn, 129026);
     /// ```
-    pub fn lend<'a>(
+    pub fn lend<'t>(
         &mut self,
-        table: &'a Table,
-        entry: &'a mut Entry,
-    ) -> Result<LentStep<'a>, JoinFault>
+        table: &'t Table,
+        entry: &mut Entry,
+    ) -> Result<LentStep<'t>, JoinFault>
         requires short { IsShort entry.old }
         requires expired { due self.old ≡ None }
-        ensures takes { TakesLine (λ step. given_of (step_in step))
+        ensures takes { TakesLine (λ step. given_of (step_in entry.new step))
             (kind table.now) self.old self.new entry.old result }
         ensures line { IfOk result (λ step. step.line ≡ self.new.counts.lines) }
-        ensures pgn { IfOk result (λ step. IfSome step.message
-            (λ m. m.pgn ≡ record { table = table.now; pgn = m.packet.now.id.pgn })) }
+        ensures own { IfOk result (λ step. IsOwn table.now step.message (packet_in entry.new)) }
+        ensures entry { OnErr result (entry.new ≡ entry.old) }
     {
         let Taken {
             message,
@@ -311,7 +299,7 @@ impl Join {
         } = self.take(table, entry)?;
         Ok(LentStep {
             line: self.counts.lines,
-            message: lent(message, entry),
+            message,
             bad,
             broken,
         })

@@ -20,7 +20,7 @@
 //!   ends at it, one a call. `Join::line` then takes the line, as its entry: it answers the message that the line is or
 //!   completes, why it is bad, and the group that its frame breaks (`Step`, `Broken`). A line that can't be taken
 //!   (`JoinFault`) leaves the join as it was. For the lines of a log, one after the other, use `Join::lend`: it answers
-//!   the same, and lends the message (`LentStep`) where `line` moves it.
+//!   the same, and leaves the message in the entry (`LentStep`, `message_of`) where `line` moves it.
 //! - `Join::counts` are the lines, messages, bad lines, unknown PGNs, broken and open groups so far (`Counts`).
 //! - `Join::save` writes the state of a join as text, and `Join::resume` goes on from one, or says why it is refused
 //!   (`StateFault`).
@@ -58,6 +58,6 @@ pub use counts::{Counts, MOST_LINES};
 pub use fault::{JoinFault, SplitFault, StateFault};
 pub use join::Join;
 pub use splitter::{Frames, Splitter};
-pub use step::{Broken, LentStep, Step, TableMessage};
+pub use step::{Broken, LentStep, Step, TableMessage, message_of};
 pub use stream::Stream;
 pub use window::Window;

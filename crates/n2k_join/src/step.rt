@@ -1,7 +1,12 @@
 //! What a line gives: a message, a cause, a broken group.
 
+ghost use Rattle.std.specs.Prelude.{◌≡◌, IfSome, is_some, option_map};
+ghost use Rattle.n2k_table.specs.Table.{TableParts};
+ghost use Rattle.n2k_join.specs.Step.{message_in, packet_in, IsOwn};
+
+use crate::entry_taking::packet_in;
 use n2k_table::KnownPgn;
-use n2k_wire::{BadCause, Packet};
+use n2k_wire::{BadCause, Entry, Packet};
 
 /// What a line gives. A line that gives nothing is counted.
 #[derive(Drop)]
@@ -23,17 +28,40 @@ pub struct TableMessage<'a> {
     pub pgn: KnownPgn<'a>,
 }
 
-/// What a line gives, by its number.
+/// What a line gives, by its number. Its entry has the message.
 #[derive(Drop)]
-pub struct LentStep<'a> {
+pub struct LentStep<'t> {
     /// The number of the line, counted from 1.
     pub line: u64,
-    /// The message that it is or completes.
-    pub message: Option<TableMessage<'a>>,
+    /// The PGN of the message that it is or completes, looked up in the table.
+    pub message: Option<KnownPgn<'t>>,
     /// Why it is bad.
     pub bad: Option<BadCause>,
     /// The group that its frame breaks.
     pub broken: Option<Broken>,
+}
+
+/// The message that the entry of a line now has, where its PGN was found.
+///
+/// ```rust
+/// let table = sample_table(alloc)?;
+/// let mut join = Join::new(alloc, &table, Window::new(10_000).unwrap());
+/// assert_eq!(rt; join.expire(), None);
+/// let mut entry = read_line("(1.0) can0 09F8027F#0500".as_bytes(), Packing::Frames);
+/// let step = join.lend(&table, &mut entry)?;
+/// assert_eq!(rt; step.line, 1);
+/// let message = message_of(step.message, &entry).ok_or("a message")?;
+/// assert_eq!(rt; message.packet.id().pgn, 129026);
+/// ```
+#[inline(always)]
+pub fn message_of<'a>(found: Option<KnownPgn<'a>>, entry: &'a Entry) -> Option<TableMessage<'a>>
+    ensures message { option_map (λ m. m.packet.now) result ≡ message_in (is_some found.entry) (packet_in entry.now) }
+    ensures pgn { (t : TableParts) → IsOwn t found.entry (packet_in entry.now)
+        → IfSome result (λ m. m.pgn ≡ record { table = t; pgn = m.packet.now.id.pgn }) }
+{
+    let pgn = found?;
+    let packet = packet_in(entry)?;
+    Some(TableMessage { packet, pgn })
 }
 
 /// A group of frames that ended without a message: one of its frame numbers came again, its window ended, or, in

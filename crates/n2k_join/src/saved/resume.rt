@@ -13,7 +13,7 @@ ghost use Rattle.n2k_wire.specs.Views.{Gives};
 ghost use Rattle.n2k_join.specs.State.{IsKey, IsPiece, HasParts};
 ghost use Rattle.std.specs.List.{AllByRecursion};
 ghost use Rattle.n2k_join.specs.Inner.Stored.{key_of};
-ghost use Rattle.n2k_join.specs.Inner.Queue.{listed, IsKept};
+ghost use Rattle.n2k_join.specs.Inner.Order.{listed, IsKept};
 ghost use Rattle.n2k_join.specs.Inner.Slots.{group_in, group_at};
 
 use crate::fault::StateFault;

@@ -1,5 +1,5 @@
 //! The text of a saved state.
-ghost use Rattle.std.specs.Prelude.{◌≡◌, ◌*◌, ◌<◌, ◌≤◌, [], ◌∷◌, IfOk, IfSome, option_to_list};
+ghost use Rattle.std.specs.Prelude.{◌≡◌, ℕ, ◌*◌, ◌<◌, ◌≤◌, [], ◌∷◌, IfOk, IfSome};
 ghost use Rattle.hex.specs.Hex.{encode_lower};
 ghost use Rattle.json.specs.Token.{Token};
 ghost use Rattle.n2k_join.specs.Frames.{most_frames};
@@ -10,12 +10,12 @@ ghost use Rattle.std.specs.List.{list_all};
 ghost use Rattle.n2k_join.specs.Open.{is_waiting};
 ghost use Rattle.n2k_join.specs.Inner.Stored.{key_of};
 ghost use Rattle.n2k_join.specs.Inner.Slots.{slot_of, pieces_in, group_in};
-ghost use Rattle.n2k_join.specs.Inner.Queue.{live, listed};
+ghost use Rattle.n2k_join.specs.Inner.Order.{listed, IsKept};
 ghost use Rattle.std.specs.Str.{IsUtf8};
 
 use crate::counts::Counts;
 use crate::frame::MOST_FRAMES;
-use crate::open_groups::{OpenGroups, Opening, live_group};
+use crate::open_groups::OpenGroups;
 use crate::piece::{FrameKey, OpenGroup};
 use crate::saved::{OLD_FORMAT, SAVED_FORMAT};
 use crate::window::{Window, is_waiting};
@@ -119,23 +119,17 @@ fn push_group(key: &FrameKey, group: &OpenGroup, out: &mut Writer) -> Result<(),
     Ok(())
 }
 
-/// Writes the group that an opening began, while it is open.
-fn push_live(groups: &OpenGroups, opening: &Opening, out: &mut Writer) -> Result<(), AllocError>
-    ensures { AppendsTokens result out.old out.new
-        (groups_tokens (option_to_list (live groups.now.groups.entries opening.now))) }
-{
-    match live_group(&groups.groups, opening) {
-        Some(group) => push_group(&opening.key, group, out),
-        None => Ok(()),
-    }
-}
-
 /// Writes the open groups as a member.
 fn push_groups(groups: &OpenGroups, out: &mut Writer) -> Result<(), AllocError>
     ensures { AppendsTokens result out.old out.new (groups_tokens (listed groups.now)) }
 {
-    for opening in groups.openings.iter() {
-        push_live(groups, opening, out)?;
+    let mut at = groups.first;
+    for _written in 0..groups.groups.len() {
+        let Some((key, linked)) = groups.groups.get_index(at) else {
+            return Ok(());
+        };
+        push_group(key, &linked.group, out)?;
+        at = linked.behind;
     }
     Ok(())
 }
@@ -209,24 +203,15 @@ fn push_back(
     Ok(())
 }
 
-/// Whether the window of the group that an opening began has not ended, while it is open.
-fn is_live_waiting(window: Window, lines: u64, groups: &OpenGroups, opening: &Opening) -> bool
-    ensures { result ≡ list_all (is_waiting window lines) (option_to_list (live groups.now.groups.entries opening.now)) }
-{
-    match live_group(&groups.groups, opening) {
-        Some(group) => is_waiting(group.first, u64::from(window.get()), lines),
-        None => true,
-    }
-}
-
 /// Whether no group's window has ended.
 fn are_waiting(window: Window, lines: u64, groups: &OpenGroups) -> bool
+    requires { (next : ℕ) × IsKept next groups.now }
     ensures { result ≡ list_all (is_waiting window lines) (listed groups.now) }
 {
-    groups
-        .openings
-        .iter()
-        .all(|opening| is_live_waiting(window, lines, groups, opening))
+    match groups.groups.get_index(groups.first) {
+        Some((_, linked)) => is_waiting(linked.group.first, u64::from(window.get()), lines),
+        None => true,
+    }
 }
 
 /// Writes a state: with its window, where no group's has ended.
@@ -237,6 +222,7 @@ fn push_state(
     groups: &OpenGroups,
     out: &mut Writer,
 ) -> Result<(), AllocError>
+    requires { (next : ℕ) × IsKept next groups.now }
     ensures { AppendsTokens result out.old out.new (tokens_of (state_tree (record {
       id = id.now;
       window = window;
@@ -261,6 +247,7 @@ pub(crate) fn state_text(
     counts: &Counts,
     groups: &OpenGroups,
 ) -> Result<Vec<u8>, AllocError>
+    requires { (next : ℕ) × IsKept next groups.now }
     ensures id { IsId id.now }
     ensures text { IfOk result (λ text. text.items ≡ state_text (record {
       id = id.now;

@@ -1,4 +1,4 @@
-use Rattle.std.proofs.Common.{◌≡◌, ◌+◌, ◌∙◌, ◌++◌, [], ◌∷◌, sym, ap, subst, cond, Some, None, option_map, arith}
+use Rattle.std.proofs.Common.{◌≡◌, ◌+◌, ◌∙◌, ◌++◌, [], ◌∷◌, sym, ap, subst, cond, Some, None, arith}
 use Rattle.std.proofs.lemmas.List.{append-nil}
 use Rattle.n2k_join.specs.Frames.{Frame}
 use Rattle.n2k_join.specs.Open.{Group}
@@ -6,11 +6,11 @@ use Rattle.n2k_join.specs.Groups.{data_of}
 use Rattle.n2k_join.specs.State.{held_of}
 use Rattle.n2k_join.specs.Inner.Stored.{key_of, frame_of, gained}
 use Rattle.n2k_join.specs.Inner.Slots.{group_in}
-use Rattle.n2k_join.specs.Inner.Queue.{listed, IsKept}
-use Rattle.std.specs.VecDeque.{deque_capacity}
+use Rattle.n2k_join.specs.Inner.Order.{places, listed, IsKept}
 use Rattle.n2k_join.proofs.JoinLemmas.{message-begun, groups-begun, on_err}
-use Rattle.n2k_join.proofs.Queue.{key-found, kept-later}
-use Rattle.n2k_join.proofs.QueueFrames.{none-after}
+use Rattle.n2k_join.proofs.Order.{kept-later}
+use Rattle.n2k_join.proofs.Listed.{none-open}
+use Rattle.n2k_join.proofs.FrameGroups.{none-after}
 use Rattle.n2k_join.proofs.frame_taking.open_last.Goals as goal
 
 pub returns-then-is_complete-clause-message : goal.returns-then-is_complete-clause-message
@@ -18,7 +18,7 @@ returns-then-is_complete-clause-message c =
     let x : Frame = frame_of c.args.line c.args.packet.now c.args.frame.now in
     let key = key_of c.args.frame.now.key in
     let g = c.args.groups.now in
-    let none = key-found c.args.line g.groups.entries g.openings.items (deque_capacity g.openings) c.requires.kept c.args.frame.now.key ∙ ap (option_map (group_in key)) c.requires.new in
+    let none = none-open g.groups.entries c.args.frame.now.key c.requires.new (places g) in
     ap Some (c.write_message.ensures.message key)
     ∙ sym (ap (λ b. cond b (Some (record { stamp = x.stamp; id = x.id; payload = data_of (held_of (group_in key c.open-begun.result)) })) None) (sym (c.is_complete.ensures key) ∙ c.if-is_complete.true))
     ∙ message-begun x (group_in key c.open-begun.result) c.args.frame.now.piece.small (c.open-begun.ensures c.args.packet.now)
@@ -29,7 +29,7 @@ returns-then-is_complete-clause-groups c =
     let x : Frame = frame_of c.args.line c.args.packet.now c.args.frame.now in
     let key = key_of c.args.frame.now.key in
     let g = c.args.groups.now in
-    let none = key-found c.args.line g.groups.entries g.openings.items (deque_capacity g.openings) c.requires.kept c.args.frame.now.key ∙ ap (option_map (group_in key)) c.requires.new in
+    let none = none-open g.groups.entries c.args.frame.now.key c.requires.new (places g) in
     sym (append-nil (listed g))
     ∙ ap (λ gs. listed g ++ gs) (sym (ap (λ b. cond b [] (group_in key c.open-begun.result ∷ [])) (sym (c.is_complete.ensures key) ∙ c.if-is_complete.true)) ∙ groups-begun x (group_in key c.open-begun.result) c.args.frame.now.piece.small (c.open-begun.ensures c.args.packet.now))
     ∙ sym (none-after c.args.in_order x (listed g) none)
@@ -37,7 +37,7 @@ returns-then-is_complete-clause-groups c =
 pub returns-then-is_complete-clause-kept : goal.returns-then-is_complete-clause-kept
 returns-then-is_complete-clause-kept c =
     let g = c.args.groups.now in
-    kept-later c.args.line (c.args.line + 1) g.groups.entries g.openings.items (deque_capacity g.openings) (omega arith) c.requires.kept
+    kept-later c.args.line (c.args.line + 1) g (omega arith) c.requires.kept
 
 pub insert-requires-clause-kept : goal.insert-requires-clause-kept
 insert-requires-clause-kept c =
@@ -49,7 +49,7 @@ returns-clause-message c =
     let x : Frame = frame_of c.args.line c.args.packet.now c.args.frame.now in
     let key = key_of c.args.frame.now.key in
     let g = c.args.groups.now in
-    let none = key-found c.args.line g.groups.entries g.openings.items (deque_capacity g.openings) c.requires.kept c.args.frame.now.key ∙ ap (option_map (group_in key)) c.requires.new in
+    let none = none-open g.groups.entries c.args.frame.now.key c.requires.new (places g) in
     sym (ap (λ b. cond b (Some (record { stamp = x.stamp; id = x.id; payload = data_of (held_of (group_in key c.open-begun.result)) })) None) (sym (c.is_complete.ensures key) ∙ c.if-is_complete.false))
     ∙ message-begun x (group_in key c.open-begun.result) c.args.frame.now.piece.small (c.open-begun.ensures c.args.packet.now)
     ∙ sym (ap (gained c.args.in_order x) none)
@@ -59,7 +59,7 @@ returns-clause-groups c =
     let x : Frame = frame_of c.args.line c.args.packet.now c.args.frame.now in
     let key = key_of c.args.frame.now.key in
     let g = c.args.groups.now in
-    let none = key-found c.args.line g.groups.entries g.openings.items (deque_capacity g.openings) c.requires.kept c.args.frame.now.key ∙ ap (option_map (group_in key)) c.requires.new in
+    let none = none-open g.groups.entries c.args.frame.now.key c.requires.new (places g) in
     c.in_ok-insert.ensures.added
     ∙ ap (λ gs. listed g ++ gs) (sym (ap (λ b. cond b [] (group_in key c.open-begun.result ∷ [])) (sym (c.is_complete.ensures key) ∙ c.if-is_complete.false)) ∙ groups-begun x (group_in key c.open-begun.result) c.args.frame.now.piece.small (c.open-begun.ensures c.args.packet.now))
     ∙ sym (none-after c.args.in_order x (listed g) none)

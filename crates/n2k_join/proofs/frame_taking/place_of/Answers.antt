@@ -1,12 +1,12 @@
 use Rattle.std.proofs.Common.{◌∙◌, sym}
 use Rattle.n2k_join.specs.Frames.{same_key}
-use Rattle.n2k_join.proofs.QueueFrames.{places}
+use Rattle.n2k_join.proofs.Listed.{places-key}
 use Rattle.n2k_join.proofs.Rising.{none_from}
 use Rattle.n2k_join.proofs.frame_taking.place_of.Goals as goal
 
 pub returns-clause-place : goal.returns-clause-place
 unfolding same_key
-returns-clause-place c = places c.args.key.now c.args.groups.now.groups.entries c.get_index_of.result c.get_index_of.ensures.index
+returns-clause-place c = places-key c.args.key.now c.args.groups.now.groups.entries c.get_index_of.result c.get_index_of.ensures.index
 
 pub returns-clause-none : goal.returns-clause-none
 unfolding same_key

@@ -5,7 +5,7 @@ use Rattle.n2k_table.specs.declared.definition.Kind.{Kind}
 use Rattle.n2k_join.specs.Laws.{ExpiresFirst}
 use Rattle.n2k_join.specs.State.{State, IsState, AreWaiting}
 use Rattle.n2k_join.specs.Step.{due, expired}
-use Rattle.n2k_join.specs.Inner.Queue.{listed}
+use Rattle.n2k_join.specs.Inner.Order.{listed}
 use Rattle.n2k_join.proofs.Expiring.{is_due, expires_first, expires_by, expired_by, expired-state, expired-waits, some-due, fewer, due-few, told}
 use Rattle.n2k_join.proofs.join.Join.expire.Goals as goal
 

@@ -1,7 +1,7 @@
 use Rattle.std.proofs.Common.{◌≡◌, ◌+◌, length, rules}
 use Rattle.std.proofs.lemmas.Result.{err_from_is_err_and}
 use Rattle.n2k_table.specs.Table.{kind}
-use Rattle.n2k_join.specs.Inner.Queue.{listed}
+use Rattle.n2k_join.specs.Inner.Order.{listed}
 use Rattle.n2k_join.proofs.ValidStates.{rules_broken, groups_broken, all_hold, is_state}
 use Rattle.n2k_join.proofs.join.Join.from_state.Goals as goal
 

@@ -1,6 +1,6 @@
 use Rattle.std.proofs.Common.{refl, subst}
 use Rattle.std.proofs.lemmas.Result.{IfOk-weaker}
-use Rattle.n2k_join.specs.Inner.Queue.{listed}
+use Rattle.n2k_join.specs.Inner.Order.{listed}
 use Rattle.n2k_join.specs.State.{State, IsState}
 use Rattle.n2k_join.proofs.StateBound.{saved-short}
 use Rattle.n2k_join.proofs.join.Join.save.Goals as goal

@@ -5,8 +5,8 @@ use Rattle.n2k_join.specs.Counts.{most_lines}
 use Rattle.n2k_wire.specs.Packet.{PacketParts}
 use Rattle.n2k_join.specs.declared.step.Step.{Step}
 use Rattle.n2k_join.specs.State.{State, step_after, IsState, AreWaiting}
-use Rattle.n2k_join.specs.Inner.Queue.{listed, IsKept}
-use Rattle.n2k_join.specs.Inner.Taken.{packet_in, message_in}
+use Rattle.n2k_join.specs.Inner.Order.{listed, IsKept}
+use Rattle.n2k_join.specs.Step.{packet_in, message_in}
 use Rattle.n2k_join.proofs.Keeping.{step-keeps, step-waits, few-open}
 use Rattle.n2k_join.proofs.LineLemmas.{line-gives, line-leads}
 use Rattle.n2k_join.proofs.LineLemmas.{own_counted}

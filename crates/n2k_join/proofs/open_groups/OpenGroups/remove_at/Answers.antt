@@ -1,53 +1,81 @@
-use Rattle.std.proofs.Common.{◌≡◌, ℕ, zero, suc, ◌<◌, List, [], ◌∷◌, Some, None, IfSome, length, map, slice_get, swap_remove, refl, sym, subst, ◌∙◌, arith}
-use Rattle.indexmap.specs.IndexMap.{Updates}
+use Rattle.std.proofs.Common.{◌≡◌, ◌≤◌, ◌<◌, ◌⊎◌, inl, inr, suc, None, length, slice_get, refl, sym, ap, subst, ◌∙◌, arith}
+use Rattle.std.proofs.lemmas.Bool.{cases_lt}
+use Rattle.std.proofs.lemmas.Option.{none-some, slice_get_within}
 use Rattle.n2k_join.specs.declared.piece.FrameKey.{FrameKey}
-use Rattle.n2k_join.specs.declared.piece.OpenGroup.{OpenGroup}
-use Rattle.n2k_join.specs.Frames.{same_key}
-use Rattle.n2k_join.specs.Inner.Stored.{key_of}
-use Rattle.n2k_join.specs.Inner.Queue.{PlacedBy, ArePaired, told_place}
-use Rattle.n2k_join.proofs.Places.{AreDistinct, distinct, paired-refl, paired-told, placed-last, placed-moved}
+use Rattle.n2k_join.specs.declared.open_groups.Linked.{Linked}
+use Rattle.n2k_join.specs.declared.open_groups.OpenGroups.{OpenGroups}
+use Rattle.n2k_join.specs.Inner.Places.{nowhere, put}
+use Rattle.n2k_join.specs.Inner.Order.{IsPlace, behind_of, before_of, AreRelinked}
+use Rattle.n2k_join.proofs.Order.{beside-at, beside-moved, removed-left, ended-last, moved-places, gone-last, gone-moved, both-told}
+use Rattle.n2k_join.proofs.Listed.{place-split}
 use Rattle.n2k_join.proofs.open_groups.OpenGroups.remove_at.Goals as goal
 
-there : {X : Type 0} (xs : List X) (i : ℕ) → i < length xs → (x : X) × (slice_get xs i ≡ Some x)
-there [] i l = absurd (omega (arith, l))
-there (x ∷ xs) zero l = (x, refl)
-there (x ∷ xs) (suc i) l = there xs i (omega (arith, l))
+pub set_behind-requires : goal.set_behind-requires
+set_behind-requires c =
+    let g = c.args.self.now in
+    let s = c.unlink.new.self in
+    let t : OpenGroups = record { groups = c.swap_remove_index.new.self; first = s.first; last = s.last } in
+    let m = length t.groups.entries in
+    let low : c.args.at < length s.groups.entries = omega (arith, c.requires.within, c.unlink.ensures.count) in
+    let left = removed-left s.groups.entries t.groups.entries c.args.at low c.swap_remove_index.result c.swap_remove_index.ensures.entry c.swap_remove_index.ensures.entries c.swap_remove_index.ensures.len in
+    let e : FrameKey × Linked = (c.in-Some.field-0-0.now, c.in-Some.moved.now) in
+    let less = slice_get_within t.groups.entries c.args.at e (sym c.in-Some.ensures.entry) in
+    let at = place-split c.requires.kept.0 g c.requires.kept.1 c.args.at c.requires.within in
+    let places = moved-places c.requires.kept.0 g s c.args.at at.xs at.ys c.requires.kept.1 c.requires.within at.is c.unlink.ensures t m left refl refl less in
+    let is = beside-at (λ l. l.before) t.last t.groups.entries c.args.at e (λ q. omega (arith, q, c.requires.within, c.requires.kept.1.few)) (sym c.in-Some.ensures.entry) in
+    record {
+      few = omega (arith, left.was, c.unlink.ensures.count, c.requires.kept.1.few);
+      place = subst (IsPlace m) (sym (beside-moved c.requires.kept.0 g s c.args.at at.xs at.ys c.requires.kept.1 c.requires.within at.is c.unlink.ensures t m left refl refl (λ l. l.before) s.last t.last less) ∙ is) places.0;
+    }
 
-pub returns-in-Some-clause-gone : goal.returns-in-Some-clause-gone
-unfolding same_key
-returns-in-Some-clause-gone c = λ e h.
-    (subst (λ o. IfSome o (λ p. Updates (λ (a b : FrameKey). same_key (key_of a) (key_of b)) c.args.self.now.groups c.swap_remove_index.new.self p.0 None)) (c.swap_remove_index.ensures.entry ∙ h) c.swap_remove_index.ensures.updates).0
+pub set_before-requires : goal.set_before-requires
+set_before-requires c =
+    let g = c.args.self.now in
+    let s = c.unlink.new.self in
+    let t : OpenGroups = record { groups = c.swap_remove_index.new.self; first = s.first; last = s.last } in
+    let m = length t.groups.entries in
+    let low : c.args.at < length s.groups.entries = omega (arith, c.requires.within, c.unlink.ensures.count) in
+    let left = removed-left s.groups.entries t.groups.entries c.args.at low c.swap_remove_index.result c.swap_remove_index.ensures.entry c.swap_remove_index.ensures.entries c.swap_remove_index.ensures.len in
+    let e : FrameKey × Linked = (c.in-Some.field-0-0.now, c.in-Some.moved.now) in
+    let less = slice_get_within t.groups.entries c.args.at e (sym c.in-Some.ensures.entry) in
+    let at = place-split c.requires.kept.0 g c.requires.kept.1 c.args.at c.requires.within in
+    let places = moved-places c.requires.kept.0 g s c.args.at at.xs at.ys c.requires.kept.1 c.requires.within at.is c.unlink.ensures t m left refl refl less in
+    let is = beside-at (λ l. l.behind) t.first t.groups.entries c.args.at e (λ q. omega (arith, q, c.requires.within, c.requires.kept.1.few)) (sym c.in-Some.ensures.entry) in
+    record {
+      few = omega (arith, c.set_behind.ensures.count, left.was, c.unlink.ensures.count, c.requires.kept.1.few);
+      place = subst (λ n. IsPlace n e.1.behind) (sym c.set_behind.ensures.count) (subst (IsPlace m) (sym (beside-moved c.requires.kept.0 g s c.args.at at.xs at.ys c.requires.kept.1 c.requires.within at.is c.unlink.ensures t m left refl refl (λ l. l.behind) s.first t.first less) ∙ is) places.1);
+    }
 
-pub returns-in-Some-clause-paired : goal.returns-in-Some-clause-paired
-returns-in-Some-clause-paired c =
-    subst (ArePaired c.args.self.now.openings.items) (sym c.tell_place.ensures.items) (paired-told c.in-Some.moved.now.first c.args.at c.args.self.now.openings.items)
+pub returns-in-Some : goal.returns-in-Some
+returns-in-Some c =
+    let g = c.args.self.now in
+    let s = c.unlink.new.self in
+    let t : OpenGroups = record { groups = c.swap_remove_index.new.self; first = s.first; last = s.last } in
+    let m = length t.groups.entries in
+    let low : c.args.at < length s.groups.entries = omega (arith, c.requires.within, c.unlink.ensures.count) in
+    let left = removed-left s.groups.entries t.groups.entries c.args.at low c.swap_remove_index.result c.swap_remove_index.ensures.entry c.swap_remove_index.ensures.entries c.swap_remove_index.ensures.len in
+    let e : FrameKey × Linked = (c.in-Some.field-0-0.now, c.in-Some.moved.now) in
+    let less = slice_get_within t.groups.entries c.args.at e (sym c.in-Some.ensures.entry) in
+    let inside : c.args.at ≡ nowhere → ⊥ = λ q. omega (arith, q, c.requires.within, c.requires.kept.1.few) in
+    let told : AreRelinked t c.set_before.new.self (put (before_of t c.args.at) c.args.at (behind_of t)) (put (behind_of t c.args.at) c.args.at (before_of t)) =
+    subst (λ q. AreRelinked t c.set_before.new.self (put q c.args.at (behind_of t)) (put (behind_of t c.args.at) c.args.at (before_of t))) (sym (beside-at (λ l. l.before) t.last t.groups.entries c.args.at e inside (sym c.in-Some.ensures.entry)))
+    (subst (λ q. AreRelinked t c.set_before.new.self (put e.1.before c.args.at (behind_of t)) (put q c.args.at (before_of t))) (sym (beside-at (λ l. l.behind) t.first t.groups.entries c.args.at e inside (sym c.in-Some.ensures.entry)))
+    (both-told t c.set_behind.new.self c.set_before.new.self e.1.before c.args.at e.1.behind c.args.at c.set_behind.ensures c.set_before.ensures)) in
+    record {
+      gone = λ xs ys is. (gone-moved c.requires.kept.0 g s c.args.at xs ys c.requires.kept.1 c.requires.within is c.unlink.ensures t m left refl refl c.set_before.new.self less told).1;
+      kept = λ next kept. let at = place-split next g kept c.args.at c.requires.within in (gone-moved next g s c.args.at at.xs at.ys kept c.requires.within at.is c.unlink.ensures t m left refl refl c.set_before.new.self less told).0;
+    }
 
-pub returns-in-Some-clause-placed : goal.returns-in-Some-clause-placed
-unfolding same_key
-returns-in-Some-clause-placed c = λ next placed.
-    let es = c.args.self.now.groups.entries in
-    let d = there es c.args.at c.requires.within in
-    let entries = subst (λ o. IfSome o (λ p. c.swap_remove_index.new.self.entries ≡ swap_remove es c.args.at p)) (c.swap_remove_index.ensures.entry ∙ d.1) c.swap_remove_index.ensures.entries in
-    let apart = subst AreDistinct entries (distinct c.swap_remove_index.new.self.entries c.swap_remove_index.ensures.unique) in
-    let moved : FrameKey × OpenGroup = (c.in-Some.field-0-0.now, c.in-Some.moved.now) in
-    subst (PlacedBy next c.swap_remove_index.new.self.entries) (sym c.tell_place.ensures.items)
-    (subst (λ gs. PlacedBy next gs (map (told_place moved.1.first c.args.at) c.args.self.now.openings.items)) (sym entries)
-    (placed-moved es c.args.at d.0 c.requires.within next c.args.self.now.openings.items moved (subst (λ gs. slice_get gs c.args.at ≡ Some moved) entries (sym c.in-Some.ensures.entry)) apart placed))
-
-pub returns-in_default-clause-gone : goal.returns-in_default-clause-gone
-unfolding same_key
-returns-in_default-clause-gone c = λ e h.
-    (subst (λ o. IfSome o (λ p. Updates (λ (a b : FrameKey). same_key (key_of a) (key_of b)) c.args.self.now.groups c.swap_remove_index.new.self p.0 None)) (c.swap_remove_index.ensures.entry ∙ h) c.swap_remove_index.ensures.updates).0
-
-pub returns-in_default-clause-paired : goal.returns-in_default-clause-paired
-returns-in_default-clause-paired c = paired-refl c.args.self.now.openings.items
-
-pub returns-in_default-clause-placed : goal.returns-in_default-clause-placed
-unfolding same_key
-returns-in_default-clause-placed c = λ next placed.
-    let es = c.args.self.now.groups.entries in
-    let d = there es c.args.at c.requires.within in
-    let entries = subst (λ o. IfSome o (λ p. c.swap_remove_index.new.self.entries ≡ swap_remove es c.args.at p)) (c.swap_remove_index.ensures.entry ∙ d.1) c.swap_remove_index.ensures.entries in
-    let apart = subst AreDistinct entries (distinct c.swap_remove_index.new.self.entries c.swap_remove_index.ensures.unique) in
-    subst (λ gs. PlacedBy next gs c.args.self.now.openings.items) (sym entries)
-    (placed-last es c.args.at d.0 c.requires.within next c.args.self.now.openings.items (subst (λ gs. slice_get gs c.args.at ≡ None) entries (sym c.in_default.ensures.entry)) apart placed)
+pub returns-in_default : goal.returns-in_default
+returns-in_default c =
+    let g = c.args.self.now in
+    let s = c.unlink.new.self in
+    let t : OpenGroups = record { groups = c.swap_remove_index.new.self; first = s.first; last = s.last } in
+    let m = length t.groups.entries in
+    let low : c.args.at < length s.groups.entries = omega (arith, c.requires.within, c.unlink.ensures.count) in
+    let left = removed-left s.groups.entries t.groups.entries c.args.at low c.swap_remove_index.result c.swap_remove_index.ensures.entry c.swap_remove_index.ensures.entries c.swap_remove_index.ensures.len in
+    let last : c.args.at ≡ m = ended-last s.groups.entries t.groups.entries c.args.at m low left (sym c.in_default.ensures.entry) in
+    record {
+      gone = λ xs ys is. (gone-last c.requires.kept.0 g s c.args.at xs ys c.requires.kept.1 c.requires.within is c.unlink.ensures t m left refl refl last).1;
+      kept = λ next kept. let at = place-split next g kept c.args.at c.requires.within in (gone-last next g s c.args.at at.xs at.ys kept c.requires.within at.is c.unlink.ensures t m left refl refl last).0;
+    }

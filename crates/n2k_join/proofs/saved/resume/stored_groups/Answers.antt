@@ -1,7 +1,6 @@
 use Rattle.std.proofs.Common.{◌≡◌, ◌+◌, ◌++◌, [], ◌∷◌, true, false, IfSome, sym, ap, subst, ◌∙◌, arith}
 use Rattle.std.specs.Prelude.{is_some}
 use Rattle.std.specs.List.{list_any, AllByRecursion}
-use Rattle.std.specs.VecDeque.{deque_capacity}
 use Rattle.n2k_table.specs.Table.{kind}
 use Rattle.n2k_join.specs.Frames.{same_key}
 use Rattle.n2k_join.specs.Open.{Group}
@@ -10,9 +9,10 @@ use Rattle.n2k_join.specs.State.{HasParts}
 use Rattle.n2k_join.specs.Inner.Apart.{each_new, SomeUnder}
 use Rattle.n2k_join.specs.Inner.Slots.{group_in, group_at}
 use Rattle.n2k_join.specs.Inner.Stored.{key_of}
-use Rattle.n2k_join.specs.Inner.Queue.{found, listed, IsKept}
+use Rattle.n2k_join.specs.Inner.Order.{found, listed, IsKept}
 use Rattle.n2k_join.proofs.Apart.{keys_in, hold-each_new, key_again, key_listed, stored_kept, stored_left, stored_parts, next_rises}
-use Rattle.n2k_join.proofs.Queue.{key-found, kept-later, is_some-map}
+use Rattle.n2k_join.proofs.Order.{kept-later}
+use Rattle.n2k_join.proofs.Listed.{open-found}
 use Rattle.n2k_join.proofs.Rising.{none_from}
 use Rattle.n2k_join.proofs.saved.resume.stored_groups.Goals as goal
 
@@ -30,9 +30,9 @@ returns-then-contains_key-clause-value c = λ _.
     let k = c.in_ok-key.key in
     let s = c.loop-group.stored in
     let taken = subst (λ o. SomeUnder group_at o (group_holds (kind c.args.table.now) c.group-item.result) c.group-item.result) c.in_ok-key.ensures.ok_part c.stored_group.ensures.value in
-    let at = key-found c.loop-group.invariant.rises.0 s.groups.entries s.openings.items (deque_capacity s.openings) c.loop-group.invariant.rises.1.0 k in
+    let at = open-found c.loop-group.invariant.rises.0 s c.loop-group.invariant.rises.1.0 k in
     let there : is_some (found s.groups.entries k) ≡ true = sym c.contains_key.ensures ∙ c.if-contains_key.true in
-    let again = ap (λ (g : Group). list_any (same_key g.key) (keys_in (listed s))) (sym taken.1) ∙ key_listed (key_of k) (listed s) ∙ ap is_some at ∙ is_some-map (group_in (key_of k)) (found s.groups.entries k) ∙ there in
+    let again = ap (λ (g : Group). list_any (same_key g.key) (keys_in (listed s))) (sym taken.1) ∙ key_listed (key_of k) (listed s) ∙ at ∙ there in
     ap (λ b. valid_if b c.args.groups.now) (key_again (kind c.args.table.now) (keys_in (listed s)) c.args.groups.now c.loop-group.group-index c.group-item.result (omega arith) c.group-item.is c.loop-group.invariant.left taken.0 again)
 
 pub insert-requires-clause-new : goal.insert-requires-clause-new
@@ -47,7 +47,7 @@ insert-requires-clause-kept c =
     let first : c.in_ok-key.open.first ≡ g.first = ap (λ (h : Group). h.first) taken.1 in
     let r = c.loop-group.invariant.rises in
     let next = next_rises r.0 c.args.lines c.loop-group.group-index c.args.groups.now g (omega arith) c.group-item.is r.1.1.1 in
-    kept-later r.0 c.in_ok-key.open.first s.groups.entries s.openings.items (deque_capacity s.openings) (omega (arith, next.0, first)) r.1.0
+    kept-later r.0 c.in_ok-key.open.first s (omega (arith, next.0, first)) r.1.0
 
 pub loop-group-preserved : goal.loop-group-preserved
 unfolding same_key
@@ -63,9 +63,9 @@ loop-group-preserved c =
     let first : v.first ≡ g.first = ap (λ (h : Group). h.first) taken.1 in
     let r = c.loop-group.invariant.rises in
     let next = next_rises r.0 c.args.lines i gs g (omega arith) c.group-item.is r.1.1.1 in
-    let at = key-found r.0 s.groups.entries s.openings.items (deque_capacity s.openings) r.1.0 k in
+    let at = open-found r.0 s r.1.0 k in
     let none : is_some (found s.groups.entries k) ≡ false = sym c.contains_key.ensures ∙ c.if-contains_key.false in
-    let unseen = ap (λ (g : Group). list_any (same_key g.key) (keys_in (listed s))) (sym taken.1) ∙ key_listed (key_of k) (listed s) ∙ ap is_some at ∙ is_some-map (group_in (key_of k)) (found s.groups.entries k) ∙ none in
+    let unseen = ap (λ (g : Group). list_any (same_key g.key) (keys_in (listed s))) (sym taken.1) ∙ key_listed (key_of k) (listed s) ∙ at ∙ none in
     let last : listed c.insert.new.self ≡ listed s ++ g ∷ [] = c.in_ok-insert.ensures.added ∙ ap (λ h. listed s ++ h ∷ []) taken.1 in
     record {
       left = stored_left (kind c.args.table.now) gs i g (omega arith) c.group-item.is (listed s) (listed c.insert.new.self) unseen last taken.0 c.loop-group.invariant.left;
@@ -78,4 +78,4 @@ pub returns-clause-kept : goal.returns-clause-kept
 returns-clause-kept c =
     let s = c.loop-group.stored in
     let r = c.loop-group.invariant.rises in
-    kept-later r.0 (c.args.lines + 1) s.groups.entries s.openings.items (deque_capacity s.openings) r.1.1.0 r.1.0
+    kept-later r.0 (c.args.lines + 1) s r.1.1.0 r.1.0

@@ -6,7 +6,7 @@ use Rattle.n2k_table.specs.Table.{kind}
 use Rattle.n2k_join.specs.Resumed.{groups_hold, firsts_rise}
 use Rattle.n2k_join.specs.State.{HasParts}
 use Rattle.n2k_join.specs.Inner.Apart.{each_new}
-use Rattle.n2k_join.specs.Inner.Queue.{listed, IsKept}
+use Rattle.n2k_join.specs.Inner.Order.{listed, IsKept}
 use Rattle.n2k_join.proofs.Apart.{keys_in}
 use Rattle.n2k_join.proofs.saved.resume.stored_groups.Given as goal
 

@@ -1,16 +1,19 @@
-use Rattle.std.proofs.Common.{◌∙◌, option_to_list, rules, tests}
+use Rattle.std.proofs.Common.{◌+◌, ◌∙◌, nat_lt, sym, ap}
 use Rattle.std.specs.List.{list_all}
-use Rattle.std.proofs.lemmas.Iterator.Consumers.{YieldsList-from_deque}
-use Rattle.std.proofs.lemmas.Iterator.Search.{all_from_yields_List}
 use Rattle.n2k_join.specs.Open.{is_waiting}
-use Rattle.n2k_join.specs.Inner.Queue.{live}
-use Rattle.n2k_join.proofs.QueueSaved.{list_all-filter_map}
+use Rattle.n2k_join.specs.declared.piece.FrameKey.{FrameKey}
+use Rattle.n2k_join.specs.declared.open_groups.Linked.{Linked}
+use Rattle.n2k_join.specs.Inner.Slots.{group_at}
+use Rattle.n2k_join.specs.Inner.Order.{item, listed}
+use Rattle.n2k_join.proofs.Listed.{first-group, none-listed, first-waits}
 use Rattle.n2k_join.proofs.saved.text.are_waiting.Goals as goal
 
-pub returns : goal.returns
-returns c =
-    let waits = is_waiting c.args.window c.args.lines in
-    let es = c.args.groups.now.groups.entries in
-    let os = c.args.groups.now.openings.items in
-    all_from_yields_List (λ o. list_all waits (option_to_list (live es o))) _ _ _ c.all.ensures.ran (YieldsList-from_deque os c.iter.ensures.rest) (λ x b q k. search (rules, tests))
-    ∙ list_all-filter_map waits (live es) os
+pub returns-in-Some : goal.returns-in-Some
+returns-in-Some c =
+    let g = c.args.groups.now in
+    let e : FrameKey × Linked = (c.in-Some.field-0-0.now, c.in-Some.linked.now) in
+    c.is_waiting.ensures ∙ ap (λ n. nat_lt c.args.lines (e.1.group.first + n)) (c.from.ensures ∙ c.get.ensures.value)
+    ∙ first-waits c.args.window c.args.lines c.requires.0 (listed g) _ (group_at (item e)) c.requires.1.rise (first-group g e (sym c.in-Some.ensures.entry))
+
+pub returns-in-None : goal.returns-in-None
+returns-in-None c = sym (ap (list_all (is_waiting c.args.window c.args.lines)) (none-listed c.args.groups.now (sym c.in-None.ensures.entry)))

@@ -1,21 +1,45 @@
-use Rattle.std.proofs.Common.{◌∙◌, ◌++◌, ap, sym, refl}
+use Rattle.std.proofs.Common.{◌≡◌, ◌∙◌, ◌++◌, ◌+◌, ◌-◌, ℕ, length, ap, sym, refl, option_map, arith}
+use Rattle.n2k_join.specs.declared.piece.FrameKey.{FrameKey}
+use Rattle.n2k_join.specs.declared.open_groups.Linked.{Linked}
 use Rattle.n2k_join.specs.Inner.SavedTokens.{groups_tokens}
-use Rattle.n2k_join.specs.Inner.Queue.{groups_by}
-use Rattle.std.specs.VecDeque.Iter.{deque_iter_rest}
-use Rattle.n2k_join.proofs.QueueSaved.{groups_written, group_more_written}
+use Rattle.n2k_join.specs.Inner.Order.{item, item_at, places_from, groups_at}
+use Rattle.n2k_join.proofs.Listed.{no-places, places-more, groups_written, group_more_written}
 use Rattle.n2k_join.proofs.saved.text.push_groups.Goals as goal
 
-pub loop-opening-init : goal.loop-opening-init
-loop-opening-init c = record { tokens = ap (λ os. c.args.out.now.tokens ++ groups_tokens (groups_by c.args.groups.now.groups.entries os)) (sym (ap deque_iter_rest c.into_iter-opening-iterator.ensures.into_iter_gives ∙ c.iter-opening-items.ensures.rest)); before = refl }
+pub loop-written-init : goal.loop-written-init
+loop-written-init c =
+    let g = c.args.groups.now in
+    let all : length g.groups.entries ≡ length g.groups.entries - 0 = omega arith in
+    record { tokens = ap (λ n. c.args.out.now.tokens ++ groups_tokens (groups_at (item_at g) (places_from g.groups.entries n g.first))) all; before = refl; end = c.len-written-end.ensures.len }
 
-pub loop-opening-preserved : goal.loop-opening-preserved
-loop-opening-preserved c = record {
-  tokens = group_more_written c.args.groups.now.groups.entries c.in-Some.opening.now _ c.loop-opening.out.tokens c.push_live.new.out.tokens _ _ c.in-Some.ensures.steps c.in_ok-push_live.ensures.tokens c.loop-opening.invariant.tokens;
-  before = c.in_ok-push_live.ensures.before ∙ c.loop-opening.invariant.before;
-}
+pub loop-written-preserved : goal.loop-written-preserved
+loop-written-preserved c =
+    let g = c.args.groups.now in
+    let n = length g.groups.entries in
+    let i = c.loop-written._written in
+    let at = c.loop-written.at in
+    let e : FrameKey × Linked = (c.in-Some.key.now, c.in-Some.linked.now) in
+    let is = sym c.in-Some.ensures.entry in
+    record {
+      tokens = group_more_written (item_at g) at (places_from g.groups.entries (n - (i + 1)) e.1.behind) (item e) _ c.loop-written.out.tokens c.push_group.new.out.tokens (ap (option_map item) is)
+          (c.loop-written.invariant.tokens ∙ ap (λ ps. c.loop-written.out.tokens ++ groups_tokens (groups_at (item_at g) ps)) (places-more g.groups.entries n i at e (omega (arith, c.loop-written-test.true, c.loop-written.invariant.end)) is)) c.in_ok-push_group.ensures.tokens;
+      before = c.in_ok-push_group.ensures.before ∙ c.loop-written.invariant.before;
+      end = c.loop-written.invariant.end;
+    }
+
+pub returns-in_default : goal.returns-in_default
+returns-in_default c =
+    let g = c.args.groups.now in
+    record {
+      tokens = groups_written _ c.loop-written.out.tokens _ (ap (groups_at (item_at g)) (no-places g.groups.entries (length g.groups.entries - c.loop-written._written) c.loop-written.at (sym c.in_default.ensures.entry))) c.loop-written.invariant.tokens;
+      before = c.loop-written.invariant.before;
+    }
 
 pub returns : goal.returns
-returns c = record {
-  tokens = groups_written c.args.groups.now.groups.entries _ c.loop-opening.out.tokens _ c.in-None.ensures.steps.0 c.loop-opening.invariant.tokens;
-  before = c.loop-opening.invariant.before;
-}
+returns c =
+    let g = c.args.groups.now in
+    let none : length g.groups.entries - c.loop-written._written ≡ 0 = omega (arith, c.loop-written-test.false, c.loop-written.invariant.end) in
+    record {
+      tokens = groups_written _ c.loop-written.out.tokens _ (ap (λ n. groups_at (item_at g) (places_from g.groups.entries n c.loop-written.at)) none) c.loop-written.invariant.tokens;
+      before = c.loop-written.invariant.before;
+    }

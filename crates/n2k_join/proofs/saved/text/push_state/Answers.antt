@@ -1,5 +1,5 @@
 use Rattle.std.proofs.Common.{rules}
-use Rattle.n2k_join.specs.Inner.Queue.{listed}
+use Rattle.n2k_join.specs.Inner.Order.{listed}
 use Rattle.n2k_join.proofs.SavedPieces.{state_written}
 use Rattle.n2k_join.proofs.saved.text.push_state.Goals as goal
 

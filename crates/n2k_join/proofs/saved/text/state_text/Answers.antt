@@ -1,5 +1,5 @@
 use Rattle.std.proofs.Common.{◌∙◌}
-use Rattle.n2k_join.specs.Inner.Queue.{listed}
+use Rattle.n2k_join.specs.Inner.Order.{listed}
 use Rattle.n2k_join.proofs.SavedPieces.{text_written}
 use Rattle.n2k_join.proofs.saved.text.state_text.Goals as goal
 

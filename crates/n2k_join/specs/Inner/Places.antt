@@ -1,0 +1,29 @@
+-- Places in a list: what stands behind each and before it.
+use Rattle.std.specs.Prelude.{◌≡◌, ℕ, ◌+◌, ◌-◌, ◌^◌, ◌<◌, ◌==◌, if◌then◌else◌, List, [], ◌∷◌}
+
+-- the place of none: it stands behind the last and before the first
+abbrev pub nowhere : ℕ
+nowhere = 2 ^ 64 - 1
+
+-- going behind, these places are met between those two
+abbrev pub Path : (ℕ → ℕ) → ℕ → List ℕ → ℕ → Type 0
+Path behind from [] to = behind from ≡ to
+Path behind from (p ∷ ps) to = (behind from ≡ p) × Path behind p ps to
+
+-- how often a place is among places
+abbrev pub times : ℕ → List ℕ → ℕ
+times at [] = 0
+times at (p ∷ ps) = (if p == at then 1 else 0) + times at ps
+
+-- The places below a count, but for one, are a list: each is in it once, it is what is met going behind, and a place
+-- stands before the one behind it.
+pub record AreLinked (count but : ℕ) (behind before : ℕ → ℕ) (order : List ℕ) : Type 0 where
+  pub path : Path behind nowhere order nowhere
+  pub back : (at : ℕ) → (at ≡ but → ⊥) → (before (behind at) ≡ at) × (behind at ≡ but → ⊥)
+  pub forth : (at : ℕ) → (at ≡ but → ⊥) → (behind (before at) ≡ at) × (before at ≡ but → ⊥)
+  pub within : (at : ℕ) → 0 < times at order → (at < count) × (at ≡ but → ⊥)
+  pub once : (at : ℕ) → at < count → (at ≡ but → ⊥) → times at order ≡ 1
+
+-- another place stands beside one
+abbrev pub put : ℕ → ℕ → (ℕ → ℕ) → ℕ → ℕ
+put at to side j = if j == at then to else side j
