@@ -16,7 +16,7 @@ use crate::engine::{EntryHandler, run_entries};
 use crate::fault::RunFault;
 use crate::options::{Options, know_window};
 use crate::texts::{bad_text, broken_text};
-use n2k_join::{Broken, Join, TableMessage, laws};
+use n2k_join::{Broken, Join, TableMessage, laws, message_of};
 use n2k_table::{LineBuffer, Table, json_line_of};
 use n2k_wire::{BadCause, Entry};
 use std::alloc::{AllocError, Global};
@@ -126,7 +126,8 @@ impl<'a> EntryHandler for JsonLines<'a> {
         let step = join.lend(self.table, entry)?;
         push_broken(alloc, step.line, step.broken, report)?;
         push_cause(alloc, step.line, step.bad, report)?;
-        push_message(alloc, step.message, self.empty, room, text)?;
+        let message = message_of(step.message, entry);
+        push_message(alloc, message, self.empty, room, text)?;
         Ok(())
     }
 }
