@@ -1,5 +1,5 @@
 -- From link to link, up to where a name leads.
-use Rattle.std.proofs.Common.{◌≡◌, ◌⊎◌, ◌<◌, ◌+◌, ℕ, Bool, true, false, Option, Some, None, IfSome, Result, Ok, Err, String, string_bytes, IsErrAnd, inl, inr, subst, sym, add-one}
+use Rattle.std.proofs.Common.{◌≡◌, ◌⊎◌, ◌≤◌, ◌+◌, ℕ, suc, Bool, true, false, Option, Some, None, IfSome, Result, Ok, Err, String, string_bytes, IsErrAnd, inl, inr, subst, sym, add-one}
 use Rattle.std.specs.IoError.{error_kind}
 use Rattle.std.specs.declared.io.Error.{Error}
 use Rattle.std.specs.declared.io.ErrorKind.{ErrorKind}
@@ -13,7 +13,7 @@ use Rattle.n2kdec.specs.declared.destination.Kind.{Kind}
 use Rattle.n2kdec.specs.declared.disk.Found.{Found}
 
 -- it stands for an open file
-pub at_open_file : (answers : Option Answers) (name path asked : Text) (links : ℕ) (is_open : Bool) → asked ≡ path → links < most_links → IfSome answers (λ a. Follows a links name path)
+pub at_open_file : (answers : Option Answers) (name path asked : Text) (links : ℕ) (is_open : Bool) → asked ≡ path → links ≤ most_links → IfSome answers (λ a. Follows a links name path)
     → IfSome answers (λ a. AnswersFolder a asked (Ok is_open)) → is_open ≡ true → IfSome answers (λ a. LeadsToOpenFile a name)
 at_open_file None name path asked links is_open is few follows folder opens = tt
 at_open_file (Some a) name path asked links is_open is few follows folder opens =
@@ -24,7 +24,7 @@ not_open : (a : Answers) (path asked : Text) (is_open : Bool) → asked ≡ path
 not_open a path asked is_open is folder closed = subst (λ p. IsNoOpenFile a p) is (subst (λ b. AnswersFolder a asked (Ok b)) closed folder)
 
 -- and is no link
-pub at_end : {A : Type 0} (answers : Option Answers) (name path asked then : Text) (links : ℕ) (is_open : Bool) (next : Option (String A)) → asked ≡ path → then ≡ path → links < most_links
+pub at_end : {A : Type 0} (answers : Option Answers) (name path asked then : Text) (links : ℕ) (is_open : Bool) (next : Option (String A)) → asked ≡ path → then ≡ path → links ≤ most_links
     → IfSome answers (λ a. Follows a links name path) → IfSome answers (λ a. AnswersFolder a asked (Ok is_open)) → is_open ≡ false
     → IfSome answers (λ a. AnswersLink a then (Ok next)) → next ≡ None → IfSome answers (λ a. LeadsTo a name path)
 at_end None name path asked then links is_open next is is_then few follows folder closed link none = tt
@@ -59,7 +59,7 @@ at_unread_link {A} (Some a) name path then links error (Err answered) is follows
     stuck (inr memory) = inr memory
 
 -- there were too many
-pub at_last : (answers : Option Answers) (name path : Text) (links : ℕ) (why : ErrorKind) → links ≡ most_links → IfSome answers (λ a. Follows a links name path)
+pub at_last : (answers : Option Answers) (name path : Text) (links : ℕ) (why : ErrorKind) → links ≡ suc most_links → IfSome answers (λ a. Follows a links name path)
     → why ≡ FilesystemLoop → IfSome answers (λ a. LeadsNowhere a name why ⊎ (why ≡ OutOfMemory))
 at_last None name path links why all follows kind = tt
 at_last (Some a) name path links why all follows kind = inl (inr (inr (path, subst (λ n. Follows a n name path) all follows, kind)))
@@ -80,11 +80,11 @@ pub no_target : (answers : Option Answers) (name : Text) (error : Error) (result
     → IfSome answers (λ a. AnswersDestination a name result)
 no_target None name error result target told = tt
 no_target (Some a) name error (Ok d) target told = absurd told
-no_target (Some a) name error (Err answered) target told = subst (λ e. HasNoDestination a name (error_kind e)) (sym told) (unled target)
+no_target (Some a) name error (Err answered) target told = subst (λ e. HasNoDestination a name (error_kind e) ⊎ (error_kind e ≡ OutOfMemory)) (sym told) (unled target)
   where
-    unled : LeadsNowhere a name (error_kind error) ⊎ (error_kind error ≡ OutOfMemory) → HasNoDestination a name (error_kind error)
-    unled (inl nowhere) = inr (inl nowhere)
-    unled (inr memory) = inr (inr (inr memory))
+    unled : LeadsNowhere a name (error_kind error) ⊎ (error_kind error ≡ OutOfMemory) → HasNoDestination a name (error_kind error) ⊎ (error_kind error ≡ OutOfMemory)
+    unled (inl nowhere) = inl (inr (inl nowhere))
+    unled (inr memory) = inr memory
 
 -- or of the new file's path
 pub no_temp : {A : Type 0} (answers : Option Answers) (name asked : Text) (was : Option Found) (to : String A × Kind) (error : Error) (result : Result Destination Error) → asked ≡ string_bytes to.0
@@ -94,14 +94,14 @@ pub no_temp : {A : Type 0} (answers : Option Answers) (name asked : Text) (was :
 no_temp None name asked was to error result is found target temp told = tt
 no_temp (Some a) name asked was to error (Ok d) is found target temp told = absurd told
 no_temp (Some a) name asked was to error (Err answered) is found target temp told =
-    subst (λ e. HasNoDestination a name (error_kind e)) (sym told) (nameless was found target temp)
+    subst (λ e. HasNoDestination a name (error_kind e) ⊎ (error_kind e ≡ OutOfMemory)) (sym told) (nameless was found target temp)
   where
     goes : (was : Option Found) → AnswersFound a name (Ok was) → AnswersTarget a name (Ok to) was → GoesTo a name (a.found name) (string_bytes to.0) to.1
     goes None (why, is_err, missing) target = subst (λ known. GoesTo a name known (string_bytes to.0) to.1) (sym is_err) (target why missing)
     goes (Some was) is_ok target = subst (λ known. GoesTo a name known (string_bytes to.0) to.1) (sym is_ok) target
 
     nameless : (was : Option Found) → AnswersFound a name (Ok was) → AnswersTarget a name (Ok to) was
-        → ((new_path asked ≡ None) × (error_kind error ≡ InvalidFilename)) ⊎ (error_kind error ≡ OutOfMemory) → HasNoDestination a name (error_kind error)
+        → ((new_path asked ≡ None) × (error_kind error ≡ InvalidFilename)) ⊎ (error_kind error ≡ OutOfMemory) → HasNoDestination a name (error_kind error) ⊎ (error_kind error ≡ OutOfMemory)
     nameless was found target (inl none) =
-        inr (inr (inl (string_bytes to.0, to.1, goes was found target, subst (λ p. new_path p ≡ None) is none.0, none.1)))
-    nameless was found target (inr memory) = inr (inr (inr memory))
+        inl (inr (inr (string_bytes to.0, to.1, goes was found target, subst (λ p. new_path p ≡ None) is none.0, none.1)))
+    nameless was found target (inr memory) = inr memory

@@ -1,16 +1,16 @@
 -- Calls of a folder, one after the other, up to one that fails or is refused.
-use Rattle.std.proofs.Common.{◌≡◌, ◌⊎◌, ℕ, true, false, List, [], ◌∷◌, ◌++◌, Option, None, Some, IfErr, IfSome, OnOk, Result, Ok, Err, IsErrAnd, inl, inr, refl, subst, sym, ap, ◌∙◌, ⊎_elim, append-nil, append_assoc}
-use Rattle.std.proofs.lemmas.Bool.{false≢true}
+use Rattle.std.proofs.Common.{◌≡◌, ◌⊎◌, ℕ, true, false, List, [], ◌∷◌, ◌++◌, Option, None, Some, IfErr, IfSome, OnOk, Result, Ok, Err, IsErrAnd, inl, inr, refl, subst, sym, ap, ◌∙◌, append-nil, append_assoc}
 use Rattle.std.specs.IoError.{error_kind}
 use Rattle.std.specs.declared.io.Error.{Error}
 use Rattle.std.specs.declared.io.ErrorKind.{ErrorKind}
+use Rattle.std.specs.declared.io.ErrorKind.TheVariants.{OutOfMemory}
 use Rattle.clap.specs.Words.{Text}
+use Rattle.n2kdec.specs.Destination.{HasNoDestination}
 use Rattle.n2kdec.specs.Disk as act
 use Rattle.n2kdec.specs.Disk.{Act, Answers, IsOpenAt, NotesOpen}
-use Rattle.n2kdec.specs.Folder.{AreDoneBy, Call, Content, Does, IsDoneBy, Name, Target, Temp, create, created, path_of, refused, rename, renamed, sync, write}
+use Rattle.n2kdec.specs.Folder.{AreDoneBy, Call, Does, IsDoneBy, Name, Target, Temp, create, created, path_of, refused, rename, renamed, sync, write}
 use Rattle.n2kdec.specs.Inner.Placing.{HasFilled, HasPlaced, IsStuck, IsUnfilled, Makes}
-use Rattle.n2kdec.specs.Replacement.{Admits, AreAlike, AtomicReplacement, FromTo, IsFoundFor, IsNotFoundFor, KeepsAs, KeepsNames, KeepsText, LeftAlone, Overwriting, PutsInPlace, RefusedReplacement, WritesBehind, filled}
-use Rattle.n2kdec.specs.declared.asked.Files.{Files}
+use Rattle.n2kdec.specs.Replacement.{FromTo, IsFoundFor, IsNotFoundFor, IsOfMemory, KeepsAs, KeepsNames, KeepsText, PutsInPlace, WritesBehind, filled, is_memory}
 use Rattle.n2kdec.specs.declared.destination.Destination.{Destination}
 use Rattle.n2kdec.specs.declared.destination.Kind.{Kind}
 use Rattle.n2kdec.specs.declared.destination.Kind.TheVariants.{Alone, Shared, Special}
@@ -138,11 +138,16 @@ pub ruleset stuck = (stuck_at_fill, stuck_at_rename, placed_at_rename)
 
 -- ---- by what a name leads to
 
-pub kept_nowhere : {E : Type 0} (answers : Option Answers) (old : Option (List Act)) (name : Text) (text : List ℕ) (reason : Error) (why : E) → IsNotFoundFor answers name (error_kind reason)
-    → KeepsText {T = Unit {0}} answers old old name text (Err why)
-kept_nowhere answers old name text reason why unfound = inr (error_kind reason, unfound, refl, refl)
+pub kept_nowhere : (answers : Option Answers) (old : Option (List Act)) (name : Text) (text : List ℕ) (error why : Error) → why ≡ error
+    → IfSome answers (λ a. HasNoDestination a name (error_kind error) ⊎ (error_kind error ≡ OutOfMemory)) → KeepsText {T = Unit {0}} answers old old name text (Err why)
+kept_nowhere None old name text error why is nowhere = inr (refl, inl tt)
+kept_nowhere (Some a) old name text error why is nowhere = inr (refl, subst (λ e. IsNotFoundFor (Some a) name e ⊎ IsOfMemory e) (sym is) (of_kind nowhere))
+  where
+    of_kind : HasNoDestination a name (error_kind error) ⊎ (error_kind error ≡ OutOfMemory) → IsNotFoundFor (Some a) name error ⊎ IsOfMemory error
+    of_kind (inl none) = inl none
+    of_kind (inr memory) = inr (ap is_memory memory)
 
-pub kept_as : {T E : Type 0} (answers : Option Answers) (old new : Option (List Act)) (name : Text) (text : List ℕ) (d : Destination) (result : Result T E) → IsFoundFor answers name d
+pub kept_as : {T : Type 0} (answers : Option Answers) (old new : Option (List Act)) (name : Text) (text : List ℕ) (d : Destination) (result : Result T Error) → IsFoundFor answers name d
     → KeepsAs d.kind d old new text result → KeepsText answers old new name text result
 kept_as answers old new name text d result found keeps = inl (d, found, keeps)
 
@@ -158,72 +163,3 @@ module _ {T E : Type 0} (d : Destination) (old new : Option (List Act)) (text : 
 
 -- for `keep_at`
 pub ruleset keeps = (kept_alone, kept_shared, kept_special)
-
--- ---- whatever the error is
-
-module _ {T E F : Type 0} (first : Name → Content) (after : List Call) (text : List ℕ) where
-  atomic : (before : List Call) (one : Result T E) (other : Result T F) → AreAlike one other → AtomicReplacement first before after text one → AtomicReplacement first before after text other
-  atomic before (Ok value) (Ok other) alike r = record { made = r.made; calls = r.calls; order = r.order; each_moment = r.each_moment; answer = r.answer }
-  atomic before (Err reason) (Err why) alike r = record { made = r.made; calls = r.calls; order = r.order; each_moment = r.each_moment; answer = r.answer }
-  atomic before (Ok value) (Err why) alike r = absurd alike
-  atomic before (Err reason) (Ok value) alike r = absurd alike
-
-  alone : (before : List Call) (one : Result T E) (other : Result T F) → AreAlike one other → LeftAlone first before after text one → LeftAlone first before after text other
-  alone before (Ok value) (Ok other) alike r = record { tried = r.tried; order = r.order; gone = r.gone; calls = r.calls; each_moment = r.each_moment; beside = r.beside; answer = r.answer }
-  alone before (Err reason) (Err why) alike r = record { tried = r.tried; order = r.order; gone = r.gone; calls = r.calls; each_moment = r.each_moment; beside = r.beside; answer = refl }
-  alone before (Ok value) (Err why) alike r = absurd alike
-  alone before (Err reason) (Ok value) alike r = absurd alike
-
-  over : (before : List Call) (one : Result T E) (other : Result T F) → AreAlike one other → Overwriting first before after text one → Overwriting first before after text other
-  over before (Ok value) (Ok other) alike r = record { made = r.made; order = r.order; calls = r.calls; new_stays = r.new_stays; found = r.found; left = r.left; beside = r.beside }
-  over before (Err reason) (Err why) alike r = record { made = r.made; order = r.order; calls = r.calls; new_stays = r.new_stays; found = tt; left = tt; beside = tt }
-  over before (Ok value) (Err why) alike r = absurd alike
-  over before (Err reason) (Ok value) alike r = absurd alike
-
-  refused_so : (before : List Call) (one : Result T E) (other : Result T F) → AreAlike one other → (kind : Kind) → RefusedReplacement kind first before after text one
-      → RefusedReplacement kind first before after text other
-  refused_so before one other alike kind r = record { tried = r.tried; refusal = r.refusal; each_moment = r.each_moment; overwriting = over (r.tried ++ before) one other alike r.overwriting }
-
-from_to : (d : Destination) (old new : Option (List Act)) (P Q : List Call → List Call → Type 0) → ((before after : List Call) → P before after → Q before after) → FromTo d old new P → FromTo d old new Q
-from_to d old None P Q so made = tt
-from_to d old (Some all) P Q so (acts, had, made, was, is, done, holds) = (acts, had, made, was, is, done, λ before. so before (made ++ before) (holds before))
-
-behind : {T E F : Type 0} (path text : List ℕ) (old new : Option (List Act)) (one : Result T E) (other : Result T F) → AreAlike one other → WritesBehind path old new text one → WritesBehind path old new text other
-behind path text old new (Ok value) (Ok other) alike writes = writes
-behind path text old new (Err reason) (Err why) alike writes = writes
-behind path text old new (Ok value) (Err why) alike writes = absurd alike
-behind path text old new (Err reason) (Ok value) alike writes = absurd alike
-
-kept_so : {T E F : Type 0} (d : Destination) (old new : Option (List Act)) (text : List ℕ) (one : Result T E) (other : Result T F) → AreAlike one other → (kind : Kind) → KeepsAs kind d old new text one
-    → KeepsAs kind d old new text other
-kept_so {T} {E} {F} d old new text one other alike Alone made =
-    from_to d old new (λ before after. (first : Name → Content) → AtomicReplacement {T = T} {E = E} first before after text one ⊎ RefusedReplacement {T = T} {E = E} Alone first before after text one)
-    (λ before after. (first : Name → Content) → AtomicReplacement {T = T} {E = F} first before after text other ⊎ RefusedReplacement {T = T} {E = F} Alone first before after text other)
-    (λ before after so first. ⊎_elim (λ r. inl (atomic first after text before one other alike r)) (λ r. inr (refused_so first after text before one other alike Alone r)) (so first)) made
-kept_so {T} {E} {F} d old new text one other alike Shared made =
-    from_to d old new (λ before after. (first : Name → Content) → LeftAlone {T = T} {E = E} first before after text one ⊎ RefusedReplacement {T = T} {E = E} Shared first before after text one)
-    (λ before after. (first : Name → Content) → LeftAlone {T = T} {E = F} first before after text other ⊎ RefusedReplacement {T = T} {E = F} Shared first before after text other)
-    (λ before after so first. ⊎_elim (λ r. inl (alone first after text before one other alike r)) (λ r. inr (refused_so first after text before one other alike Shared r)) (so first)) made
-kept_so d old new text one other alike Special made = behind (path_of d Target) text old new one other alike made
-
-module _ (answers : Option Answers) (old new : Option (List Act)) (name text : List ℕ) where
-  pub text_kept : {T E : Type 0} (F : Type 0) (value other : T) → KeepsText {E = E} answers old new name text (Ok value) → KeepsText {E = F} answers old new name text (Ok other)
-  text_kept F value other (inl (d, found, keeps)) = inl (d, found, kept_so d old new text (Ok value) (Ok other) tt d.kind keeps)
-  text_kept F value other (inr (kind, unfound, same, err)) = absurd (false≢true err)
-
-  pub text_unkept : {T E F : Type 0} (reason : E) (why : F) → KeepsText {T = T} answers old new name text (Err reason) → KeepsText {T = T} answers old new name text (Err why)
-  text_unkept reason why (inl (d, found, keeps)) = inl (d, found, kept_so d old new text (Err reason) (Err why) tt d.kind keeps)
-  text_unkept reason why (inr (kind, unfound, same, err)) = inr (kind, unfound, same, refl)
-
-  pub text_so : {T E F : Type 0} (one : Result T E) (other : Result T F) → AreAlike one other → KeepsText answers old new name text one → KeepsText answers old new name text other
-  text_so {F = F} (Ok value) (Ok other) alike keeps = text_kept F value other keeps
-  text_so (Err reason) (Err why) alike keeps = text_unkept reason why keeps
-  text_so (Ok value) (Err why) alike keeps = absurd alike
-  text_so (Err reason) (Ok value) alike keeps = absurd alike
-
-pub admits_so : {T E F : Type 0} (answers : Option Answers) (name : Text) (files : Files) (one : Result T E) (other : Result T F) → AreAlike one other → Admits answers name files one
-    → Admits answers name files other
-admits_so answers name files (Ok value) (Ok other) alike admits = admits
-admits_so answers name files (Err reason) (Err why) alike admits = admits
-admits_so answers name files (Ok value) (Err why) alike admits = absurd alike
-admits_so answers name files (Err reason) (Ok value) alike admits = absurd alike

@@ -6,7 +6,6 @@ use Rattle.std.specs.Path.{PathStartsWith, cur_dir, path_file_name, path_join, p
 use Rattle.std.specs.Str.{bytes_eq}
 use Rattle.std.specs.declared.io.ErrorKind.{ErrorKind}
 use Rattle.std.specs.declared.io.ErrorKind.TheVariants.{NotFound, InvalidInput, InvalidFilename, FilesystemLoop}
-use Rattle.std.specs.declared.io.ErrorKind.TheVariants.{OutOfMemory}
 use Rattle.clap.specs.Words.{Text}
 use Rattle.n2kdec.specs.Disk.{Answers}
 use Rattle.n2kdec.specs.declared.destination.Destination.{Destination}
@@ -83,10 +82,10 @@ IsNoLink a path = (why : ErrorKind) × (a.link path ≡ Err why) × (is_no_link 
 -- A name leads to this path, which is no link, or to an open file.
 abbrev pub LeadsTo : Answers → Text → Text → Type 0
 LeadsTo a name path =
-    (links : ℕ) × (links < most_links) × Follows a links name path × IsNoOpenFile a path × IsNoLink a path
+    (links : ℕ) × (links ≤ most_links) × Follows a links name path × IsNoOpenFile a path × IsNoLink a path
 
 abbrev pub LeadsToOpenFile : Answers → Text → Type 0
-LeadsToOpenFile a name = (links : ℕ) × (path : Text) × (links < most_links) × Follows a links name path × IsOpenFile a path
+LeadsToOpenFile a name = (links : ℕ) × (path : Text) × (links ≤ most_links) × Follows a links name path × IsOpenFile a path
 
 -- Where it leads can't be found out: at a path on the way the system can't tell its folder or its link, or there are too
 -- many links.
@@ -94,7 +93,7 @@ abbrev pub LeadsNowhere : Answers → Text → ErrorKind → Type 0
 LeadsNowhere a name why =
     ((links : ℕ) × (path : Text) × Follows a links name path × IsUnknownFolder a path why)
     ⊎ ((links : ℕ) × (path : Text) × Follows a links name path × (a.link path ≡ Err why) × (is_no_link why ≡ false))
-    ⊎ ((path : Text) × Follows a most_links name path × (why ≡ FilesystemLoop))
+    ⊎ ((path : Text) × Follows a (suc most_links) name path × (why ≡ FilesystemLoop))
 
 -- ---- what a state does to what is there
 
@@ -123,14 +122,13 @@ pub record IsDestinationOf (a : Answers) (name : Text) (d : Destination) : Type 
   pub temp : new_path (string_bytes d.target) ≡ Some (string_bytes d.temp)
   pub mode : d.mode ≡ permissions_of (a.found name)
 
--- Where it goes can't be found out: the system can't tell what is there, or where the name leads; the name ends with no
--- name of a file; or memory was refused.
+-- Where it goes can't be found out: the system can't tell what is there, or where the name leads, by an error of this
+-- kind; or the name ends with no name of a file.
 abbrev pub HasNoDestination : Answers → Text → ErrorKind → Type 0
 HasNoDestination a name why =
     ((a.found name ≡ Err why) × (is_missing why ≡ false))
     ⊎ LeadsNowhere a name why
     ⊎ ((path : Text) × (kind : Kind) × GoesTo a name (a.found name) path kind × (new_path path ≡ None) × (why ≡ InvalidFilename))
-    ⊎ (why ≡ OutOfMemory)
 
 -- ---- two paths
 

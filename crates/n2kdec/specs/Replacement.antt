@@ -1,8 +1,11 @@
 -- How a text comes to a name: it takes the place of another, so that at each moment one of the two is there, whole; or,
 -- where the folder does not allow that, it is written over the file itself.
-use Rattle.std.specs.Prelude.{◌≡◌, ◌⊎◌, ◌<◌, ◌++◌, ℕ, Bool, true, false, List, [], ◌∷◌, Option, Some, None, IfSome}
-use Rattle.std.specs.Prelude.{codes, Result, Ok, Err, IsErr, OnOk, MatchResult}
+use Rattle.std.specs.Prelude.{◌≡◌, ◌⊎◌, ◌<◌, ◌++◌, ℕ, Bool, true, false, List, [], ◌∷◌, Option, Some, None, IfSome, if◌then◌else◌}
+use Rattle.std.specs.Prelude.{codes, Result, Ok, Err, IsErr, IsErrAnd, OnOk, MatchResult}
+use Rattle.std.specs.IoError.{error_kind}
+use Rattle.std.specs.declared.io.Error.{Error}
 use Rattle.std.specs.declared.io.ErrorKind.{ErrorKind}
+use Rattle.std.specs.declared.io.ErrorKind.TheVariants.{OutOfMemory}
 use Rattle.clap.specs.Words.{Text}
 use Rattle.n2kdec.specs.Destination.{HasNoDestination, IsDestinationOf, leads}
 use Rattle.n2kdec.specs.Disk as act
@@ -15,7 +18,7 @@ use Rattle.n2kdec.specs.declared.destination.Destination.{Destination}
 use Rattle.n2kdec.specs.declared.destination.Kind.{Kind}
 use Rattle.n2kdec.specs.declared.destination.Kind.TheVariants.{Alone, Shared, Special}
 use Rattle.n2kdec.specs.declared.keeper.Unkept.{Unkept}
-use Rattle.n2kdec.specs.declared.keeper.Unkept.TheVariants.{Harm, Unfound, Failed}
+use Rattle.n2kdec.specs.declared.keeper.Unkept.TheVariants.{Harm, Unfound, Memory, Failed}
 use Rattle.n2kdec.specs.declared.reason.Reason.{Reason}
 use Rattle.n2kdec.specs.declared.reason.Reason.TheVariants as told
 
@@ -191,40 +194,55 @@ KeepsAs Special d old new text result = WritesBehind (path_of d Target) old new 
 abbrev pub IsFoundFor : Option Answers → Text → Destination → Type 0
 IsFoundFor answers name d = IfSome answers (λ a. IsDestinationOf a name d)
 
--- none can be found, for this reason
-abbrev pub IsNotFoundFor : Option Answers → Text → ErrorKind → Type 0
-IsNotFoundFor answers name why = IfSome answers (λ a. HasNoDestination a name why)
+-- none can be found, by an error of this kind
+abbrev pub IsNotFoundFor : Option Answers → Text → Error → Type 0
+IsNotFoundFor answers name error = IfSome answers (λ a. HasNoDestination a name (error_kind error))
 
--- A text comes to the file to which a name leads; where that can't be found out nothing is done.
-abbrev pub KeepsText : {T E : Type 0} → Option Answers → Option (List Act) → Option (List Act) → Text → List ℕ
-    → Result T E → Type 0
+-- memory is refused: nothing says when
+abbrev pub is_memory : ErrorKind → Bool
+is_memory OutOfMemory = true
+is_memory _ = false
+
+abbrev pub IsOfMemory : Error → Type 0
+IsOfMemory error = is_memory (error_kind error) ≡ true
+
+-- A text comes to the file to which a name leads. Only where that can't be found out, by this error, or memory is
+-- refused, nothing is done.
+abbrev pub KeepsText : {T : Type 0} → Option Answers → Option (List Act) → Option (List Act) → Text → List ℕ
+    → Result T Error → Type 0
 KeepsText answers old new name text result =
     ((d : Destination) × IsFoundFor answers name d × KeepsAs d.kind d old new text result)
-    ⊎ ((why : ErrorKind) × IsNotFoundFor answers name why × (new ≡ old) × IsErr result)
-
--- both are Ok, or both an error
-abbrev pub AreAlike : {T E F : Type 0} → Result T E → Result T F → Type 0
-AreAlike (Ok value) (Ok other) = Unit {0}
-AreAlike (Err reason) (Err why) = Unit {0}
-AreAlike _ _ = ⊥
+    ⊎ ((new ≡ old) × IsErrAnd result (λ error. IsNotFoundFor answers name error ⊎ IsOfMemory error))
 
 -- ---- why a state is not kept
 
--- it is not admitted, and the log is not read then
-abbrev pub IsOfAdmission : Unkept → Type 0
-IsOfAdmission Harm = Unit {0}
-IsOfAdmission (Unfound error) = Unit {0}
-IsOfAdmission (Failed error) = ⊥
+-- why it can't be found out where a state goes, by the error of what was asked
+abbrev pub unfound_of : Error → Unkept
+unfound_of error = if is_memory (error_kind error) then Memory error else Unfound error
 
--- it was to be kept after the log
-abbrev pub IsOfKeep : Unkept → Type 0
-IsOfKeep (Failed error) = Unit {0}
-IsOfKeep _ = ⊥
+-- where a call failed, it is noted why
+abbrev pub IsNoted : {T E : Type 0} → Result T Unkept → Option Unkept → Result T E → Type 0
+IsNoted (Ok value) noted (Ok other) = other ≡ value
+IsNoted (Err why) noted (Err failed) = noted ≡ Some why
+IsNoted _ noted _ = ⊥
+
+-- P holds of what a call answered, if that was an error of the one that is noted
+abbrev pub HoldsAsNoted : {T E : Type 0} → (Result T Unkept → Type 0) → Option Unkept → Result T E → Type 0
+HoldsAsNoted P noted (Ok value) = P (Ok value)
+HoldsAsNoted P noted (Err failed) = (why : Unkept) × (noted ≡ Some why) × P (Err why)
+
+-- a state is kept as a text is, and a failure is the error of that
+abbrev pub KeepsState : {T : Type 0} → Option Answers → Option (List Act) → Option (List Act) → Text → List ℕ
+    → Result T Unkept → Type 0
+KeepsState answers old new name state (Ok kept) = KeepsText answers old new name state (Ok kept)
+KeepsState {T} answers old new name state (Err (Failed error)) = KeepsText {T = T} answers old new name state (Err error)
+KeepsState answers old new name state (Err _) = ⊥
 
 -- the reason that is told of each
 abbrev pub TellsOf : Unkept → Reason → Type 0
 TellsOf Harm told.Harm = Unit {0}
 TellsOf (Unfound error) (told.Unfound words) = Unit {0}
+TellsOf (Memory error) (told.Unfound words) = Unit {0}
 TellsOf (Failed error) (told.System words) = Unit {0}
 TellsOf _ _ = ⊥
 
@@ -293,10 +311,18 @@ abbrev pub HarmsSome : Option Answers → Destination → Files → Type 0
 HarmsSome answers d files =
     HarmsTarget (leads answers (path_of d Target)) d.kind files ⊎ HarmsTemp (leads answers (path_of d Temp)) files
 
--- A run is judged by where its state goes: it is refused only where that can't be found out, or something would be
--- harmed.
-abbrev pub Admits : {T E : Type 0} → Option Answers → Text → Files → Result T E → Type 0
+-- A run is judged by where its state goes.
+abbrev pub IsJudged : {T : Type 0} → Option Answers → Destination → Files → Result T Unkept → Type 0
+IsJudged answers d files (Ok done) = HarmsNone answers d files
+IsJudged answers d files (Err Harm) = HarmsSome answers d files
+IsJudged answers d files (Err _) = ⊥
+
+-- A run is admitted only where its state's place is found and nothing would be harmed there. It is refused as Harm only
+-- where something would be harmed there, as Unfound only where the place can't be found out, by this error, and as Memory
+-- only by an error of that kind.
+abbrev pub Admits : {T : Type 0} → Option Answers → Text → Files → Result T Unkept → Type 0
 Admits answers name files (Ok done) = (d : Destination) × IsFoundFor answers name d × HarmsNone answers d files
-Admits answers name files (Err why) =
-    ((d : Destination) × IsFoundFor answers name d × HarmsSome answers d files)
-    ⊎ ((kind : ErrorKind) × IsNotFoundFor answers name kind)
+Admits answers name files (Err Harm) = (d : Destination) × IsFoundFor answers name d × HarmsSome answers d files
+Admits answers name files (Err (Unfound error)) = IsNotFoundFor answers name error
+Admits answers name files (Err (Memory error)) = IsOfMemory error
+Admits answers name files (Err (Failed error)) = ⊥

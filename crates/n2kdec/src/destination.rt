@@ -114,7 +114,7 @@ fn follow_links<D: Disk>(alloc: Global, disk: &D, name: &str) -> io::Result<Opti
     ensures { IfSome (D.answers disk.now) (λ a. AnswersLinks a name.now result) }
 {
     let mut path = String::from_str(alloc, name)?;
-    for links in 0..MOST_LINKS {
+    for links in 0..=MOST_LINKS {
         if is_open_file(disk, path.as_str())? {
             return Ok(None);
         }

@@ -1,15 +1,14 @@
 //! Where a state is kept after a run: the trait, and the files of a disk, by which the program does it.
-ghost use Rattle.std.specs.Prelude.{◌≡◌, ℕ, Bool, List, Option, Some, true, false, IfErr, IfSome, IsSomeAnd, OnErr};
-ghost use Rattle.std.specs.Prelude.{OnOk};
+ghost use Rattle.std.specs.Prelude.{◌≡◌, ℕ, Bool, List, Option, Some, true, false, IfSome, IsSomeAnd, OnErr, OnOk};
 ghost use Rattle.clap.specs.Words.{Text};
 ghost use Rattle.n2k_run.specs.Device.{CountsFailure};
 ghost use Rattle.n2kdec.specs.Commands.{IsAdmitted, Kept, KeepsUnder, MayBeRefused, MayKeepUnder};
 ghost use Rattle.n2kdec.specs.Destination.{leads};
 ghost use Rattle.n2kdec.specs.FaultSentence.{IsAsKnown};
 ghost use Rattle.n2kdec.specs.Folder.{Target, Temp, path_of};
-ghost use Rattle.n2kdec.specs.Replacement.{Admits, AreAlike, HarmsFiles, HarmsTarget, HarmsTemp, IsApart, IsMet, IsOfAdmission};
-ghost use Rattle.n2kdec.specs.Replacement.{HarmsNone, HarmsSome, IsOfKeep, KeepsText, SparesFiles, SparesTarget, SparesTemp};
-ghost use Rattle.n2kdec.specs.Replacement.{TellsOf, read_log};
+ghost use Rattle.n2kdec.specs.Replacement.{Admits, HarmsFiles, HarmsNone, HarmsSome, HarmsTarget, HarmsTemp, HoldsAsNoted};
+ghost use Rattle.n2kdec.specs.Replacement.{IsApart, IsJudged, IsMet, IsNoted, KeepsState, SparesFiles, SparesTarget, SparesTemp};
+ghost use Rattle.n2kdec.specs.Replacement.{TellsOf, is_memory, read_log, unfound_of};
 ghost use Rattle.n2kdec.specs.declared.asked.Files.{Files};
 ghost use Rattle.n2kdec.specs.declared.reason.Reason.{Reason};
 
@@ -21,7 +20,7 @@ use crate::replacement::keep_text;
 use crate::words::Word;
 use n2k_run::{Failed, Sink};
 use std::alloc::Global;
-use std::io::Error;
+use std::io::{Error, ErrorKind};
 
 /// A place where the state after a run is kept.
 pub trait Keeper {
@@ -71,6 +70,8 @@ pub enum Unkept {
     Harm,
     /// Where it goes can't be found out.
     Unfound(Error),
+    /// Memory was refused where that was looked for.
+    Memory(Error),
     /// A call of the disk failed.
     Failed(Error),
 }
@@ -156,27 +157,49 @@ fn is_harmless<D: Disk>(disk: &D, to: &Destination, files: &Files) -> bool
         && spares_temp(disk, to.temp.as_str(), files)
 }
 
-/// Finds where a state of this name goes. An error where something would be harmed by it there, or that can't be found
-/// out.
-fn admit_to<D: Disk>(alloc: Global, disk: &D, name: &str, files: &Files) -> Result<(), Unkept>
-    ensures admits { Admits (D.answers disk.now) name.now files.now result }
-    ensures why { IfErr result IsOfAdmission }
+/// Judges a run by where its state goes.
+fn judge<D: Disk>(disk: &D, to: &Destination, files: &Files) -> Result<(), Unkept>
+    ensures { IsJudged (D.answers disk.now) to.now files.now result }
 {
-    let to = match find(alloc, disk, name) {
-        Ok(to) => to,
-        Err(error) => return Err(Unkept::Unfound(error)),
-    };
-    if is_harmless(disk, &to, files) {
+    if is_harmless(disk, to, files) {
         Ok(())
     } else {
         Err(Unkept::Harm)
     }
 }
 
+/// Whether memory was refused.
+fn is_memory(why: ErrorKind) -> bool
+    ensures { result ≡ is_memory why }
+{
+    matches!(why, ErrorKind::OutOfMemory)
+}
+
+/// Why it can't be found out where a state goes, by the error of what was asked.
+fn why_unfound(error: Error) -> Unkept
+    ensures { result ≡ unfound_of error }
+{
+    if is_memory(error.kind()) {
+        Unkept::Memory(error)
+    } else {
+        Unkept::Unfound(error)
+    }
+}
+
+/// Finds where a state of this name goes. An error where something would be harmed by it there, or that can't be found
+/// out.
+fn admit_to<D: Disk>(alloc: Global, disk: &D, name: &str, files: &Files) -> Result<(), Unkept>
+    ensures { Admits (D.answers disk.now) name.now files.now result }
+{
+    match find(alloc, disk, name) {
+        Ok(to) => judge(disk, &to, files),
+        Err(error) => Err(why_unfound(error)),
+    }
+}
+
 /// Keeps a state in the file to which a name leads. An error where a call of the disk failed.
 fn keep_state<D: Disk>(alloc: Global, disk: &mut D, name: &str, state: &[u8]) -> Result<(), Unkept>
-    ensures keeps { KeepsText (D.answers disk.old) (D.acts disk.old) (D.acts disk.new) name.now state.now result }
-    ensures why { IfErr result IsOfKeep }
+    ensures { KeepsState (D.answers disk.old) (D.acts disk.old) (D.acts disk.new) name.now state.now result }
 {
     match keep_text(alloc, disk, name, state) {
         Ok(()) => Ok(()),
@@ -200,9 +223,8 @@ fn count(
     failure: &mut Option<Unkept>,
     answer: Result<(), Unkept>,
 ) -> Result<(), Failed>
-    ensures answered { AreAlike answer result }
+    ensures noted { IsNoted answer failure.new result }
     ensures counted { CountsFailure failed.old failed.new result }
-    ensures noted { IfErr answer (λ why. failure.new ≡ Some why) }
 {
     if let Err(why) = answer {
         *failed = failed.saturating_add(1);
@@ -244,11 +266,10 @@ impl<D: Disk> Keeper for StateFiles<D> {
 
     ghost unkept = { λ _. None };
 
-    #[tactic(auto, using(crate::proofs::Placing::admits_so))]
+    #[tactic(auto, using(crate::proofs::Keeping::as_noted))]
     fn admit(&mut self, name: &str, files: &Files) -> Result<(), Failed>
-        ensures harmless { Admits (D.answers self.old.disk) name.now files.now result }
+        ensures harmless { HoldsAsNoted (Admits (D.answers self.old.disk) name.now files.now) self.new.failure result }
         ensures untouched { self.new.disk ≡ self.old.disk }
-        ensures why { OnErr result (IsSomeAnd self.new.failure IsOfAdmission) }
         ensures keeps { self.new.failed_keeps ≡ self.old.failed_keeps }
         ensures counted { CountsFailure self.old.failed_admissions self.new.failed_admissions result }
     {
@@ -256,11 +277,11 @@ impl<D: Disk> Keeper for StateFiles<D> {
         count(&mut self.failed_admissions, &mut self.failure, admitted)
     }
 
+    #[tactic(auto, using(crate::proofs::Keeping::as_noted))]
     fn keep<E: Sink>(&mut self, name: &str, state: &[u8], _errors: &E) -> Result<(), Failed>
-        ensures calls { KeepsText (D.answers self.old.disk) (D.acts self.old.disk) (D.acts self.new.disk) name.now
-            state.now result }
+        ensures calls { HoldsAsNoted (KeepsState (D.answers self.old.disk) (D.acts self.old.disk) (D.acts self.new.disk)
+            name.now state.now) self.new.failure result }
         ensures admissions { self.new.failed_admissions ≡ self.old.failed_admissions }
-        ensures why { OnErr result (IsSomeAnd self.new.failure IsOfKeep) }
         ensures counted { CountsFailure self.old.failed_keeps self.new.failed_keeps result }
     {
         let kept = keep_state(self.alloc, &mut self.disk, name, state);
@@ -273,7 +294,9 @@ impl<D: Disk> Keeper for StateFiles<D> {
     {
         match self.failure? {
             Unkept::Harm => Some(Reason::Harm),
-            Unkept::Unfound(error) => Some(Reason::Unfound(words_for(alloc, &error)?)),
+            Unkept::Unfound(error) | Unkept::Memory(error) => {
+                Some(Reason::Unfound(words_for(alloc, &error)?))
+            }
             Unkept::Failed(error) => Some(Reason::System(words_for(alloc, &error)?)),
         }
     }

@@ -46,4 +46,4 @@ AnswersTarget a name (Err error) was = LeadsNowhere a name (error_kind error) �
 -- where a state goes, or why that can't be found out
 abbrev pub AnswersDestination : Answers → Text → Result Destination Error → Type 0
 AnswersDestination a name (Ok d) = IsDestinationOf a name d
-AnswersDestination a name (Err error) = HasNoDestination a name (error_kind error)
+AnswersDestination a name (Err error) = HasNoDestination a name (error_kind error) ⊎ (error_kind error ≡ OutOfMemory)

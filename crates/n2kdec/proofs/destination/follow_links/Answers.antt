@@ -1,4 +1,4 @@
-use Rattle.std.proofs.Common.{◌≡◌, arith}
+use Rattle.std.proofs.Common.{◌≡◌, suc, arith}
 use Rattle.n2kdec.specs.Destination.{most_links}
 use Rattle.n2kdec.proofs.Finding.{at_end, at_last, at_link, at_open_file, at_unread_link}
 use Rattle.n2kdec.proofs.destination.follow_links.Goals as goal
@@ -23,5 +23,5 @@ loop-links-preserved g c =
 
 pub returns : goal.returns
 returns g c =
-    let all : c.loop-links.links ≡ most_links = omega (arith, c.loop-links.auto.links-end, c.loop-links-test.false) in
+    let all : c.loop-links.links ≡ suc most_links = omega (arith, c.loop-links.auto.links-end, c.loop-links-test.false) in
     at_last (g.D.Disk.answers c.args.disk.now) c.args.name.now _ c.loop-links.links _ all c.loop-links.invariant c.from.ensures
