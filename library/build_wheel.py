@@ -1,8 +1,8 @@
-"""Makes the wheel that `pip install ./library` installs (PEP 517): n2kdec.py, and beside it the library that it calls.
+"""Makes the wheel that `pip install ./library` installs (PEP 517): the package n2kdec, with the library that it calls.
 
 The library is the file that the variable N2KDEC_LIBRARY names; else what library/build makes, where the command rt of the
-Rattle kit is there. Where it is not, the wheel has the module alone, which then calls the system's libn2kdec.so.1: where
-that is missing too, there is no wheel, and an error says why.
+Rattle kit is there. Where it is not, the wheel has none, and the package calls the system's libn2kdec.so.1: where that
+is missing too, there is no wheel, and an error says why.
 """
 import base64
 import ctypes
@@ -32,11 +32,11 @@ def _library():
     if shutil.which("rt"):
         with tempfile.TemporaryDirectory() as folder:
             subprocess.run([HERE / "build", folder], check=True)
-            return pathlib.Path(folder, "libn2kdec.so").read_bytes()
+            return pathlib.Path(folder, "libn2kdec.so.1").read_bytes()
     try:
         ctypes.CDLL("libn2kdec.so.1")
     except OSError as error:
-        raise SystemExit(f"{error}: install the package libn2kdec-dev, or name the library by N2KDEC_LIBRARY") from error
+        raise SystemExit(f"{error}: install the package libn2kdec1, or name the library by N2KDEC_LIBRARY") from error
     return None
 
 
@@ -64,9 +64,9 @@ def build_wheel(wheel_directory, config_settings=None, metadata_directory=None):
     """Writes the wheel into a folder, and gives its name. The same files make the same bytes."""
     version, library = _version(), _library()
     tag = "py3-none-any" if library is None else f"py3-none-linux_{platform.machine()}"
-    files = {"n2kdec.py": (HERE / "n2kdec.py").read_bytes()}
+    files = {f"n2kdec/{name}": (HERE / "n2kdec" / name).read_bytes() for name in ("__init__.py", "py.typed")}
     if library is not None:
-        files["libn2kdec.so"] = library
+        files["n2kdec/libn2kdec.so.1"] = library
     about = f"n2kdec-{version}.dist-info"
     files[f"{about}/METADATA"] = _metadata(version)
     files[f"{about}/WHEEL"] = (

@@ -3,10 +3,10 @@
 
 int main() {
     n2k_decoder decoder = {};
-    const n2k_settings settings = {10000, true, false, false};
+    const n2k_settings settings = {10000, true, false, false, {}};
     const char table[] = "format = 1\n";
     const auto bytes = reinterpret_cast<const uint8_t *>(table);
-    const int32_t status = n2k_open(bytes, sizeof table - 1, false, bytes, 0, &settings, &decoder);
+    const int32_t status = n2k_open(bytes, sizeof table - 1, false, nullptr, 0, &settings, &decoder);
     n2k_close(&decoder);
     return status == N2K_DONE && n2k_end(&decoder) == N2K_CLOSED ? 0 : 1;
 }

@@ -8,7 +8,6 @@
 #include "texts.h"
 
 static const struct n2k_settings usual = {.window = 10000};
-static const uint8_t nothing[1];
 static long answered;
 
 static void want(int32_t wanted, int32_t status, const char *call) {
@@ -42,7 +41,7 @@ static char *too_many_fields(void) {
 }
 
 static int32_t open_with(struct n2k_decoder *d, struct text table, const struct text *state, const struct n2k_settings *settings) {
-    return n2k_open(table.bytes, table.size, state != NULL, state ? state->bytes : nothing, state ? state->size : 0, settings, d);
+    return n2k_open(table.bytes, table.size, state != NULL, state ? state->bytes : NULL, state ? state->size : 0, settings, d);
 }
 
 // Whether the handle is zeros, as before its first call.
@@ -52,18 +51,21 @@ static void stays_closed(const struct n2k_decoder *d) {
 
 static void closed(void) {
     struct n2k_decoder d = {0};
-    struct n2k_counted counted;
+    struct n2k_counted counted = {.lines = 5, .reserved = {6, 7}};
     uint8_t room[1] = {'x'};
-    size_t size = 0;
+    size_t size = 12345;
     want(N2K_CLOSED, n2k_feed(&d, (const uint8_t *)"x\n", 2), "feed of none");
     want(N2K_CLOSED, n2k_end(&d), "end of none");
     want(N2K_CLOSED, n2k_take(&d, room, 1, &size), "take of none");
     want(N2K_CLOSED, n2k_take_reports(&d, room, 1, &size), "take_reports of none");
     want(N2K_CLOSED, n2k_save(&d, room, 1, &size), "save of none");
     want(N2K_CLOSED, n2k_counts(&d, &counted), "counts of none");
+    want(N2K_CLOSED, n2k_waiting(&d, &size), "waiting of none");
     n2k_close(&d);
+    n2k_close(NULL);
     stays_closed(&d);
-    if (room[0] != 'x') fail("a room was written to", room[0]);
+    if (room[0] != 'x' || size != 12345) fail("a room or a size was written to", (long)size);
+    if (counted.lines != 5 || counted.reserved[0] != 6 || counted.reserved[1] != 7) fail("counts were written to", (long)counted.lines);
 }
 
 static void refused_windows(struct text table) {
@@ -74,6 +76,35 @@ static void refused_windows(struct text table) {
         want(N2K_WINDOW, open_with(&d, table, NULL, &settings), "open with a window that is none");
         stays_closed(&d);
     }
+}
+
+static void refused_settings(struct text table) {
+    struct n2k_decoder d = {0};
+    for (size_t at = 0; at < sizeof usual.reserved; at++) {
+        struct n2k_settings settings = usual;
+        settings.reserved[at] = (uint8_t)(1 << at % 8);
+        want(N2K_RESERVED, open_with(&d, table, NULL, &settings), "open with a setting that it does not know");
+        stays_closed(&d);
+    }
+}
+
+// The texts are those of the program's fault lines, which tests/library/python.py compares with the program's.
+static void texts(void) {
+    const struct {
+        int32_t status;
+        const char *text;
+    } wanted[] = {
+        {N2K_DONE, "done"},  {N2K_MEMORY, "memory"},        {N2K_RESERVED, "a reserved byte of the settings is not 0"},
+        {101, "table 1 NotToml"}, {109, "table 9 TooMany"}, {201, "state 1 NotJson"},
+        {206, "memory"},     {207, "state 7 WindowDiffers"},
+    };
+    for (size_t at = 0; at < sizeof wanted / sizeof *wanted; at++)
+        if (strcmp(n2k_status_text(wanted[at].status), wanted[at].text) != 0) fail("another text of status", wanted[at].status);
+    for (int32_t status = -300; status < 300; status++) {
+        bool is_one = (status >= 0 && status <= 8) || (status > 100 && status < 110) || (status > 200 && status < 208);
+        if (is_one == (strcmp(n2k_status_text(status), "no status of this version") == 0)) fail("a text of status", status);
+    }
+    if (n2k_version() != N2KDEC_VERSION) fail("the library has version", (long)n2k_version());
 }
 
 static void refused_tables(struct text table) {
@@ -100,17 +131,18 @@ static void refused_state(struct text table, struct text state, int32_t number, 
     free(state.bytes);
 }
 
-// What waits, or the state, in rooms that are too small by every number of bytes, and then in one that is not.
+// What waits, or the state, in rooms that are too small by every number of bytes, and then in one that is larger.
 static void take_in_small_rooms(struct n2k_decoder *d, int32_t (*call)(struct n2k_decoder *, uint8_t *, size_t, size_t *), struct text *to) {
     size_t wanted, size;
-    if (call(d, (uint8_t *)nothing, 0, &wanted) == N2K_DONE) return;
+    if (call(d, NULL, 0, &wanted) == N2K_DONE) return;
     for (size_t room = 0; room <= wanted; room++) {
-        uint8_t *bytes = block(room);
-        memset(bytes, 'x', room);
-        want(room < wanted ? N2K_ROOM : N2K_DONE, call(d, bytes, room, &size), "take into a room");
+        size_t whole = room < wanted ? room : room + 9;
+        uint8_t *bytes = block(whole);
+        memset(bytes, 'x', whole);
+        want(room < wanted ? N2K_ROOM : N2K_DONE, call(d, bytes, whole, &size), "take into a room");
         if (size != wanted) fail("another size is told", (long)size);
-        for (size_t at = 0; room < wanted && at < room; at++)
-            if (bytes[at] != 'x') fail("a room that is too small was written to", (long)at);
+        for (size_t at = room < wanted ? 0 : wanted; at < whole; at++)
+            if (bytes[at] != 'x') fail("a room was written to where no text is", (long)at);
         if (room == wanted) append(to, bytes, size);
         free(bytes);
     }
@@ -156,8 +188,10 @@ int main(int count, char **words) {
     struct text printed = {0}, reported = {0};
     struct n2k_decoder d = {0};
     size_t start = 0, size;
+    texts();
     closed();
     refused_windows(table);
+    refused_settings(table);
     refused_tables(table);
     too_much(table);
     want(N2K_DONE, open_with(&d, table, NULL, &usual), "open");
@@ -165,6 +199,7 @@ int main(int count, char **words) {
         if (log.bytes[at] != '\n') continue;
         want(N2K_DONE, n2k_feed(&d, log.bytes + start, at + 1 - start), "feed");
         start = at + 1;
+        want(N2K_DONE, n2k_feed(&d, NULL, 0), "feed of nothing");
         want(N2K_OPEN, open_with(&d, table, NULL, &usual), "open of one that is open");
         closed();
         refused_windows(table);
@@ -178,7 +213,7 @@ int main(int count, char **words) {
     want(N2K_OPEN, open_with(&d, table, NULL, &usual), "open of an ended log");
     take_in_small_rooms(&d, n2k_take, &printed);
     take_in_small_rooms(&d, n2k_take_reports, &reported);
-    want(N2K_DONE, n2k_take(&d, (uint8_t *)nothing, 0, &size), "take of nothing");
+    want(N2K_DONE, n2k_take(&d, NULL, 0, &size), "take of nothing");
     n2k_close(&d);
     n2k_close(&d);
     stays_closed(&d);

@@ -51,8 +51,7 @@ static void take(struct n2k_decoder *decoder, take_call *call, struct text *to) 
 }
 
 static void open_decoder(struct run *run, const struct text *state) {
-    static const uint8_t none[1];
-    int32_t status = n2k_open(run->table.bytes, run->table.size, state != NULL, state ? state->bytes : none,
+    int32_t status = n2k_open(run->table.bytes, run->table.size, state != NULL, state ? state->bytes : NULL,
                               state ? state->size : 0, &run->settings, &run->decoder);
     if (status != N2K_DONE) fail("open", status);
     calls++, opened++;
@@ -80,6 +79,14 @@ static void feed(struct run *run, size_t at, size_t size) {
     calls++;
 }
 
+// So many bytes of a line wait.
+static void is_cut(struct n2k_decoder *decoder, size_t wanted) {
+    size_t size;
+    int32_t status = n2k_waiting(decoder, &size);
+    if (status != N2K_DONE || size != wanted) fail("other bytes wait", (long)size);
+    calls++;
+}
+
 // Saves, closes and goes on from the state.
 static void go_on(struct run *run) {
     struct text state = {block(1), 0, 1};
@@ -101,6 +108,7 @@ static void go_over(struct run *run) {
         feed(run, at, size);
         for (size_t end = at + size; at < end; at++)
             if (run->log.bytes[at] == '\n') start = at + 1, lines++;
+        is_cut(&run->decoder, at - start);
         if (below(3) == 0) take(&run->decoder, n2k_take, &run->printed);
         if (below(5) == 0) take(&run->decoder, n2k_take_reports, &run->reported);
         if (lines >= wanted) {
@@ -110,6 +118,7 @@ static void go_over(struct run *run) {
     }
     int32_t status = n2k_end(&run->decoder);
     if (status != N2K_DONE) fail("end", status);
+    is_cut(&run->decoder, 0);
     take_both(run);
     calls++;
 }

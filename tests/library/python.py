@@ -1,11 +1,13 @@
-"""Tries library/n2kdec.py: N2KDEC_PROGRAM is the program, N2KDEC_LIBRARY the library."""
+"""Tries library/n2kdec: N2KDEC_PROGRAM is the program, N2KDEC_LIBRARY the library."""
 import ast
+import concurrent.futures
 import copy
 import io
 import json
 import os
 import pathlib
 import pickle
+import random
 import shutil
 import subprocess
 import sys
@@ -13,6 +15,7 @@ import tempfile
 import threading
 import time
 import unittest
+import warnings
 from decimal import Decimal
 
 import n2kdec
@@ -102,11 +105,107 @@ class Decoding(unittest.TestCase):
     def test_sources(self):
         log = (ROOT / "examples/two-sources.log").read_bytes()
         wanted = [json.loads(it) for it in program("decode", "--table", SAMPLE, log=log).stdout.splitlines()]
-        for source in (log, bytearray(log), memoryview(log), [log[:50], log[50:]], iter([log]), io.BufferedReader(io.BytesIO(log))):
+        path = ROOT / "examples/two-sources.log"
+        for source in (log, bytearray(log), memoryview(log), [log[:50], log[50:]], iter([log]), io.BufferedReader(io.BytesIO(log)),
+                       path, str(path)):
             self.assertEqual(list(n2kdec.decode(source, table=SAMPLE)), wanted)
-        for source in (io.StringIO("x"), ["x"], [1], "trip.log"):
+        for source in (io.StringIO("x"), ["x"], [1]):
             with self.assertRaises(TypeError):
                 list(n2kdec.decode(source, table=SAMPLE))
+        with self.assertRaises(FileNotFoundError):
+            list(n2kdec.decode("no such log", table=SAMPLE))
+
+    def wanted(self, log=None):
+        """The trip's messages, or those of a log."""
+        return [json.loads(it) for it in program("decode", "--table", TABLE, *([] if log else [TRIP]), log=log or b"").stdout.splitlines()]
+
+    def test_nothing_is_lost_after_a_break(self):
+        log, wanted = TRIP.read_bytes() * 30, self.wanted(TRIP.read_bytes() * 30)
+        with tempfile.TemporaryDirectory() as folder:
+            tape = pathlib.Path(folder, "tape")
+            tape.write_bytes(log)
+            sources = (lambda: log, lambda: TRIP, lambda: str(tape), lambda: io.BytesIO(log), lambda: iter([log[:100_000], log[100_000:]]))
+            for stops in (1, 10, 47, 500):
+                for make in sources:
+                    source = make()
+                    with n2kdec.Decoder(TABLE) as decoder:
+                        seen = []
+                        for message in decoder.decode(source):
+                            seen.append(message)
+                            if len(seen) == stops:
+                                break
+                        # Those of a stream, which goes on itself, and of the rest of what was handed in.
+                        for message in decoder.decode(source if hasattr(source, "read") or hasattr(source, "__next__") else b""):
+                            seen.append(message)
+                        self.assertEqual(seen, wanted[: len(seen)])
+                        self.assertEqual(len(seen), 48 if source is TRIP else len(wanted))
+                        self.assertEqual(decoder.counts.messages, len(seen))
+
+    def test_nothing_is_lost_where_the_body_raises(self):
+        wanted, seen = self.wanted(), []
+        with n2kdec.Decoder(TABLE) as decoder, TRIP.open("rb") as log:
+            for _ in range(3):
+                with self.assertRaises(OSError), open("/dev/full", "wb", buffering=0) as disk:
+                    for message in decoder.decode(log):
+                        seen.append(message)
+                        disk.write(json.dumps(message).encode())
+                with self.assertRaisesRegex(n2kdec.Error, "not all was handed on"):
+                    decoder.save()
+            self.assertEqual(seen, wanted[:3])
+            messages = decoder.decode(log)
+            seen += [next(messages), next(messages)]
+            with self.assertRaisesRegex(n2kdec.Error, "not all was handed on"):
+                decoder.save()
+            seen += decoder.messages()
+            state = decoder.save()
+            seen += messages
+            self.assertEqual((seen, decoder.counts.messages), (wanted, 48))
+        with n2kdec.Decoder(TABLE, state=state) as decoder:
+            self.assertEqual(decoder.counts.messages, 48)
+
+    def test_what_waits_of_a_cut_line_is_told_and_fed_again(self):
+        log, whole = TRIP.read_bytes(), program("decode", "--table", TABLE, TRIP).stdout
+        for cut in (1, 50, log.index(b"\n") + 1, 3000):
+            with n2kdec.Decoder(TABLE) as decoder:
+                decoder.feed(log[:cut])
+                pending, printed, state = decoder.pending, decoder.take(), decoder.save()
+            self.assertEqual(pending, cut - log.rfind(b"\n", 0, cut) - 1)
+            with n2kdec.Decoder(TABLE, state=state) as decoder:
+                self.assertEqual(decoder.pending, 0)
+                decoder.feed(log[cut - pending :])
+                decoder.end()
+                self.assertEqual((printed + decoder.take(), decoder.pending), (whole, 0))
+
+    def test_what_was_left_is_taken_as_asked(self):
+        printed = program("decode", "--table", TABLE, TRIP).stdout
+        with n2kdec.Decoder(TABLE) as decoder:
+            next(decoder.decode(TRIP.read_bytes()))
+            self.assertIsInstance(next(decoder.decode(decimals=True))["fields"]["SID"], int)
+            self.assertEqual(b"".join(printed.splitlines(True)[2:]), decoder.take())
+        with n2kdec.Decoder(TABLE) as decoder:
+            next(decoder.decode(TRIP.read_bytes()))
+            numbers = [message["fields"]["Depth"] for message in decoder.messages(decimals=True) if message["pgn"] == 128267]
+            self.assertEqual(numbers, [Decimal("3.42"), Decimal("4.22")])
+        with n2kdec.Decoder(TABLE) as decoder:
+            decoder.feed(TRIP.read_bytes())
+            with self.assertRaisesRegex(n2kdec.Error, "not all was handed on"):
+                decoder.save()
+            decoder.messages()
+            decoder.save()
+
+    def test_a_report_is_not_lost_where_it_is_not_taken(self):
+        log = (ROOT / "examples/ten-lines-eight-bad.log").read_bytes()
+        wanted = program("decode", "--table", SAMPLE, log=log).stderr.decode().splitlines()[:-1]
+        reports = []
+
+        def first(report):
+            reports.append(report)
+            raise OSError
+
+        with n2kdec.Decoder(SAMPLE) as decoder:
+            with self.assertRaises(OSError):
+                next(decoder.decode(log, on_report=first))
+            self.assertEqual(reports + decoder.reports(), wanted)
 
     def test_a_pipe_is_read_as_it_comes(self):
         line = (ROOT / "examples/cog-and-sog.log").read_bytes()
@@ -140,8 +239,11 @@ class Decoding(unittest.TestCase):
             self.assertLess(decoder.counts.lines, 2000)
 
     def test_an_error_and_a_decoder_beside_pickle(self):
-        error = pickle.loads(pickle.dumps(n2kdec.Error(103)))
-        self.assertEqual((str(error), error.status), ("n2kdec: table 3 Key", 103))
+        for call in (lambda: n2kdec.Decoder(b"format = 1\nx = 1\n"), lambda: n2kdec.Decoder(SAMPLE, window=31)):
+            with self.assertRaises(n2kdec.ArgumentError) as caught:
+                call()
+            error = pickle.loads(pickle.dumps(caught.exception))
+            self.assertEqual((str(error), error.status), (str(caught.exception), caught.exception.status))
         with n2kdec.Decoder(SAMPLE) as decoder:
             for copies in (copy.copy, copy.deepcopy, pickle.dumps):
                 with self.assertRaisesRegex(TypeError, "save its state"):
@@ -153,28 +255,71 @@ class Decoding(unittest.TestCase):
         with self.assertRaises(FileNotFoundError):
             n2kdec.decode(b"", table="no such table")
 
+    def test_threads_decode_in_random_pieces_and_go_on_from_states(self):
+        """N2KDEC_RUNS is how many times a log is gone over, by four threads, each with decoders of its own."""
+        logs = [TRIP, ROOT / "examples/two-sources.log", ROOT / "examples/repeat-breaks.log", ROOT / "examples/ten-lines-eight-bad.log"]
+        wanted = {log: program("decode", "--table", SAMPLE, log) for log in logs}
+
+        def differs(seed):
+            chance = random.Random(seed)
+            log = chance.choice(logs)
+            data, most, at = log.read_bytes(), 1 << chance.randrange(1, 14), 0
+            decoder, printed, reports = n2kdec.Decoder(SAMPLE), b"", []
+            while at < len(data):
+                piece = data[at : at + chance.randrange(1, most + 1)]
+                at += len(piece)
+                decoder.feed(piece)
+                printed, reports = printed + decoder.take(), reports + decoder.reports()
+                if chance.random() < 0.2:
+                    again, state = decoder.pending, decoder.save()
+                    decoder.close()
+                    decoder = n2kdec.Decoder(SAMPLE, state=state)
+                    decoder.feed(data[at - again : at])
+            decoder.end()
+            printed, reports = printed + decoder.take(), reports + decoder.reports()
+            reports.append("lines %d messages %d bad %d unknown %d broken %d open %d" % decoder.counts)
+            decoder.close()
+            return (printed, reports) != (wanted[log].stdout, wanted[log].stderr.decode().splitlines())
+
+        runs = int(os.environ.get("N2KDEC_RUNS", 12))
+        with concurrent.futures.ThreadPoolExecutor(4) as pool:
+            self.assertEqual(list(pool.map(differs, range(runs))), [False] * runs)
+
     def test_a_decoder_stays_on_its_thread(self):
         raised = []
-        with n2kdec.Decoder(SAMPLE) as decoder:
-            def feed():
-                try:
-                    decoder.feed(b"x")
-                except RuntimeError as error:
-                    raised.append(str(error))
 
-            thread = threading.Thread(target=feed)
+        def feed(decoder):
+            try:
+                decoder.feed(b"x")
+            except RuntimeError as error:
+                raised.append(str(error))
+
+        def in_thread(work, *values):
+            thread = threading.Thread(target=work, args=values)
             thread.start()
             thread.join()
+
+        with n2kdec.Decoder(SAMPLE) as decoder:
+            in_thread(feed, decoder)
         self.assertEqual(raised, ["a decoder is used by the thread that made it"])
+        held = [n2kdec.Decoder(SAMPLE)]
+        with warnings.catch_warnings(record=True) as caught:
+            warnings.simplefilter("always")
+            in_thread(held.clear)
+        self.assertEqual([(it.category, str(it.message)) for it in caught],
+                         [(ResourceWarning, "a decoder that is open was dropped by another thread than its own")])
 
     def test_the_module_is_typed_and_of_python_3_9(self):
-        source = ROOT / "library/n2kdec.py"
-        ast.parse(source.read_text(encoding="utf-8"), feature_version=(3, 9))
+        ast.parse((ROOT / "library/n2kdec/__init__.py").read_text(encoding="utf-8"), feature_version=(3, 9))
         if not shutil.which("mypy"):
             self.skipTest("mypy is not here")
-        checked = subprocess.run(["mypy", "--strict", "--python-version", "3.9", "--cache-dir", os.devnull, source],
+        self.assertTrue((ROOT / "library/n2kdec/py.typed").is_file())
+        checked = subprocess.run(["mypy", "--strict", "--python-version", "3.9", "--cache-dir", os.devnull, ROOT / "library/n2kdec"],
                                  stdout=subprocess.PIPE, text=True, check=False)
         self.assertEqual((checked.returncode, checked.stdout.splitlines()[-1:]), (0, ["Success: no issues found in 1 source file"]))
+
+    def test_its_version_is_the_programs(self):
+        self.assertEqual(f"n2kdec {n2kdec.__version__}\n", program("--version").stdout.decode())
 
     def test_errors_have_the_words_of_the_program(self):
         tables = {b"[": "table 1 NotToml", b"format = 7\n": "table 2 Format", b"format = 1\nx = 1\n": "table 3 Key"}
@@ -182,7 +327,7 @@ class Decoding(unittest.TestCase):
             table = pathlib.Path(folder, "table")
             for toml, words in tables.items():
                 table.write_bytes(toml)
-                with self.assertRaises(n2kdec.Error) as caught:
+                with self.assertRaises(ValueError) as caught:
                     n2kdec.Decoder(toml)
                 self.assertEqual(str(caught.exception), f"n2kdec: {words}")
                 self.assertEqual(program("decode", "--table", table).stderr.decode(), f"{caught.exception}\n")
@@ -200,8 +345,10 @@ class Decoding(unittest.TestCase):
             told = program("decode", "--table", SAMPLE, "--resume", table, "--window", "500").stderr.decode()
             self.assertEqual(told, f"{caught.exception}\n")
         for window in (0, 31, 1_000_001, -1, 1 << 40):
-            with self.assertRaises(n2kdec.Error):
+            with self.assertRaises(ValueError) as caught:
                 n2kdec.Decoder(SAMPLE, window=window)
+            self.assertIsInstance(caught.exception, n2kdec.Error)
+            self.assertEqual(str(caught.exception), f"a window has 32 to 1,000,000 lines, and not {window:,}")
 
     def test_a_closed_decoder_is_refused(self):
         decoder = n2kdec.Decoder(SAMPLE)
@@ -211,7 +358,8 @@ class Decoding(unittest.TestCase):
                 call()
         decoder.close()
         decoder.close()
-        for call in (lambda: decoder.feed(b"x"), decoder.end, decoder.take, decoder.reports, decoder.save, lambda: decoder.counts):
+        for call in (lambda: decoder.feed(b"x"), decoder.end, decoder.take, decoder.reports, decoder.save,
+                     lambda: decoder.counts, lambda: decoder.pending):
             with self.assertRaisesRegex(n2kdec.Error, "no decoder is open"):
                 call()
 

@@ -76,9 +76,12 @@ static void live(bool resumes) {
     if (is_open && feed_all(&d, resumes)) {
         bool is_ended = is_done(n2k_end(&d));
         want_open(&d, is_ended);
+        static uint8_t kept[sizeof room];
+        memcpy(kept, room, sizeof room), size = 12345;
         if (is_ended && !is_done(n2k_save(&d, room, sizeof room, &size))) {
-            // It is as it was: what is asked again is done.
+            // All is as it was: what is asked again is done.
             want_open(&d, true);
+            if (memcmp(kept, room, sizeof room) != 0 || size != 12345) fail("a refused save wrote to the room or the size", (long)size);
             if (n2k_save(&d, room, 3, &wanted) != N2K_ROOM || n2k_save(&d, room, sizeof room, &size) != N2K_DONE || size != wanted)
                 fail("a state that was refused is not saved", (long)size);
         }

@@ -4,7 +4,7 @@ static uint8_t table[1 << 20], piece[4096], room[1 << 20];
 int main(int count, char **words) {
     struct n2k_decoder d = {0};
     size_t size = count == 2 ? fread(table, 1, sizeof table, fopen(words[1], "rb")) : 0;
-    int32_t status = n2k_open(table, size, false, table, 0, &(struct n2k_settings){.window = 10000, .in_order = true}, &d);
+    int32_t status = n2k_open(table, size, false, NULL, 0, &(struct n2k_settings){.window = 10000, .in_order = true}, &d);
     while (!status && (size = fread(piece, 1, sizeof piece, stdin)) > 0 && !(status = n2k_feed(&d, piece, size)) &&
            !(status = n2k_take(&d, room, sizeof room, &size))) fwrite(room, 1, size, stdout);
     if (!status && !(status = n2k_end(&d)) && !(status = n2k_take(&d, room, sizeof room, &size))) fwrite(room, 1, size, stdout);

@@ -16,7 +16,7 @@ static _Noreturn void fail(const char *what, long number) {
 }
 
 // A room is a block of just its size, so that valgrind sees what is read or written beside it.
-static uint8_t *block(size_t size) {
+static inline uint8_t *block(size_t size) {
     uint8_t *got = malloc(size > 0 ? size : 1);
     if (got == NULL) fail("no memory", (long)size);
     return got;
@@ -32,10 +32,10 @@ static void append(struct text *text, const uint8_t *bytes, size_t size) {
     text->size += size;
 }
 
-// The bytes of a file. They are never null, as the library wants it.
+// The bytes of a file.
 static struct text file(const char *name) {
     FILE *from = fopen(name, "rb");
-    struct text text = {block(1), 0, 1};
+    struct text text = {0};
     uint8_t piece[1 << 12];
     size_t size;
     if (from == NULL) fail(name, 0);

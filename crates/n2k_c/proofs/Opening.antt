@@ -7,8 +7,8 @@ use Rattle.n2k_run.specs.Parts.{IsFront}
 use Rattle.n2k_c.specs.declared.Settings.{Settings}
 use Rattle.n2k_c.specs.declared.decoder.Decoder.{Decoder}
 use Rattle.n2k_c.specs.declared.refusal.Refusal.{Refusal}
-use Rattle.n2k_c.specs.declared.refusal.Refusal.TheVariants.{Room, Memory, Window, TooMuch, Closed, Open, Ended, Table, State}
-use Rattle.n2k_c.specs.Answers.{IsDecoderOf, NotMoved, NotSaved, NotSavedInto, WantsRoom, settings_options}
+use Rattle.n2k_c.specs.declared.refusal.Refusal.TheVariants.{Room, Memory, Window, TooMuch, Closed, Open, Ended, Reserved, Table, State}
+use Rattle.n2k_c.specs.Answers.{IsDecoderOf, NotMoved, NotSaved, NotSavedInto, Sized, WantsRoom, are_known, settings_options}
 use Rattle.n2k_c.specs.Stands.{Stands}
 
 -- before the first line nothing was printed
@@ -27,15 +27,16 @@ first t o = record { whole_lines = λ some. absurd (omega (arith, some)); leads_
 Gives : TableParts → Options → Option (List ℕ) → Decoder → Type 0
 Gives t o handed d = (front : List ℕ) → IsFront t o front handed → Stands t o front false (out t o front) (reports t o front) d
 
-pub decodes_by : (toml : List ℕ) (settings : Settings) (handed : Option (List ℕ)) (t : TableParts) (o : Options) (d : Decoder) → faults toml ≡ [] → t ≡ table toml → o ≡ settings_options settings
+pub decodes_by : (toml : List ℕ) (settings : Settings) (handed : Option (List ℕ)) (t : TableParts) (o : Options) (d : Decoder) → faults toml ≡ [] → are_known settings ≡ true → t ≡ table toml → o ≡ settings_options settings
     → ((front : List ℕ) → IsFront t o front handed → Stands t o front false (out t o front) (reports t o front) d) → IsDecoderOf toml settings handed d
 unfolding Gives
-decodes_by toml settings handed t o d sound is_t is_o gives =
+decodes_by toml settings handed t o d sound known is_t is_o gives =
     let a : Gives t o handed d = gives in
     let b = subst (λ (x : TableParts). Gives x o handed d) is_t a in
     let c = subst (λ (x : Options). Gives (table toml) x handed d) is_o b in
     record {
       sound = sound;
+      known = known;
       begins = λ none.
           let at = c [] (subst (λ (h : Option (List ℕ)). IsFront (table toml) (settings_options settings) [] h) (sym none) (first (table toml) (settings_options settings))) in
           let printed = subst (λ (text : List ℕ). Stands (table toml) (settings_options settings) [] false text (reports (table toml) (settings_options settings) []) d) (nothing_out (table toml) (settings_options settings)) at in
@@ -50,27 +51,28 @@ none_is None live tied off = refl
 
 -- ---- a text that did not come into a room
 
-pub not_moved : (Done : Type 0) (waiting : Decoder → List ℕ) (room_old room_new : List ℕ) (wanted : ℕ) (old new : Option Decoder) (from to : Decoder) (refusal : Refusal) (result : Result (Unit {0}) Refusal)
-    → result ≡ Err refusal → refusal ≡ Room → old ≡ Some from → new ≡ Some to → to ≡ from → WantsRoom (waiting from) room_old room_new wanted
-    → MatchResult result (λ _. Done) (NotMoved waiting room_old room_new wanted old new)
-not_moved Done waiting room_old room_new wanted old new from to refusal result answer is was now same why =
-    subst (λ r. MatchResult r (λ _. Done) (NotMoved waiting room_old room_new wanted old new)) (sym (answer ∙ ap (λ (r : Refusal). let e : Result (Unit {0}) Refusal = Err r in e) is))
+pub not_moved : (Done : Type 0) (waiting : Decoder → List ℕ) (before after : Sized) (old new : Option Decoder) (from to : Decoder) (refusal : Refusal) (result : Result (Unit {0}) Refusal)
+    → result ≡ Err refusal → refusal ≡ Room → old ≡ Some from → new ≡ Some to → to ≡ from → WantsRoom (waiting from) before.0 after.0 after.1
+    → MatchResult result (λ _. Done) (NotMoved waiting before after old new)
+not_moved Done waiting before after old new from to refusal result answer is was now same why =
+    subst (λ r. MatchResult r (λ _. Done) (NotMoved waiting before after old new)) (sym (answer ∙ ap (λ (r : Refusal). let e : Result (Unit {0}) Refusal = Err r in e) is))
     (record { from = from; to = to; was = was; is = now; how = (same, why) })
 
-not_saved_by : (room_old room_new : List ℕ) (wanted : ℕ) (old new : Option Decoder) (from to : Decoder) (refusal : Refusal) → old ≡ Some from → new ≡ Some to → to ≡ from → NotSavedInto room_old room_new wanted from refusal
-    → NotSaved room_old room_new wanted old new refusal
-not_saved_by room_old room_new wanted old new from to Room was now same why = record { from = from; to = to; was = was; is = now; how = (same, why) }
-not_saved_by room_old room_new wanted old new from to Memory was now same why = record { from = from; to = to; was = was; is = now; how = (same, why) }
-not_saved_by room_old room_new wanted old new from to Window was now same why = absurd why
-not_saved_by room_old room_new wanted old new from to TooMuch was now same why = absurd why
-not_saved_by room_old room_new wanted old new from to Closed was now same why = absurd why
-not_saved_by room_old room_new wanted old new from to Open was now same why = absurd why
-not_saved_by room_old room_new wanted old new from to Ended was now same why = absurd why
-not_saved_by room_old room_new wanted old new from to (Table fault) was now same why = absurd why
-not_saved_by room_old room_new wanted old new from to (State fault) was now same why = absurd why
+not_saved_by : (before after : Sized) (old new : Option Decoder) (from to : Decoder) (refusal : Refusal) → old ≡ Some from → new ≡ Some to → to ≡ from → NotSavedInto before after from refusal
+    → NotSaved before after old new refusal
+not_saved_by before after old new from to Room was now same why = record { from = from; to = to; was = was; is = now; how = (same, why) }
+not_saved_by before after old new from to Memory was now same why = record { from = from; to = to; was = was; is = now; how = (same, why) }
+not_saved_by before after old new from to Window was now same why = absurd why
+not_saved_by before after old new from to TooMuch was now same why = absurd why
+not_saved_by before after old new from to Closed was now same why = absurd why
+not_saved_by before after old new from to Open was now same why = absurd why
+not_saved_by before after old new from to Ended was now same why = absurd why
+not_saved_by before after old new from to Reserved was now same why = absurd why
+not_saved_by before after old new from to (Table fault) was now same why = absurd why
+not_saved_by before after old new from to (State fault) was now same why = absurd why
 
-pub not_saved : (Done : Type 0) (room_old room_new : List ℕ) (wanted : ℕ) (old new : Option Decoder) (from to : Decoder) (refusal : Refusal) (result : Result (Unit {0}) Refusal)
-    → result ≡ Err refusal → old ≡ Some from → new ≡ Some to → to ≡ from → NotSavedInto room_old room_new wanted from refusal
-    → MatchResult result (λ _. Done) (NotSaved room_old room_new wanted old new)
-not_saved Done room_old room_new wanted old new from to refusal result answer was now same why =
-    subst (λ r. MatchResult r (λ _. Done) (NotSaved room_old room_new wanted old new)) (sym answer) (not_saved_by room_old room_new wanted old new from to refusal was now same why)
+pub not_saved : (Done : Type 0) (before after : Sized) (old new : Option Decoder) (from to : Decoder) (refusal : Refusal) (result : Result (Unit {0}) Refusal)
+    → result ≡ Err refusal → old ≡ Some from → new ≡ Some to → to ≡ from → NotSavedInto before after from refusal
+    → MatchResult result (λ _. Done) (NotSaved before after old new)
+not_saved Done before after old new from to refusal result answer was now same why =
+    subst (λ r. MatchResult r (λ _. Done) (NotSaved before after old new)) (sym answer) (not_saved_by before after old new from to refusal was now same why)

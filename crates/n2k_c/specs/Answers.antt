@@ -1,7 +1,8 @@
 -- What the calls of C answer.
-use Rattle.std.specs.Prelude.{◌≡◌, ◌⊎◌, ◌<◌, ◌≤◌, ◌+◌, ℕ, Bool, true, false, if◌then◌else◌, List, [], ◌++◌, length}
-use Rattle.std.specs.Prelude.{Option, Some, None, IsSome, Err, take}
+use Rattle.std.specs.Prelude.{◌≡◌, ◌⊎◌, ◌<◌, ◌≤◌, ◌+◌, ℕ, Bool, true, false, if◌then◌else◌, List, [], ◌∷◌, ◌++◌, length}
+use Rattle.std.specs.Prelude.{Option, Some, None, IsSome, Err, take, drop, replicate}
 use Rattle.std.specs.List.{Contains}
+use Rattle.std.specs.Str.{bytes_eq}
 use Rattle.n2k_wire.specs.declared.entry.Packing.TheVariants as packed
 use Rattle.n2k_table.specs.Table.{TableParts, faults, kind, table}
 use Rattle.n2k_join.specs.Counts.{most_lines}
@@ -18,7 +19,7 @@ use Rattle.n2k_c.specs.declared.Counted.{Counted}
 use Rattle.n2k_c.specs.declared.Settings.{Settings}
 use Rattle.n2k_c.specs.declared.decoder.Decoder.{Decoder}
 use Rattle.n2k_c.specs.declared.refusal.Refusal.{Refusal}
-use Rattle.n2k_c.specs.declared.refusal.Refusal.TheVariants.{Room, Memory, Window, TooMuch, Closed, Open, Ended}
+use Rattle.n2k_c.specs.declared.refusal.Refusal.TheVariants.{Room, Memory, Window, TooMuch, Closed, Open, Ended, Reserved}
 use Rattle.n2k_c.specs.declared.refusal.Refusal.TheVariants.{Table, State}
 use Rattle.n2k_c.specs.Stands.{Stands, taken_of}
 
@@ -32,6 +33,10 @@ settings_options settings = record {
   window = record { lines = settings.window; in_order = settings.in_order };
 }
 
+-- whether they have no option that a later version may give
+abbrev pub are_known : Settings → Bool
+are_known settings = bytes_eq settings.reserved (replicate 25 0)
+
 -- the state that is handed in, where one is
 abbrev pub handed_of : Bool → List ℕ → Option (List ℕ)
 handed_of resumes state = if resumes then Some state else None
@@ -40,6 +45,7 @@ handed_of resumes state = if resumes then Some state else None
 -- without a state before the first line; nothing of it waits.
 pub record IsDecoderOf (toml : List ℕ) (settings : Settings) (handed : Option (List ℕ)) (d : Decoder) : Type 0 where
   pub sound : faults toml ≡ []
+  pub known : are_known settings ≡ true
   pub begins : handed ≡ None → Stands (table toml) (settings_options settings) [] false [] [] d
   pub goes_on : (front : List ℕ) → IsFront (table toml) (settings_options settings) front handed
       → Stands (table toml) (settings_options settings) front false (out (table toml) (settings_options settings) front)
@@ -56,6 +62,7 @@ pub record OpensDecoder (toml : List ℕ) (settings : Settings) (handed : Option
 -- why there is no such decoder
 abbrev pub NotMade : List ℕ → Settings → Option (List ℕ) → Refusal → Type 0
 NotMade toml settings handed Window = IsWindow settings.window → ⊥
+NotMade toml settings handed Reserved = are_known settings ≡ false
 NotMade toml settings handed (Table fault) = Contains (faults toml) fault
 NotMade toml settings handed (State fault) = begun (table toml) (settings_options settings) handed ≡ Err fault
 NotMade toml settings handed Memory = Unit {0}
@@ -143,6 +150,7 @@ counted_of c = record {
   unknown = c.unknown;
   broken = c.broken;
   held = c.held;
+  reserved = 0 ∷ 0 ∷ [];
 }
 
 -- the counts of the bytes that were taken
@@ -156,17 +164,28 @@ HasCounts counted d =
 abbrev pub IsCounted : Counted → Decoder → Type 0
 IsCounted counted d = (c : Counts) × HasCounts c d × (counted ≡ counted_of c)
 
+-- so many bytes were fed beside those that were taken
+abbrev pub Waits : ℕ → Decoder → Type 0
+Waits size d =
+    (t : TableParts) (o : Options) (fed : List ℕ) (ended : Bool) (printed reported : List ℕ)
+    → Stands t o fed ended printed reported d → length fed ≡ length (taken_of ended fed) + size
+
 -- what is saved of the bytes that were taken
 abbrev pub IsStateOf : List ℕ → Decoder → Type 0
 IsStateOf text d =
     (t : TableParts) (o : Options) (fed : List ℕ) (ended : Bool) (printed reported : List ℕ)
     → Stands t o fed ended printed reported d → text ≡ save t o (taken_of ended fed)
 
+-- At the front of a room a text of so many bytes was written, and nothing behind it.
+pub record Fills (room_old room_new : List ℕ) (told : ℕ) : Type 0 where
+  pub fits : told ≤ length room_new
+  pub behind : drop told room_new ≡ drop told room_old
+
 -- A text came to the front of a room, and how long it is was told.
-pub record HasRoom (text room : List ℕ) (told : ℕ) : Type 0 where
+pub record HasRoom (text room_old room_new : List ℕ) (told : ℕ) : Type 0 where
   pub size : told ≡ length text
-  pub fits : told ≤ length room
-  pub front : take told room ≡ text
+  pub front : take told room_new ≡ text
+  pub fills : Fills room_old room_new told
 
 -- a text did not fit: the room is as it was, and what the text wants was told
 pub record WantsRoom (text room_old room_new : List ℕ) (wanted : ℕ) : Type 0 where
@@ -174,27 +193,29 @@ pub record WantsRoom (text room_old room_new : List ℕ) (wanted : ℕ) : Type 0
   pub too_small : length room_old < wanted
   pub unchanged : room_new ≡ room_old
 
--- why what waited was not taken; nothing of it is lost
-abbrev pub NotMoved : (Decoder → List ℕ) → List ℕ → List ℕ → ℕ → Option Decoder → Option Decoder → Refusal → Type 0
-NotMoved waiting room_old room_new wanted old new Closed = IsClosed old new
-NotMoved waiting room_old room_new wanted old new Room =
-    Turns old new (λ from to. (to ≡ from) × WantsRoom (waiting from) room_old room_new wanted)
-NotMoved waiting room_old room_new wanted old new _ = ⊥
+-- a room, and the size that is told of it
+abbrev pub Sized : Type 0
+Sized = List ℕ × ℕ
+
+-- why what waited was not taken; nothing of it is lost, and without a decoder nothing is written
+abbrev pub NotMoved : (Decoder → List ℕ) → Sized → Sized → Option Decoder → Option Decoder → Refusal → Type 0
+NotMoved waiting was is old new Closed = IsClosed old new × (is ≡ was)
+NotMoved waiting was is old new Room =
+    Turns old new (λ from to. (to ≡ from) × WantsRoom (waiting from) was.0 is.0 is.1)
+NotMoved waiting was is old new _ = ⊥
 
 -- why a state did not come into a room
-abbrev pub NotSavedInto : List ℕ → List ℕ → ℕ → Decoder → Refusal → Type 0
-NotSavedInto room_old room_new wanted d Memory = Unit {0}
-NotSavedInto room_old room_new wanted d Room =
-    (text : List ℕ) × IsStateOf text d × WantsRoom text room_old room_new wanted
-NotSavedInto room_old room_new wanted d _ = ⊥
+abbrev pub NotSavedInto : Sized → Sized → Decoder → Refusal → Type 0
+NotSavedInto was is d Memory = is ≡ was
+NotSavedInto was is d Room = (text : List ℕ) × IsStateOf text d × WantsRoom text was.0 is.0 is.1
+NotSavedInto was is d _ = ⊥
 
 -- why nothing was saved; what is open is as it was
-abbrev pub NotSaved : List ℕ → List ℕ → ℕ → Option Decoder → Option Decoder → Refusal → Type 0
-NotSaved room_old room_new wanted old new Closed = IsClosed old new
-NotSaved room_old room_new wanted old new refusal =
-    Turns old new (λ from to. (to ≡ from) × NotSavedInto room_old room_new wanted from refusal)
+abbrev pub NotSaved : Sized → Sized → Option Decoder → Option Decoder → Refusal → Type 0
+NotSaved was is old new Closed = IsClosed old new × (is ≡ was)
+NotSaved was is old new refusal = Turns old new (λ from to. (to ≡ from) × NotSavedInto was is from refusal)
 
--- why nothing was counted
-abbrev pub NotCounted : Option Decoder → Option Decoder → Refusal → Type 0
-NotCounted old new Closed = IsClosed old new
-NotCounted old new _ = ⊥
+-- why nothing was told: none is open, and what it would stand in is as it was
+abbrev pub NotTold : (A : Type 0) → A → A → Option Decoder → Option Decoder → Refusal → Type 0
+NotTold A was is old new Closed = IsClosed old new × (is ≡ was)
+NotTold A was is old new _ = ⊥

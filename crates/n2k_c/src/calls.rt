@@ -1,7 +1,8 @@
 //! What the calls do, with their refusals by name.
-ghost use Rattle.std.specs.Prelude.{◌≡◌, ◌≤◌, [], Err, MatchResult, None, Some, length, option_map, take};
+ghost use Rattle.std.specs.Prelude.{◌≡◌, ℕ, [], Err, MatchResult, None, Some, option_map, take};
 ghost use Rattle.n2k_join.specs.Window.{IsWindow};
-ghost use Rattle.n2k_c.specs.Answers.{IsDecoderOf, EndsLog, Feeds, IsClosed, IsCounted, IsNotUnderWay, IsStateOf, NotCounted, NotMade, NotMoved, NotOpened, NotSaved, NotSavedInto, NotTaken, OpensDecoder, Prints, Tells, Turns, handed_of, settings_options};
+ghost use Rattle.n2k_c.specs.Answers.{IsDecoderOf, EndsLog, Feeds, Fills, IsClosed, IsCounted, IsNotUnderWay, IsStateOf, NotMade, NotMoved, NotOpened, NotSaved, NotSavedInto, NotTaken, NotTold, OpensDecoder, Prints, Tells, Turns, Waits, are_known, handed_of, settings_options};
+ghost use Rattle.n2k_c.specs.declared.Counted.{Counted as Counts};
 ghost use Rattle.n2k_c.specs.declared.refusal.Refusal.TheVariants.{Closed, Window as NoWindow};
 
 use crate::decoder::{self, Decoder, put};
@@ -15,6 +16,13 @@ use n2k_table::Table;
 use n2k_wire::Packing;
 use std::alloc::Global;
 use std::mem::replace;
+
+/// Whether the settings have no option that a later version may give.
+fn are_known(settings: &Settings) -> bool
+    ensures { result ≡ are_known settings.now }
+{
+    settings.reserved == [0; 25]
+}
 
 /// The options that the settings name.
 fn settings_options(settings: &Settings) -> Result<Options, Refusal>
@@ -99,6 +107,9 @@ fn made(
         (λ b. IsDecoderOf toml.now settings.now (option_map (λ bytes. bytes.now) handed.entry) b.value)
         (NotMade toml.now settings.now (option_map (λ bytes. bytes.now) handed.entry)) }
 {
+    if !are_known(settings) {
+        return Err(Refusal::Reserved);
+    }
     let options = match settings_options(settings) {
         Ok(options) => options,
         Err(refusal) => return Err(refusal),
@@ -197,9 +208,9 @@ pub fn end(alloc: Global, h: &mut Handle) -> Result<(), Refusal>
 
 /// Moves the output that waits.
 pub fn take(alloc: Global, h: &mut Handle, room: &mut [u8], size: &mut usize) -> Result<(), Refusal>
-    ensures { MatchResult result (λ _. (size.new ≤ length room.new)
+    ensures { MatchResult result (λ _. Fills room.old room.new size.new
         × Turns h.old.hold.holds h.new.hold.holds (Prints (take size.new room.new)))
-        (NotMoved (λ d. d.output.held) room.old room.new size.new h.old.hold.holds h.new.hold.holds) }
+        (NotMoved (λ d. d.output.held) (room.old, size.old) (room.new, size.new) h.old.hold.holds h.new.hold.holds) }
 {
     let mut decoder = match taken(alloc, h) {
         Ok(decoder) => decoder,
@@ -221,9 +232,9 @@ pub fn take_reports(
     room: &mut [u8],
     size: &mut usize,
 ) -> Result<(), Refusal>
-    ensures { MatchResult result (λ _. (size.new ≤ length room.new)
+    ensures { MatchResult result (λ _. Fills room.old room.new size.new
         × Turns h.old.hold.holds h.new.hold.holds (Tells (take size.new room.new)))
-        (NotMoved (λ d. d.reports.held) room.old room.new size.new h.old.hold.holds h.new.hold.holds) }
+        (NotMoved (λ d. d.reports.held) (room.old, size.old) (room.new, size.new) h.old.hold.holds h.new.hold.holds) }
 {
     let mut decoder = match taken(alloc, h) {
         Ok(decoder) => decoder,
@@ -242,7 +253,7 @@ pub fn take_reports(
 pub fn count(alloc: Global, h: &mut Handle, counted: &mut Counted) -> Result<(), Refusal>
     ensures { MatchResult result (λ _. Turns h.old.hold.holds h.new.hold.holds (λ from to. (to ≡ from)
         × IsCounted counted.new from))
-        (NotCounted h.old.hold.holds h.new.hold.holds) }
+        (NotTold Counts counted.old counted.new h.old.hold.holds h.new.hold.holds) }
 {
     let decoder = match taken(alloc, h) {
         Ok(decoder) => decoder,
@@ -256,7 +267,22 @@ pub fn count(alloc: Global, h: &mut Handle, counted: &mut Counted) -> Result<(),
         unknown: counts.unknown,
         broken: counts.broken,
         held: counts.held,
+        reserved: [0; 2],
     };
+    keep(h, decoder);
+    Ok(())
+}
+
+/// Tells how many bytes wait of a line that has not ended.
+pub fn waiting(alloc: Global, h: &mut Handle, size: &mut usize) -> Result<(), Refusal>
+    ensures { MatchResult result (λ _. Turns h.old.hold.holds h.new.hold.holds (λ from to. (to ≡ from) × Waits size.new from))
+        (NotTold ℕ size.old size.new h.old.hold.holds h.new.hold.holds) }
+{
+    let decoder = match taken(alloc, h) {
+        Ok(decoder) => decoder,
+        Err(refusal) => return Err(refusal),
+    };
+    *size = decoder.waiting();
     keep(h, decoder);
     Ok(())
 }
@@ -268,8 +294,8 @@ fn save_into(
     room: &mut [u8],
     size: &mut usize,
 ) -> Result<(), Refusal>
-    ensures { MatchResult result (λ _. (size.new ≤ length room.new) × IsStateOf (take size.new room.new) decoder.now)
-        (NotSavedInto room.old room.new size.new decoder.now) }
+    ensures { MatchResult result (λ _. Fills room.old room.new size.new × IsStateOf (take size.new room.new) decoder.now)
+        (NotSavedInto (room.old, size.old) (room.new, size.new) decoder.now) }
 {
     match decoder.save(alloc) {
         Ok(text) => put(room, &text, size),
@@ -279,9 +305,9 @@ fn save_into(
 
 /// Saves the state of what is open.
 pub fn save(alloc: Global, h: &mut Handle, room: &mut [u8], size: &mut usize) -> Result<(), Refusal>
-    ensures { MatchResult result (λ _. (size.new ≤ length room.new)
+    ensures { MatchResult result (λ _. Fills room.old room.new size.new
         × Turns h.old.hold.holds h.new.hold.holds (λ from to. (to ≡ from) × IsStateOf (take size.new room.new) from))
-        (NotSaved room.old room.new size.new h.old.hold.holds h.new.hold.holds) }
+        (NotSaved (room.old, size.old) (room.new, size.new) h.old.hold.holds h.new.hold.holds) }
 {
     let decoder = match taken(alloc, h) {
         Ok(decoder) => decoder,

@@ -1,5 +1,5 @@
 //! A decoder that is kept between calls.
-ghost use Rattle.std.specs.Prelude.{◌≡◌, ◌≢◌, ◌≤◌, ℕ, false, List, [], Err, IfOk, IfErr, OnOk, MatchResult, length, option_map, take};
+ghost use Rattle.std.specs.Prelude.{◌≡◌, ◌≢◌, ℕ, false, List, [], Err, IfOk, IfErr, OnOk, MatchResult, length, option_map, take};
 ghost use Rattle.std.specs.Io.{IsEmptyOrEndsWith};
 ghost use Rattle.memchr.specs.Find.{NoneAfter, Nowhere, Passes, is_byte};
 ghost use Rattle.n2k_join.specs.Refusal.{GivesOrMemory};
@@ -10,7 +10,7 @@ ghost use Rattle.n2k_run.specs.Decoded.{out, reports};
 ghost use Rattle.n2k_run.specs.Lines.{line_feed};
 ghost use Rattle.n2k_run.specs.Parts.{IsFront, begun};
 ghost use Rattle.n2k_c.specs.declared.refusal.Refusal.TheVariants.{Room};
-ghost use Rattle.n2k_c.specs.Answers.{EndsLog, Feeds, HasCounts, HasRoom, IsStateOf, Prints, Spends, Tells, WantsRoom};
+ghost use Rattle.n2k_c.specs.Answers.{EndsLog, Feeds, Fills, HasCounts, HasRoom, IsStateOf, Prints, Spends, Tells, Waits, WantsRoom};
 ghost use Rattle.n2k_c.specs.Inner.{RunsCut};
 ghost use Rattle.n2k_c.specs.Stands.{HasDecoded, Stands};
 
@@ -167,7 +167,7 @@ impl Decoder {
 
     /// Moves the output that waits to a room, where it fits.
     pub fn take_output(&mut self, room: &mut [u8], wanted: &mut usize) -> Result<(), Refusal>
-        ensures { MatchResult result (λ _. (wanted.new ≤ length room.new) × Prints (take wanted.new room.new) self.old self.new)
+        ensures { MatchResult result (λ _. Fills room.old room.new wanted.new × Prints (take wanted.new room.new) self.old self.new)
             (λ refusal. (refusal ≡ Room) × (self.new ≡ self.old)
             × WantsRoom self.old.output.held room.old room.new wanted.new) }
     {
@@ -176,7 +176,7 @@ impl Decoder {
 
     /// Moves the reports that wait to a room, where they fit.
     pub fn take_reports(&mut self, room: &mut [u8], wanted: &mut usize) -> Result<(), Refusal>
-        ensures { MatchResult result (λ _. (wanted.new ≤ length room.new) × Tells (take wanted.new room.new) self.old self.new)
+        ensures { MatchResult result (λ _. Fills room.old room.new wanted.new × Tells (take wanted.new room.new) self.old self.new)
             (λ refusal. (refusal ≡ Room) × (self.new ≡ self.old)
             × WantsRoom self.old.reports.held room.old room.new wanted.new) }
     {
@@ -190,6 +190,13 @@ impl Decoder {
         self.join.counts()
     }
 
+    /// How many bytes wait of a line that has not ended.
+    pub fn waiting(&self) -> usize
+        ensures { Waits result self.now }
+    {
+        self.cut.len()
+    }
+
     /// The state behind the lines that were taken.
     pub fn save(&self, alloc: Global) -> Result<Vec<u8>, AllocError>
         ensures { IfOk result (λ text. IsStateOf text.items self.now) }
@@ -201,7 +208,7 @@ impl Decoder {
 
 /// Puts a text at the front of a room, where it fits; in any case tells how much it wants.
 pub fn put(room: &mut [u8], text: &[u8], wanted: &mut usize) -> Result<(), Refusal>
-    ensures { MatchResult result (λ _. HasRoom text.now room.new wanted.new)
+    ensures { MatchResult result (λ _. HasRoom text.now room.old room.new wanted.new)
         (λ refusal. (refusal ≡ Room) × WantsRoom text.now room.old room.new wanted.new) }
 {
     *wanted = text.len();
@@ -214,7 +221,7 @@ pub fn put(room: &mut [u8], text: &[u8], wanted: &mut usize) -> Result<(), Refus
 
 /// Moves what waits to a room, where it fits.
 fn drain(waiting: &mut MemorySink, room: &mut [u8], wanted: &mut usize) -> Result<(), Refusal>
-    ensures { MatchResult result (λ _. HasRoom waiting.old.held room.new wanted.new × (waiting.new.held ≡ []))
+    ensures { MatchResult result (λ _. HasRoom waiting.old.held room.old room.new wanted.new × (waiting.new.held ≡ []))
         (λ refusal. (refusal ≡ Room) × (waiting.new ≡ waiting.old)
         × WantsRoom waiting.old.held room.old room.new wanted.new) }
 {

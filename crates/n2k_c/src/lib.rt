@@ -1,8 +1,9 @@
 //! The decoder for callers in C, kept between calls: `n2kdec.h` says how to call it.
 #![tactic(auto)]
 
-ghost use Rattle.std.specs.Prelude.{◌≡◌, ◌≤◌, [], None, is_some, length, take};
-ghost use Rattle.n2k_c.specs.Answers.{EndsLog, Feeds, IsCounted, IsStateOf, NotCounted, NotMoved, NotOpened, NotSaved, NotTaken, OpensDecoder, Prints, Tells, Turns, handed_of};
+ghost use Rattle.std.specs.Prelude.{◌≡◌, ℕ, [], None, is_some, take};
+ghost use Rattle.n2k_c.specs.Answers.{EndsLog, Feeds, Fills, IsCounted, IsStateOf, NotMoved, NotOpened, NotSaved, NotTaken, NotTold, OpensDecoder, Prints, Tells, Turns, Waits, handed_of};
+ghost use Rattle.n2k_c.specs.declared.Counted.{Counted as Counts};
 ghost use Rattle.n2k_c.specs.Status.{Says};
 
 mod calls;
@@ -15,7 +16,8 @@ use crate::hold::Hold;
 use crate::refusal::status;
 use std::alloc::Global;
 
-/// How a log is read: `whole` says that a line is a whole message, `empty` that absent fields are printed.
+/// How a log is read: `whole` says that a line is a whole message, `empty` that absent fields are printed. What is
+/// reserved is 0.
 #[repr(C)]
 #[derive(Clone, Copy)]
 pub struct Settings {
@@ -23,6 +25,7 @@ pub struct Settings {
     pub in_order: bool,
     pub empty: bool,
     pub whole: bool,
+    pub reserved: [u8; 25],
 }
 
 /// What the lines count; `held` are the groups that are open.
@@ -35,6 +38,7 @@ pub struct Counted {
     pub unknown: u64,
     pub broken: u64,
     pub held: u64,
+    pub reserved: [u64; 2],
 }
 
 /// What C keeps of a decoder: zeros, where none is open.
@@ -84,9 +88,9 @@ pub extern "C" fn n2k_end(alloc: Global, h: &mut Handle) -> i32
 /// Moves the output that waits to a room, where it fits, and tells how much that is.
 #[unsafe(no_mangle)]
 pub extern "C" fn n2k_take(alloc: Global, h: &mut Handle, room: &mut [u8], size: &mut usize) -> i32
-    ensures { Says result ((size.new ≤ length room.new)
+    ensures { Says result (Fills room.old room.new size.new
         × Turns h.old.hold.holds h.new.hold.holds (Prints (take size.new room.new)))
-        (NotMoved (λ d. d.output.held) room.old room.new size.new h.old.hold.holds h.new.hold.holds) }
+        (NotMoved (λ d. d.output.held) (room.old, size.old) (room.new, size.new) h.old.hold.holds h.new.hold.holds) }
 {
     status(calls::take(alloc, h, room, size))
 }
@@ -99,9 +103,9 @@ pub extern "C" fn n2k_take_reports(
     room: &mut [u8],
     size: &mut usize,
 ) -> i32
-    ensures { Says result ((size.new ≤ length room.new)
+    ensures { Says result (Fills room.old room.new size.new
         × Turns h.old.hold.holds h.new.hold.holds (Tells (take size.new room.new)))
-        (NotMoved (λ d. d.reports.held) room.old room.new size.new h.old.hold.holds h.new.hold.holds) }
+        (NotMoved (λ d. d.reports.held) (room.old, size.old) (room.new, size.new) h.old.hold.holds h.new.hold.holds) }
 {
     status(calls::take_reports(alloc, h, room, size))
 }
@@ -111,17 +115,26 @@ pub extern "C" fn n2k_take_reports(
 pub extern "C" fn n2k_counts(alloc: Global, h: &mut Handle, counted: &mut Counted) -> i32
     ensures { Says result (Turns h.old.hold.holds h.new.hold.holds (λ from to. (to ≡ from)
         × IsCounted counted.new from))
-        (NotCounted h.old.hold.holds h.new.hold.holds) }
+        (NotTold Counts counted.old counted.new h.old.hold.holds h.new.hold.holds) }
 {
     status(calls::count(alloc, h, counted))
+}
+
+/// Tells how many bytes wait of a line that has not ended.
+#[unsafe(no_mangle)]
+pub extern "C" fn n2k_waiting(alloc: Global, h: &mut Handle, size: &mut usize) -> i32
+    ensures { Says result (Turns h.old.hold.holds h.new.hold.holds (λ from to. (to ≡ from) × Waits size.new from))
+        (NotTold ℕ size.old size.new h.old.hold.holds h.new.hold.holds) }
+{
+    status(calls::waiting(alloc, h, size))
 }
 
 /// Puts the state behind the lines that were taken into a room, where it fits, and tells how much that is.
 #[unsafe(no_mangle)]
 pub extern "C" fn n2k_save(alloc: Global, h: &mut Handle, room: &mut [u8], size: &mut usize) -> i32
-    ensures { Says result ((size.new ≤ length room.new)
+    ensures { Says result (Fills room.old room.new size.new
         × Turns h.old.hold.holds h.new.hold.holds (λ from to. (to ≡ from) × IsStateOf (take size.new room.new) from))
-        (NotSaved room.old room.new size.new h.old.hold.holds h.new.hold.holds) }
+        (NotSaved (room.old, size.old) (room.new, size.new) h.old.hold.holds h.new.hold.holds) }
 {
     status(calls::save(alloc, h, room, size))
 }

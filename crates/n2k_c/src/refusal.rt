@@ -25,6 +25,8 @@ pub enum Refusal {
     Open,
     /// The log has ended.
     Ended,
+    /// A reserved byte of the settings is not 0.
+    Reserved,
     /// The table is refused.
     Table(TableFault),
     /// The state is refused.
@@ -131,6 +133,7 @@ pub fn status(answer: Result<(), Refusal>) -> i32
         Err(Refusal::Closed) => 5,
         Err(Refusal::Open) => 6,
         Err(Refusal::Ended) => 7,
+        Err(Refusal::Reserved) => 8,
         Err(Refusal::Table(fault)) => table_code(fault),
         Err(Refusal::State(fault)) => state_code(fault),
     }

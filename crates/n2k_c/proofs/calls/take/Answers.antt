@@ -7,5 +7,5 @@ returns-in-Ok-take_output c = (c.in-Ok-take_output.ensures.0, record { from = c.
 
 pub returns-in-Err-take_output : goal.returns-in-Err-take_output
 returns-in-Err-take_output c =
-    not_moved _ (λ d. d.output.held) c.args.room.now c.take_output.new.room c.take_output.new.wanted c.args.h.now.hold.holds c.keep_refused.new.h.hold.holds c.deref_mut.result.now c.take_output.new.self c.in-Err-take_output.refusal c.keep_refused.result
+    not_moved _ (λ d. d.output.held) (c.args.room.now, c.args.size.now) (c.take_output.new.room, c.take_output.new.wanted) c.args.h.now.hold.holds c.keep_refused.new.h.hold.holds c.deref_mut.result.now c.take_output.new.self c.in-Err-take_output.refusal c.keep_refused.result
     c.keep_refused.ensures.answer c.in-Err-take_output.ensures.0 (c.in-Ok.ensures.0 ∙ ap Some (sym c.deref_mut.ensures.value)) c.keep_refused.ensures.kept c.in-Err-take_output.ensures.1 c.in-Err-take_output.ensures.2

@@ -7,5 +7,5 @@ returns-in-Ok-take_reports c = (c.in-Ok-take_reports.ensures.0, record { from = 
 
 pub returns-in-Err-take_reports : goal.returns-in-Err-take_reports
 returns-in-Err-take_reports c =
-    not_moved _ (λ d. d.reports.held) c.args.room.now c.take_reports.new.room c.take_reports.new.wanted c.args.h.now.hold.holds c.keep_refused.new.h.hold.holds c.deref_mut.result.now c.take_reports.new.self c.in-Err-take_reports.refusal c.keep_refused.result
+    not_moved _ (λ d. d.reports.held) (c.args.room.now, c.args.size.now) (c.take_reports.new.room, c.take_reports.new.wanted) c.args.h.now.hold.holds c.keep_refused.new.h.hold.holds c.deref_mut.result.now c.take_reports.new.self c.in-Err-take_reports.refusal c.keep_refused.result
     c.keep_refused.ensures.answer c.in-Err-take_reports.ensures.0 (c.in-Ok.ensures.0 ∙ ap Some (sym c.deref_mut.ensures.value)) c.keep_refused.ensures.kept c.in-Err-take_reports.ensures.1 c.in-Err-take_reports.ensures.2
