@@ -3,7 +3,8 @@ import collections
 import decimal
 import json
 import os
-import tomllib
+
+import table_rules
 
 
 class Differences:
@@ -23,7 +24,8 @@ class Differences:
                 numbers[message["number"]].append(message)
         lines = []
         for number in sorted(by_number[0] | by_number[1]):
-            for pair in pairs_of(by_number[0][number], by_number[1][number], MESSAGE_KEYS):
+            ones, others = by_number[0][number], by_number[1][number]
+            for pair in pairs_of(as_one(ones, others), as_one(others, ones), MESSAGE_KEYS):
                 lines += self.message_lines(number, *pair)
         return lines
 
@@ -106,6 +108,16 @@ def values(*keys):
     return lambda holder: [holder[key] for key in keys]
 
 
+def as_one(messages, others):
+    """The messages of a PGN, of those of one description the one with the fewest matches where the other table has one alone."""
+    counts = collections.Counter(message["description"] for message in others)
+    chosen = {}
+    for message in messages:
+        key = message["description"] if counts[message["description"]] == 1 else id(message)
+        chosen[key] = min(chosen.get(key, message), message, key=lambda message: len(matches(message)))
+    return list(chosen.values())
+
+
 # What messages of one PGN, and fields of one message, have in common in both tables: the first that is found counts.
 MESSAGE_KEYS = (lambda message: (matches(message), message["description"]), matches, values("description"))
 FIELD_KEYS = (values("name", "at"), values("name"), values("at"))
@@ -132,14 +144,14 @@ def text(first, first_name, second_name):
     """The differences between a table, given as its text, and that of a file; and how many messages they are about."""
     with open(second_name, "rb") as file:
         try:
-            second = tomllib.load(file)
-        except ValueError as error:
+            second = table_rules.tree(file.read())
+        except table_rules.NotToml as error:
             raise NoTable(f"{second_name}: this is not TOML: {error}") from None
     names = [os.path.basename(first_name), os.path.basename(second_name)]
     if names[0] == names[1]:
         names = [first_name, second_name]
     try:
-        found = Differences(tomllib.loads(first), second, names)
+        found = Differences(table_rules.tree(first.encode()), second, names)
         lines = found.lines()
     except (KeyError, TypeError, AttributeError, ValueError, decimal.InvalidOperation):
         raise NoTable(f"{second_name}: this is no table of n2kdec") from None

@@ -4,10 +4,12 @@
     tools/from_canboat.py canboat.json > canboat.toml
     tools/from_canboat.py --compare tables/n2k.toml canboat.json
 
-The first prints a table of format 2, and on standard error what is in it and what was left out, by cause. The second
+The first prints a table of format 3, and on standard error what is in it and what was left out, by cause. The second
 prints where that table differs from another one, message by message. tables/README.md says what is left out (Python
-3.11 or newer).
+3.9 or newer).
 """
+from __future__ import annotations
+
 import argparse
 import collections
 import dataclasses
@@ -17,13 +19,17 @@ import json
 import sys
 import textwrap
 
+# What Python keeps of modules would stay behind where n2kdec is removed.
+sys.dont_write_bytecode = True
 import differences
+import table_text
+from table_rules import (GREATEST_MANTISSA, GREATEST_OFFSET, GREATEST_PGN, GREATEST_VALUE, LEAST_OFFSET, LONGEST_MESSAGE,
+                         LONGEST_TEXT, MOST_DEFINITIONS, MOST_ENTRIES, MOST_FIELDS, MOST_LOOKUPS)
+from table_text import quoted
 
-LONGEST_TEXT = 255  # bytes
-LONGEST_MESSAGE = 1784  # bits
+FRAME = 64  # bits
 MOST_DECIMALS = 18
-MOST_DEFINITIONS, MOST_FIELDS, MOST_LOOKUPS, MOST_ENTRIES = 4096, 256, 1024, 4096
-GREATEST_PGN, GREATEST_VALUE, GREATEST_MANTISSA, GREATEST_MATCH = 2**24 - 1, 2**32 - 1, 2**32 - 1, 2**63 - 1
+GREATEST_MATCH = 2**63 - 1
 LONGEST_FILE = 16777216  # bytes
 
 # An ISO message is sent by the transport protocol of ISO 11783, and so is no fast packet.
@@ -31,26 +37,35 @@ PACKETS = {"Single": "single", "ISO": "single", "Fast": "fast", "Mixed": None}
 NUMBERS = {"NUMBER", "MMSI", "TIME", "DATE", "DURATION", "PGN", "FIELD_INDEX", "ISO_NAME"}
 RAW = {
     "INDIRECT_LOOKUP": "since the names depend on another field",
-    "BITLOOKUP": "since the names are those of bits",
     "FIELDTYPE_LOOKUP": "since the names are those of kinds of fields",
 }
-VARYING = {"STRING_LZ", "STRING_LAU", "STRING_VAR", "VARIABLE"}
+# The lists of names, and what a field of that kind names one by.
+NAMED = {"LOOKUP": "LookupEnumeration", "BITLOOKUP": "LookupBitEnumeration", "INDIRECT_LOOKUP": "LookupIndirectEnumeration"}
+STRINGS = {"STRING_LZ": "lz", "STRING_LAU": "lau"}
+VARYING = {"STRING_VAR", "VARIABLE"}
 KEYED = {"KEY_VALUE", "DYNAMIC_FIELD_KEY", "DYNAMIC_FIELD_LENGTH", "DYNAMIC_FIELD_VALUE"}
-CODED = {"FLOAT": "as a floating number", "DECIMAL": "as decimal digits"}
+WHOLE = {"STRING_FIX": "text", "DECIMAL": "digits"}
 UNNAMED = {"RESERVED", "SPARE"}
-KNOWN = {"LOOKUP", "STRING_FIX", "BINARY"} | NUMBERS | RAW.keys() | VARYING | KEYED | CODED.keys() | UNNAMED
+KNOWN = NUMBERS | RAW.keys() | NAMED.keys() | STRINGS.keys() | VARYING | KEYED | WHOLE.keys() | UNNAMED | {"BINARY", "FLOAT"}
+# As recipes know them.
+UNITS = {"DATE": "days since 1970-01-01", "TIME": "s since midnight"}
 
 # What the greatest value of a lookup is called where it only says that there is none.
 NONE = {"unavailable", "not available", "data not available", "not defined", "not defined (default)", "undefined",
         "unknown", "null", "no data", "n/a"}
+NO_MATCH = "with a match that a table can't say"
 
 
 class BadInput(Exception):
     """What is wrong with the file."""
 
 
+class Odd(Exception):
+    """What is wrong with one object of the file."""
+
+
 class LeftOut(Exception):
-    """Why a field or a message is left out of the table, and of a message the field that is the cause."""
+    """Why a field, a set or a message is left out of the table, and of a message the field that is the cause."""
 
 
 KINDS = {"a whole number": (int,), "a number": (int, decimal.Decimal), "a text": (str,), "true or false": (bool,),
@@ -59,75 +74,78 @@ REQUIRED = object()
 
 
 class Object:
-    """An object of the file. Its members are asked for by name and kind; `place` says where it stands."""
+    """An object of the file, whose members are asked for by name and kind."""
 
-    def __init__(self, value, place):
+    def __init__(self, value):
         if not isinstance(value, dict):
-            raise BadInput(f"{place} is no object")
-        self.members, self.place = value, place
+            raise Odd("it is no object")
+        self.members = value
 
     def ask(self, name, kind, default=REQUIRED):
         if name not in self.members:
             if default is REQUIRED:
-                raise BadInput(f"{self.place} has no {name}")
+                raise Odd(f"it has no {name}")
             return default
         value = self.members[name]
         if type(value) not in KINDS[kind]:  # a bool is an int to isinstance
-            raise BadInput(f"{self.place}: {name} is not {kind}")
-        if kind == "a text" and any("\ud800" <= letter <= "\udfff" for letter in value):
-            raise BadInput(f"{self.place}: {name} is no Unicode text")
+            raise Odd(f"{name} is not {kind}")
+        if kind == "a text" and not is_unicode(value):
+            raise Odd(f"{name} is no Unicode text")
         return value
 
     def count(self, name, default=REQUIRED):
         value = self.ask(name, "a whole number", default)
         if value is not default and value < 0:
-            raise BadInput(f"{self.place}: {name} is below 0")
+            raise Odd(f"{name} is below 0")
         return value
 
-    def objects(self, name, default=REQUIRED):
-        """The objects of a list, each with its place."""
-        values = self.ask(name, "a list", default)
-        return [Object(value, f"{self.place}, {name} {at}") for at, value in enumerate(values, 1)]
+    def called(self, otherwise, name="Name"):
+        """What a comment calls it, whatever is odd about it."""
+        try:
+            return quoted(self.ask(name, "a text"))
+        except Odd:
+            return otherwise
 
 
 @dataclasses.dataclass
 class Given:
-    """A field as the file has it."""
-    name: str
-    kind: str
-    at: int | None
-    bits: int
-    varies: bool
-    sometimes: bool
-    signed: bool
-    resolution: decimal.Decimal
-    offset: decimal.Decimal
-    unit: str
-    lookup: str | None
-    match: int | None
+    """A field as the file has it; `bits` is None where its length varies or isn't known. Of an odd one what is wrong is there,
+    and as much of the rest as is right."""
+    called: str
+    at: int | None = None
+    bits: int | None = None
+    varies: bool = False
+    name: str = ""
+    kind: str = ""
+    sometimes: bool = False
+    signed: bool = False
+    resolution: decimal.Decimal = decimal.Decimal(1)
+    offset: decimal.Decimal = decimal.Decimal(0)
+    unit: str = ""
+    names: str | None = None
+    has_match: bool = False
+    match: int | None = None
+    odd: str | None = None
 
 
 @dataclasses.dataclass
 class Message:
-    """A definition of the table: its fields are tables with the keys of the format, and `unit`."""
-    number: int
-    kind: str
-    description: str
-    fields: list
-    repeat: dict | None
-    notes: dict  # from a text to the names of the fields that it is about
+    """A definition of the table, and comments on it."""
+    definition: dict
+    notes: dict  # from a text to what the fields that it is about are called
 
     def matches(self):
-        return sum("match" in field for field in self.fields)
+        return sum("match" in field for field in self.definition["fields"])
 
     def all_fields(self):
-        return self.fields + (self.repeat["fields"] if self.repeat else [])
+        return self.definition["fields"] + self.definition.get("repeat", {"fields": []})["fields"]
 
 
 @dataclasses.dataclass
 class Table:
     parts: list  # messages, and the comments that stand in the place of others
     lookups: dict  # from a name to names by value
+    comments: list  # what stands behind the lookups
     counts: collections.Counter  # what was left out, by cause
 
     def messages(self):
@@ -148,46 +166,77 @@ def parse(text):
         raise BadInput(f"this is not JSON: {why}") from None
 
 
-def read_field(field, lookups):
-    name = field.ask("Name", "a text")
-    field.place += f" {quoted(name)}"
-    kind = field.ask("FieldType", "a text")
-    if kind not in KNOWN:
-        raise BadInput(f"{field.place}: FieldType {quoted(kind)} is unknown")
-    lookup = field.ask("LookupEnumeration", "a text", None)
-    if kind == "LOOKUP" and lookup not in lookups:
-        raise BadInput(f"{field.place}: LookupEnumerations has no {quoted(lookup or '')}")
-    varies = field.ask("BitLengthVariable", "true or false", False) or kind in VARYING
-    bits = field.count("BitLength", 0 if varies or kind in KEYED else REQUIRED)
-    return Given(
-        name, kind, field.count("BitOffset", None), bits, varies or bits == 0,
-        sometimes=field.ask("Condition", "a text", None) is not None,
-        signed=field.ask("Signed", "true or false", False),
-        resolution=decimal.Decimal(field.ask("Resolution", "a number", 1)),
-        offset=decimal.Decimal(field.ask("Offset", "a number", 0)),
-        unit=field.ask("Unit", "a text", ""),
-        lookup=lookup if kind == "LOOKUP" else None,
-        match=field.ask("Match", "a whole number", None),
-    )
+def read_field(value, ordinal):
+    try:
+        field = Object(value)
+    except Odd as why:
+        return Given(f"field {ordinal}", odd=str(why))
+    called = field.called(f"field {ordinal}")
+    try:
+        kind = field.ask("FieldType", "a text")
+        varies = field.ask("BitLengthVariable", "true or false", False) or kind in VARYING or kind in STRINGS
+        bits = field.count("BitLength", 0 if varies or kind in KEYED else REQUIRED)
+        varies |= bits == 0
+        if kind not in KNOWN:
+            raise Odd(f"FieldType {quoted(kind)} is unknown")
+        return Given(
+            called, field.count("BitOffset", None), None if varies else bits, varies, field.ask("Name", "a text"), kind,
+            sometimes=field.ask("Condition", "a text", None) is not None,
+            signed=field.ask("Signed", "true or false", False),
+            resolution=decimal.Decimal(field.ask("Resolution", "a number", 1)),
+            offset=decimal.Decimal(field.ask("Offset", "a number", 0)),
+            unit=field.ask("Unit", "a text", ""),
+            names=field.ask(NAMED[kind], "a text", None) if kind in NAMED else None,
+            has_match="Match" in value, match=field.ask("Match", "a whole number", None))
+    except Odd as why:
+        places = [value.get(name) if type(value.get(name)) is int and value[name] >= 0 else None
+                  for name in ("BitOffset", "BitLength")]
+        varies = value.get("BitLengthVariable", False) is not False or value.get("FieldType") in (*VARYING, *STRINGS)
+        return Given(called, places[0], None if varies else places[1] or None, varies, has_match="Match" in value, odd=str(why))
 
 
-def read_lookups(top, counts):
-    """All lookups by name; one that a table can't hold is None."""
-    lookups = {}
-    for lookup in top.objects("LookupEnumerations"):
-        name = lookup.ask("Name", "a text")
-        lookup.place += f" {quoted(name)}"
-        if name in lookups:
-            raise BadInput(f"{lookup.place} is there twice")
-        entries = {}
-        for entry in lookup.objects("EnumValues"):
-            value, said = entry.ask("Value", "a whole number"), entry.ask("Name", "a text")
-            if 0 <= value <= GREATEST_VALUE and is_text(said) and value not in entries:
-                entries[value] = said
-            else:
-                counts["names of values left out, since a table can't say them"] += 1
-        lookups[name] = entries if is_text(name) and len(entries) <= MOST_ENTRIES else None
-    return lookups
+def read_names(top, entries_name, value_names, left_out):
+    """The lists of names of one kind, each from values to a name; in `left_out` goes what is odd."""
+    found = {}
+    for ordinal, value in enumerate(list_of(top, f"Lookup{entries_name}Enumerations", left_out), 1):
+        called = f"number {ordinal}"
+        try:
+            lookup = Object(value)
+            called = lookup.called(called)
+            name, names = lookup.ask("Name", "a text"), {}
+            for entry in lookup.ask(f"Enum{entries_name if entries_name == 'Bit' else ''}Values", "a list"):
+                values, said = read_name(entry, value_names)
+                if values is None or values in names:
+                    left_out.append((None, "names of values left out, since a table can't say them"))
+                else:
+                    names[values] = said
+            if name in found:
+                raise Odd("the name is there twice")
+            if not is_text(name) or len(names) > MOST_ENTRIES:
+                raise Odd("a table can't say it")
+            found[name] = names
+        except Odd as why:
+            left_out.append((f"Left out, odd: the list {called} of Lookup{entries_name}Enumerations ({why}).", "lookups left out, as odd ones"))
+    return found
+
+
+def list_of(top, name, left_out):
+    try:
+        return top.ask(name, "a list", [])
+    except Odd as why:
+        left_out.append((f"Left out, odd: all lists of {name} ({why}).", "lookups left out, as odd ones"))
+        return []
+
+
+def read_name(entry, value_names):
+    """The values of a name, or None where a table can't say it."""
+    try:
+        entry = Object(entry)
+        values = tuple(entry.count(name) for name in value_names)
+        said = entry.ask("Name", "a text")
+    except Odd:
+        return None, None
+    return (values, said) if is_text(said) and max(values) <= GREATEST_VALUE else (None, None)
 
 
 def set_of(pgn, length):
@@ -197,12 +246,16 @@ def set_of(pgn, length):
         return None, True
     start = pgn.count("RepeatingFieldSet1StartField") - 1
     if start < 0 or start + size > length:
-        raise BadInput(f"{pgn.place}: its repeating set has fields that are not there")
+        raise Odd("its repeating set has fields that are not there")
     second = pgn.count("RepeatingFieldSet2Size", 0) > 0
     return range(start, start + size), start + size == length and not second
 
 
 # ---- What a table can say ----
+
+def is_unicode(text):
+    return not any("\ud800" <= letter <= "\udfff" for letter in text)
+
 
 def is_text(text):
     return 1 <= len(text.encode()) <= LONGEST_TEXT
@@ -218,111 +271,190 @@ def resolution_text(number):
     raise LeftOut("with a resolution that a table can't say")
 
 
+def offset_of(number):
+    if number == number.to_integral_value() and LEAST_OFFSET <= number <= GREATEST_OFFSET:
+        return int(number)
+    raise LeftOut("with an offset that a table can't say")
+
+
 def match_of(given):
     """The raw value of a match: unsigned, also of a signed field."""
     count = 1 << given.bits
     least = -(count >> 1) if given.signed else 0
     if not least <= given.match < least + count or given.match % count > GREATEST_MATCH:
-        raise LeftOut("with a match that a table can't say")
+        raise LeftOut(NO_MATCH)
     return given.match % count
 
 
-def kind_of(given, lookups):
-    """The field's kind in the table, and why it is less than in the file."""
-    whole = given.at % 8 == 0 and given.bits % 8 == 0
-    if given.kind == "LOOKUP":
-        if given.bits > 32 or lookups[given.lookup] is None:
-            return "number", "since a table can't say the lookup"
-        return "lookup", None
-    if given.kind == "STRING_FIX":
-        if not whole:
-            raise LeftOut("as a text that is not on whole bytes")
-        return "text", None
-    if given.kind == "BINARY" and whole and given.match is None:
-        return "bytes", None
-    return "number", RAW.get(given.kind)
+def unit_of(given):
+    """A time below 0 is none of a day."""
+    unit = given.unit if given.kind == "TIME" and given.signed else UNITS.get(given.kind, given.unit)
+    return {"unit": unit} if is_text(unit) else {}
 
 
-def check_field(given):
-    """Whether a field of any kind can be said."""
-    if given.kind in CODED:
-        raise LeftOut(CODED[given.kind])
-    if given.kind in KEYED:
-        raise LeftOut("as a part of a key and its value")
-    if given.offset != 0:
-        raise LeftOut("with an offset")
-    if given.at + given.bits > LONGEST_MESSAGE:
-        raise LeftOut("past the longest message")
-    if not is_text(given.name):
-        raise LeftOut("with a name that a table can't say")
+class Layout:
+    """The fields of a message or of a set, one behind the other, as far as a table can say them. Each stands at a bit, which
+    counts from the front or from the end of the string before it."""
 
+    def __init__(self, lookups, front, end, used, names):
+        self.lookups, self.front, self.end, self.used, self.names = lookups, front, end, used, names
+        self.fields, self.notes = [], collections.defaultdict(list)
+        # Where the next field begins, None where that isn't known; the string behind which, and that one's fixed place.
+        self.at, self.after, self.fixed = 0, None, 0
+        self.reach = 0  # the greatest fixed place behind a field
+        self.behind = None  # why what follows has no place
+        self.rest = None  # where that begins
 
-def field_of(given, start, lookups):
-    """The field as a table has it, its place counted from the bit `start`; and a note on it."""
-    check_field(given)
-    kind, note = kind_of(given, lookups)
-    field = {"name": given.name, "kind": kind, "at": given.at - start, "bits": given.bits}
-    if kind == "number":
+    def place(self, given):
+        """Where a field begins. The file's own place counts from the front of the message."""
+        counts = self.after is None and self.front is not None and given.at is not None
+        at = given.at - self.front if counts else self.at
+        return None if at is not None and at < 0 else at
+
+    def add(self, given, is_last=False):
+        at = self.place(given)
+        cause = self.behind or self.no_place(given, at, is_last)
+        if cause is None:
+            try:
+                self.say(given, at, is_last)
+            except LeftOut as why:
+                cause = why.args[0]
+        if cause and given.kind in STRINGS:
+            self.ends_at(at, "behind a text that is left out")
+        if cause and given.has_match:
+            raise LeftOut(NO_MATCH, given.called)
+        if cause:
+            self.leave_out(given, cause)
+        if given.kind not in STRINGS:
+            self.at = None if None in (at, given.bits) else at + given.bits
+        if self.at is not None:
+            self.reach = max(self.reach, self.fixed + self.at)
+
+    def no_place(self, given, at, is_last):
+        """Why a field has no place for its own, or what it leaves without one."""
+        if given.sometimes:
+            self.ends_at(at, f"behind a field {(cause := 'there in some messages alone')}")
+            return cause
+        if at is None:
+            return "of no fixed place"
+        is_bytes = given.kind == "BINARY" and is_last and at % 8 == 0 and self.end - self.fixed - at >= 8 and not given.has_match
+        if given.varies and given.kind not in STRINGS and not is_bytes:
+            self.ends_at(at, f"behind a field {(cause := 'of variable length')}")
+            return None if given.odd else cause
+        # Where the length isn't known, what follows may have its place all the same.
+        self.rest = (at, self.after, self.fixed) if given.bits is None and given.odd else None
+        return None
+
+    def ends_at(self, at, behind):
+        """That what follows has no place: what is left begins here, unless it has begun before."""
+        if self.behind is None:
+            self.behind = behind
+            self.rest = self.rest if at is None else (at, self.after, self.fixed)
+
+    def leave_out(self, given, cause):
+        if given.kind not in UNNAMED or given.has_match:
+            self.notes[f"Left out, {cause}"].append(given.called + (f" ({given.odd})" if given.odd else ""))
+
+    def say(self, given, at, is_last):
+        """Adds the field to those of the table."""
+        if given.kind in UNNAMED and not given.has_match:
+            return
+        if given.odd is not None:
+            raise LeftOut("as odd ones")
+        field, note = self.field(given, at, is_last)
+        if self.after is not None:
+            field["after"] = self.after
+            if given.has_match:
+                raise LeftOut(NO_MATCH)
+        if len(self.fields) == MOST_FIELDS:
+            raise LeftOut(f"past {MOST_FIELDS} fields")
+        if not is_text(field["name"]):
+            raise LeftOut("with a name that a table can't say")
+        self.used.add(field["name"])
+        self.fields.append(field)
+        if note:
+            self.notes[f"Printed as raw numbers, {note}"].append(quoted(field["name"]))
+        if given.kind in STRINGS:
+            self.at, self.after, self.fixed = 0, field["name"], self.fixed + at
+
+    def field(self, given, at, is_last):
+        """The field as a table has it, and why it is less than in the file."""
+        field = {"name": self.free_name(given.name), "kind": "number", "at": at}
+        if given.kind in KEYED:
+            raise LeftOut("as a part of a key and its value")
+        if given.kind == "FLOAT":
+            raise LeftOut("as a floating number")
+        if given.kind in STRINGS:
+            if at % 8:
+                raise LeftOut("as a text that is not on whole bytes")
+            if self.fixed + at > LONGEST_MESSAGE - 8:
+                raise LeftOut("past the longest message")
+            return field | {"kind": "string", "form": STRINGS[given.kind]}, None
+        bits = given.bits or self.end - self.fixed - at
+        is_whole, room = at % 8 == 0 and bits % 8 == 0, LONGEST_MESSAGE - self.fixed - at
+        if given.kind in WHOLE:
+            if not is_whole:
+                raise LeftOut("as a text that is not on whole bytes" if given.kind == "STRING_FIX" else "as digits that are not on whole bytes")
+            field["kind"] = WHOLE[given.kind]
+        elif given.kind == "BINARY" and is_whole and not given.has_match:
+            field["kind"] = "bytes"
+        # Of what ends a message as much is shown as is there.
+        if is_last and field["kind"] in ("text", "bytes") and room >= 8:
+            field["short"], bits = True, min(bits, room - room % 8)
+        if bits > room:
+            raise LeftOut("past the longest message")
+        field["bits"] = bits
+        if given.has_match and field["kind"] != "number":
+            raise LeftOut(NO_MATCH)
+        if field["kind"] != "number":
+            return field, None
+        note = self.number(field, given)
+        if given.has_match:
+            field["match"] = match_of(given)
+        return field, note
+
+    def number(self, field, given):
+        """Makes the field a number, flags or a lookup field; answers why it is less than in the file."""
+        note = RAW.get(given.kind)
+        if given.kind in ("LOOKUP", "BITLOOKUP"):
+            named = self.lookups.get((given.kind, given.names))
+            if named is not None and given.bits <= (32 if given.kind == "LOOKUP" else 64) and not (given.has_match and given.kind == "BITLOOKUP"):
+                field |= {"kind": "lookup" if given.kind == "LOOKUP" else "flags", "lookup": named}
+                return None
+            note = "since a table can't say the lookup"
         if given.bits > 64:
             raise LeftOut("of more than 64 bits")
         if given.kind in NUMBERS:
             if given.signed and given.bits < 2:
                 raise LeftOut("with one bit and a sign")
-            if given.signed:
+            # What is sent with an offset has no sign.
+            if given.offset:
+                field["offset"] = offset_of(given.offset)
+            elif given.signed:
                 field["signed"] = True
             if (resolution := resolution_text(given.resolution)) != "1":
                 field["resolution"] = resolution
-    if kind == "lookup":
-        field["lookup"] = given.lookup
-    if given.match is not None:
-        if kind == "text":
-            raise LeftOut("with a match that a table can't say")
-        field["match"] = match_of(given)
-    return field | {"unit": given.unit}, note
+            field |= unit_of(given)
+        return note
 
+    def free_name(self, name):
+        """The name, or where it is used the name with the first number that no field has."""
+        if name not in self.used:
+            return name
+        return next(new for at in itertools.count(2) if (new := f"{name} {at}") not in self.used and new not in self.names)
 
-def causes_of(fields, repeat, is_last):
-    """Why each field can't be said for its place, or None. Behind one without a fixed length no place is fixed."""
-    causes, behind = [], None
-    for given in fields[:repeat.start] if repeat else fields:
-        cause = behind
-        if cause is None and given.varies:
-            cause, behind = "of variable length", "behind a field of variable length"
-        elif cause is None and (given.sometimes or given.at is None):
-            cause = "there in some messages alone" if given.sometimes else "of no fixed place"
-            behind = f"behind a field {cause}"
-        causes.append(cause)
-    if repeat:
-        causes += [behind or why_no_set(fields[repeat.start:repeat.stop], is_last)] * len(repeat)
-        causes += [behind or "behind a set that repeats"] * (len(fields) - repeat.stop)
-    return causes
-
-
-def why_no_set(fields, is_last):
-    if any(given.varies or given.sometimes or given.at is None for given in fields):
-        return "in a set that repeats and has no fixed length"
-    if not is_last:
-        return "in a set that repeats and does not end the message"
-    at, bits = place_of(fields)
-    if at % 8 or bits % 8:
-        return "in a set that repeats and is not on whole bytes"
-    return "past the longest message" if at + bits > LONGEST_MESSAGE else None
-
-
-def place_of(fields):
-    """The first bit of a set, and its bits."""
-    at = min(given.at for given in fields)
-    return at, max(given.at + given.bits for given in fields) - at
+    def add_rest(self):
+        """The bytes whose fields have no place, as far as they are there."""
+        if self.rest is None or len(self.fields) == MOST_FIELDS:
+            return
+        at, after, fixed = self.rest
+        at += -at % 8
+        if self.end - fixed - at >= 8:
+            self.fields.append({"name": self.free_name("Data"), "kind": "bytes", "at": at, "bits": self.end - fixed - at,
+                                **({"after": after} if after else {}), "short": True})
 
 
 # ---- From messages of the file to messages of the table ----
-
-def free_name(name, used, others):
-    """The name, or where it is used the name with the first number that no field has."""
-    if name not in used:
-        return name
-    return next(new for at in itertools.count(2) if (new := f"{name} {at}") not in used and new not in others)
-
 
 class Maker:
     """Makes the messages of a table and keeps what they have in common."""
@@ -330,33 +462,55 @@ class Maker:
     def __init__(self, lookups, counts):
         self.lookups, self.counts = lookups, counts
         self.packets = {}  # the kind of each PGN
+        self.indirect = collections.defaultdict(dict)  # the fields whose names depend on others, by their list
 
-    def say_fields(self, given, causes, start, used, notes):
-        """The fields that a table can say, and in `notes` what it can't; with a match that it can't say no message."""
-        fields, names = [], {field.name for field in given}
-        for field, cause in zip(given, causes):
-            if field.kind in UNNAMED and field.match is None:
-                continue
+    def definition(self, packet, given, repeat, is_last):
+        """The fields and the sets of a message, and the notes on them."""
+        end = FRAME if packet == "Single" else LONGEST_MESSAGE
+        own = given[:repeat.start] if repeat else given
+        # The member `list` of the JSON line holds the sets.
+        layout = Layout(self.lookups, 0, end, {"list"} if repeat else set(), {field.name for field in own})
+        for field in own:
+            layout.add(field, is_last=field is given[-1])
+        sets = {}
+        if repeat:
+            repeated, rest = given[repeat.start:repeat.stop], given[repeat.stop:]
+            if any(field.has_match for field in (*repeated, *rest)):
+                raise LeftOut(NO_MATCH, next(field.called for field in (*repeated, *rest) if field.has_match))
             try:
-                if cause or len(fields) == MOST_FIELDS:
-                    raise LeftOut(cause or f"past {MOST_FIELDS} fields")
-                said, note = field_of(field, start, self.lookups)
-                said["name"] = free_name(field.name, used, names)
-                if not is_text(said["name"]):
-                    raise LeftOut("with a name that a table can't say")
+                sets = {"repeat": self.set(layout, repeated, is_last)}
             except LeftOut as why:
-                if field.match is not None:
-                    raise LeftOut("with a match that a table can't say", field.name) from None
-                notes[f"Left out, {why}"].append(field.name)
-                continue
-            used.add(said["name"])
-            fields.append(said)
-            if note:
-                notes[f"Printed as raw numbers, {note}"].append(said["name"])
-        return fields
+                if layout.behind is None:
+                    layout.ends_at(layout.place(repeated[0]), "behind a set that repeats")
+                for field in repeated:
+                    layout.leave_out(field, why.args[0])
+            for field in rest:
+                layout.leave_out(field, layout.behind)
+        layout.add_rest()
+        return {"fields": layout.fields, **sets}, layout.notes
+
+    def set(self, layout, repeated, is_last):
+        """What repeats behind the fields of this layout, or why it can't be said."""
+        at = layout.place(repeated[0])
+        if layout.behind or at is None:
+            raise LeftOut(layout.behind or "of no fixed place")
+        within = Layout(self.lookups, at if layout.after is None else None, LONGEST_MESSAGE, set(), {field.name for field in repeated})
+        for field in repeated:
+            within.add(field)
+        strings = any(field["kind"] == "string" for field in within.fields)
+        if within.behind or within.at is None or within.reach == 0 and not strings:
+            raise LeftOut("in a set that repeats and has no fixed length")
+        if not is_last:
+            raise LeftOut("in a set that repeats and does not end the message")
+        if at % 8 or within.reach % 8:
+            raise LeftOut("in a set that repeats and is not on whole bytes")
+        if layout.fixed + at + within.reach > LONGEST_MESSAGE or at == LONGEST_MESSAGE:
+            raise LeftOut("past the longest message")
+        for note, fields in within.notes.items():
+            layout.notes[note] += fields
+        return {"at": at, **({"after": layout.after} if layout.after else {}), "bits": within.reach, "fields": within.fields}
 
     def message(self, number, description, packet, given, repeat, is_last):
-        notes = collections.defaultdict(list)
         if number > GREATEST_PGN or not is_text(description):
             raise LeftOut("with a number or description that a table can't say")
         kind = PACKETS[packet]
@@ -364,41 +518,39 @@ class Maker:
             raise LeftOut("sent as single frames and as fast packets")
         if self.packets.get(number, kind) != kind:
             raise LeftOut("sent otherwise than the PGN's first message")
-        causes = causes_of(given, repeat, is_last)
-        has_set = bool(repeat) and causes[repeat.start] is None
-        own = slice(0, repeat.start if has_set else None)
-        # The member `list` of the JSON line holds the sets.
-        fields = self.say_fields(given[own], causes[own], 0, {"list"} if has_set else set(), notes)
-        said = None
-        if has_set:
-            repeated = given[repeat.start:]
-            for field in repeated:
-                if field.match is not None:
-                    raise LeftOut("with a match that a table can't say", field.name)
-            at, bits = place_of(repeated)
-            said = {"at": at, "bits": bits,
-                    "fields": self.say_fields(repeated, causes[repeat.start:], at, set(), notes)}
+        definition, notes = self.definition(packet, given, repeat, is_last)
         self.packets[number] = kind
-        return Message(number, kind, description, fields, said, dict(notes))
+        for field in given:
+            if field.kind == "INDIRECT_LOOKUP" and field.names:
+                self.indirect[field.names][field.called] = None
+        return Message({"number": number, "kind": kind, "description": description, **definition}, notes)
 
-    def part(self, pgn):
-        """A message of the file as one of the table, as a comment, or as nothing where it stands for a range."""
-        number, description = pgn.count("PGN"), pgn.ask("Description", "a text")
-        pgn.place = f"PGN {number} {quoted(description)}"
-        packet = pgn.ask("Type", "a text")
-        if packet not in PACKETS:
-            raise BadInput(f"{pgn.place}: Type {quoted(packet)} is unknown")
-        given = [read_field(field, self.lookups) for field in pgn.objects("Fields", [])]
-        repeat, is_last = set_of(pgn, len(given))
-        if pgn.ask("Fallback", "true or false", False):
-            self.counts["messages left out, as they stand for a range (Fallback)"] += 1
-            return number, None
+    def part(self, value, ordinal):
+        """The PGN of a message of the file, and the message as one of the table, as a comment, or as nothing where it stands for
+        a range."""
+        number, called = None, f"PGNs {ordinal}"
         try:
+            pgn = Object(value)
+            called = pgn.called(called, "Description")
+            number = pgn.count("PGN")
+            description = pgn.ask("Description", "a text")
+            called = f"{number} {quoted(description)}"
+            packet = pgn.ask("Type", "a text")
+            if packet not in PACKETS:
+                raise Odd(f"Type {quoted(packet)} is unknown")
+            given = [read_field(field, at) for at, field in enumerate(pgn.ask("Fields", "a list", []), 1)]
+            repeat, is_last = set_of(pgn, len(given))
+            if pgn.ask("Fallback", "true or false", False):
+                self.counts["messages left out, as they stand for a range (Fallback)"] += 1
+                return number, None
             message = self.message(number, description, packet, given, repeat, is_last)
+        except Odd as why:
+            self.counts["messages left out, as odd ones"] += 1
+            return number, f"Left out, odd: {called} ({why})."
         except LeftOut as why:
             self.counts[f"messages left out, {why.args[0]}"] += 1
-            field = f" (its field {quoted(why.args[1])})" if why.args[1:] else ""
-            return number, f"Left out, {why.args[0]}: {number} {quoted(description)}{field}."
+            field = f" (its field {why.args[1]})" if why.args[1:] else ""
+            return number, f"Left out, {why.args[0]}: {called}{field}."
         for note, names in message.notes.items():
             self.counts[f"fields {note[0].lower()}{note[1:]}"] += len(names)
         return number, message
@@ -409,8 +561,8 @@ def named_lookups(lookups, messages, counts):
     lengths = collections.defaultdict(set)
     for message in messages:
         for field in message.all_fields():
-            if field["kind"] == "lookup":
-                lengths[field["lookup"]].add(field["bits"])
+            if "lookup" in field:
+                lengths[field["lookup"]].add(field["bits"] if field["kind"] == "lookup" else 0)
     named = {}
     for name, entries in lookups.items():
         if name in lengths:
@@ -422,16 +574,35 @@ def named_lookups(lookups, messages, counts):
     return named
 
 
+def indirect_comment(name, fields, names):
+    """The names of a list that depend on two fields."""
+    said = ", ".join(f"{first} {second} {quoted(said)}" for (first, second), said in sorted(names.items()))
+    return f"Names of {', '.join(fields)}, by the field on which they depend and by its own value ({quoted(name)}): {said or 'none'}."
+
+
 def table_of(value):
     """The table of what the file holds."""
     if not isinstance(value, dict) or not {"PGNs", "LookupEnumerations"} <= value.keys():
         raise BadInput("this is not canboat.json of version 4 to 6: it has no PGNs or no LookupEnumerations")
-    top = Object(value, "canboat.json")
-    counts = collections.Counter()
-    maker = Maker(read_lookups(top, counts), counts)
+    top, left_out, counts = Object(value), [], collections.Counter()
+    by_value = read_names(top, "", ["Value"], left_out)
+    by_bit = read_names(top, "Bit", ["Bit"], left_out)
+    indirect = read_names(top, "Indirect", ["Value1", "Value2"], left_out)
+    lookups = {name: {value: said for (value,), said in names.items()} for name, names in by_value.items()}
+    named = {("LOOKUP", name): name for name in by_value}
+    for name, names in by_bit.items():
+        named["BITLOOKUP", name] = own = next(new for new in itertools.chain([name], (f"{name[:200]} {at}" for at in itertools.count(2)))
+                                              if new not in lookups)
+        lookups[own] = {bit: said for (bit,), said in names.items()}
+    counts.update(cause for _, cause in left_out)
+    maker = Maker(named, counts)
     by_number = collections.defaultdict(list)
-    for pgn in top.objects("PGNs"):
-        number, part = maker.part(pgn)
+    try:
+        pgns = top.ask("PGNs", "a list")
+    except Odd as why:
+        raise BadInput(f"this is not canboat.json of version 4 to 6: {why}") from None
+    for ordinal, pgn in enumerate(pgns, 1):
+        number, part = maker.part(pgn, ordinal)
         if part is not None:
             by_number[number].append(part)
     # The first definition that matches is chosen, so those with more matches stand before those with fewer.
@@ -439,8 +610,9 @@ def table_of(value):
     for of_one in by_number.values():
         parts += [part for part in of_one if isinstance(part, str)]
         parts += sorted((part for part in of_one if isinstance(part, Message)), key=lambda message: -message.matches())
-    table = Table(parts, {}, counts)
-    table.lookups = named_lookups(maker.lookups, table.messages(), counts)
+    table = Table(parts, {}, [comment for comment, _ in left_out if comment], counts)
+    table.lookups = named_lookups(lookups, table.messages(), counts)
+    table.comments += [indirect_comment(name, fields, indirect.get(name, {})) for name, fields in maker.indirect.items()]
     if len(table.messages()) > MOST_DEFINITIONS or len(table.lookups) > MOST_LOOKUPS:
         raise BadInput(f"more than {MOST_DEFINITIONS} messages or {MOST_LOOKUPS} lookups, which a table can't hold")
     return table
@@ -448,71 +620,33 @@ def table_of(value):
 
 # ---- The table as a text ----
 
-ESCAPES = {chr(code): f"\\u{code:04X}" for code in (*range(32), 127)} | {'"': '\\"', "\\": "\\\\"}
-
-
-def quoted(text):
-    """A text of TOML."""
-    return '"' + "".join(ESCAPES.get(letter, letter) for letter in text) + '"'
-
-
 def comment(text):
     return textwrap.wrap(text, 120, initial_indent="# ", subsequent_indent="# ", break_long_words=False,
                          break_on_hyphens=False)
 
 
-def field_line(field):
-    keys = []
-    for key in ("name", "kind", "at", "bits", "signed", "resolution", "lookup", "match"):
-        if key in field:
-            value = field[key]
-            keys.append(f"{key} = {quoted(value) if isinstance(value, str) else str(value).lower()}")
-    unit = f" # {quoted(field['unit'])[1:-1]}" if field["unit"] else ""
-    return f"  {{ {', '.join(keys)} }},{unit}"
-
-
-def fields_lines(fields):
-    return ["fields = [", *map(field_line, fields), "]"] if fields else ["fields = []"]
-
-
 def message_lines(message):
-    lines = []
-    for note, names in message.notes.items():
-        lines += comment(f"{note}: {', '.join(map(quoted, names))}.")
-    lines += ["[[pgn]]", f"number = {message.number}", f'kind = "{message.kind}"',
-              f"description = {quoted(message.description)}", *fields_lines(message.fields)]
-    if message.repeat:
-        at, bits = message.repeat["at"], message.repeat["bits"]
-        lines += ["[pgn.repeat]", f"at = {at}", f"bits = {bits}", *fields_lines(message.repeat["fields"])]
-    return lines
-
-
-def lookup_lines(name, names):
-    entries = [f"[{value}, {quoted(said)}]" for value, said in names.items()]
-    line = f"entries = [{', '.join(entries)}]"
-    lines = [line] if len(line) <= 120 else ["entries = [", *(f"  {entry}," for entry in entries), "]"]
-    return ["[[lookup]]", f"name = {quoted(name)}", *lines]
+    notes = [comment(f"{note}: {', '.join(fields)}.") for note, fields in message.notes.items()]
+    return [*itertools.chain(*notes), *table_text.definition_lines(message.definition)]
 
 
 def head(value):
     """What the file says of itself, as comments."""
-    top = Object(value, "canboat.json")
-    lines = comment("canboat's PGN database, made a table by tools/from_canboat.py. A unit stands behind each field "
-                    "that has one. Where the greatest value of a lookup only says that there is none, it has no name "
-                    "here.")
+    lines = comment("canboat's PGN database, made a table by tools/from_canboat.py. Where the greatest value of a lookup only "
+                    "says that there is none, it has no name here.")
     for name in ("Version", "License", "Copyright"):
-        said = top.ask(name, "a text") if isinstance(value.get(name), str) else ""
-        for line in said.split("\n"):
+        said = value.get(name)
+        for line in said.split("\n") if isinstance(said, str) and is_unicode(said) else []:
             if line.strip():
                 lines += comment(f"{name}: {quoted(line.strip())[1:-1]}")
     return lines
 
 
-def table_text(value, table):
-    paragraphs = [head(value) + ["format = 2"]]
+def table_as_text(value, table):
+    paragraphs = [head(value) + ["format = 3"]]
     paragraphs += [comment(part) if isinstance(part, str) else message_lines(part) for part in table.parts]
-    paragraphs += [lookup_lines(name, names) for name, names in table.lookups.items()]
-    text = "\n\n".join("\n".join(lines) for lines in paragraphs) + "\n"
+    paragraphs += [table_text.lookup_lines(name, names) for name, names in table.lookups.items()]
+    text = table_text.text_of(paragraphs + list(map(comment, table.comments)))
     if len(text.encode()) > LONGEST_FILE:
         raise BadInput(f"the table would have more than {LONGEST_FILE} bytes")
     return text
@@ -521,7 +655,7 @@ def table_text(value, table):
 def summary(table):
     messages = table.messages()
     fields = sum(len(message.all_fields()) for message in messages)
-    sets = sum(message.repeat is not None for message in messages)
+    sets = sum("repeat" in message.definition for message in messages)
     lines = [f"messages {len(messages)} fields {fields} sets {sets} lookups {len(table.lookups)}"]
     return lines + [f"{cause}: {count}" for cause, count in sorted(table.counts.items()) if count]
 
@@ -532,7 +666,7 @@ def made_of(path, compared):
         with open(path, "rb") as file:
             value = parse(file.read())
         table = table_of(value)
-        text = table_text(value, table)
+        text = table_as_text(value, table)
     except BadInput as error:
         raise BadInput(f"{path}: {error}") from None
     return differences.text(text, path, compared) if compared else text, summary(table)

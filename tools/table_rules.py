@@ -1,8 +1,10 @@
 """A table of n2kdec read with its places: TOML 1.1 as the program reads it, and the rules of docs/PROFILE.md.
 
 `tree(bytes)` is the document, `faults(bytes)` every fault with its line. tools/table-check prints them,
-tests/random/table_faults.py their names (Python 3.11 or newer).
+tests/random/table_faults.py their names (Python 3.9 or newer).
 """
+from __future__ import annotations
+
 import bisect
 import dataclasses
 import datetime
@@ -31,12 +33,13 @@ class NotToml(Exception):
 
 
 class Table(dict):
-    """A table, with the offset at which it begins (`at`) and those of its keys (`keys_at`). `origin` says what made it,
-    as the rules on defining a key twice ask: a header that passed through it, a dotted key, its own header, or braces."""
+    """A table, with the offset at which it begins (`at`), of one in braces that behind it (`end`), of one with a header that
+    behind what stands before it (`begin`), and those of its keys (`keys_at`). `origin` says what made it, as the rules on
+    defining a key twice ask: a header that passed through it, a dotted key, its own header, or braces."""
 
-    def __init__(self, at, origin):
+    def __init__(self, at, origin, begin=None):
         super().__init__()
-        self.at, self.origin, self.keys_at = at, origin, {}
+        self.at, self.end, self.begin, self.origin, self.keys_at = at, None, begin, origin, {}
 
     def put(self, key, at, value):
         self[key], self.keys_at[key] = value, at
@@ -127,7 +130,7 @@ class Reader:
     def __init__(self, text):
         self.text = text
         self.open = [0]  # the offsets of the pair or header, and of the brackets, braces and quotes, that are open
-        self.before = 0  # that of the pair or header before
+        self.before = self.behind = 0  # that of the pair or header before, and that behind it
         self.lines_of_text = 0, 0  # where the last text of many lines begins and ends
 
     def first(self, at):
@@ -166,7 +169,7 @@ class Reader:
             if end < len(self.text) and self.first(end) not in "#\n\r":
                 self.fail("unexpected key or value, expected newline, `#`", end)
             section = define(root, section, start)
-            self.before, at = start, self.blank(at)
+            self.before, self.behind, at = start, at, self.blank(at)
         return root
 
     def header(self, at):
@@ -183,14 +186,14 @@ class Reader:
             key, key_at = path[-1]
             there = holder.get(key)
             if doubled and isinstance(there, Array) and there.by_headers:
-                return there.add(start, Table(start, "header"))
+                return there.add(start, Table(start, "header", self.behind))
             if not doubled and isinstance(there, Table) and there.origin == "passed":
                 there.at, there.origin = start, "header"
                 return there
             if key in holder:
                 self.twice(holder, key, key_at)
             if doubled:
-                return holder.put(key, key_at, Array(True)).add(start, Table(start, "header"))
+                return holder.put(key, key_at, Array(True)).add(start, Table(start, "header", self.behind))
             return holder.put(key, key_at, Table(start, "header"))
 
         return define, end + 1 + doubled
@@ -285,7 +288,8 @@ class Reader:
             define, end = self.pair(at, depth)
             define(None, found, at)
             at = self.after_element(end, "}", "missing comma between key-value pairs, expected `,` or `}`")
-        return found, at + 1
+        found.end = at + 1
+        return found, found.end
 
     def after_element(self, at, closing, missing):
         at = self.blank(at)
@@ -503,10 +507,11 @@ def all_keys(by_kind):
 
 
 class Rules:
-    """Judges a document. A value that has a fault by itself is None in what is judged further."""
+    """Judges a document. A value that has a fault by itself is None in what is judged further. Fields may name the lookups
+    of tables that it is joined with too."""
 
-    def __init__(self, top, lines):
-        self.top, self.lines, self.faults = top, lines, []
+    def __init__(self, top, lines, joined_lookups=()):
+        self.top, self.lines, self.faults, self.joined_lookups = top, lines, [], joined_lookups
         self.version, self.field_keys, self.lookups = None, {}, {}
         self.near = {}  # the lookup that is most like a name that none has
 
@@ -839,10 +844,11 @@ class Rules:
 
     def named_lookup(self, field, where):
         name = self.text(field, "lookup", where, (field.keys_at["kind"],))
-        if name is not None and name not in self.lookups:
+        if name is not None and name not in self.lookups and name not in self.joined_lookups:
             if name not in self.near:
-                self.near[name] = difflib.get_close_matches(name, self.lookups, 1)
-            hint = "".join(f"; perhaps {quoted(near)} of line {self.lines.line(self.lookups[near])}" for near in self.near[name])
+                self.near[name] = difflib.get_close_matches(name, [*self.lookups, *self.joined_lookups], 1)
+            hint = "".join(f"; perhaps {quoted(near)}" + (f" of line {self.lines.line(self.lookups[near])}" if near in self.lookups else "")
+                           for near in self.near[name])
             self.fault("Lookup", field.keys_at["lookup"], where, f"no lookup is named {quoted(name)}{hint}")
 
 
@@ -851,7 +857,7 @@ def not_toml(error, data):
     return Fault(lines.line(error.at), lines.column(error.at), "NotToml", error.what)
 
 
-def judged(data):
+def judged(data, joined_lookups=()):
     """The document of a table's bytes, None where it is no TOML; its lines; and all its faults as they are judged: the first
     is the one that the program answers."""
     try:
@@ -859,7 +865,7 @@ def judged(data):
         top = Reader(text).document()
     except NotToml as error:
         return None, None, [not_toml(error, data)]
-    rules = Rules(top, Lines(text))
+    rules = Rules(top, Lines(text), joined_lookups)
     rules.judge()
     return top, rules.lines, rules.faults
 
@@ -867,3 +873,54 @@ def judged(data):
 def faults(data):
     """All faults of a table's bytes; the first is the one that the program answers."""
     return judged(data)[2]
+
+
+# ---- Of a table without faults ----
+
+# What may stand between a field and the comment of its line.
+COMMENT = re.compile(r"[ \t,\]}]*#([^\n]*)")
+
+
+def unit_of(field, top, text):
+    """The unit of a field, or None: in format 3 at its key, before it in the comment behind the field."""
+    if top["format"] == 3 or field.end is None:
+        return field.get("unit")
+    comment = COMMENT.match(text, field.end)
+    unit = comment[1].strip() if comment else ""
+    return unit if 1 <= len(unit.encode()) <= LONGEST_TEXT else None
+
+
+# The ranges of PGNs of NMEA 2000 in which one kind alone is sent.
+RANGES = {range(59392, 65536): "single", range(126208, 126976): "fast", range(130816, 131072): "fast"}
+
+
+def kind_of_range(definition):
+    """What is to be told of a definition whose kind is not that of its PGN's range, or None."""
+    for numbers, kind in RANGES.items():
+        if definition["number"] in numbers and definition["kind"] != kind:
+            return f'kind is "{definition["kind"]}", but the PGNs {numbers[0]} to {numbers[-1]} are "{kind}"'
+    return None
+
+
+def sets_of(definition):
+    """The fields of what repeats."""
+    return definition.get("repeat", {}).get("fields", [])
+
+
+class Wanted:
+    """What the matches of a definition ask of the data: bits and their values, and how many bytes there have to be."""
+
+    def __init__(self, definition):
+        self.mask = self.values = self.bytes = 0
+        self.is_never = False
+        for field in definition["fields"]:
+            if "match" in field:
+                mask, values = ((1 << field["bits"]) - 1) << field["at"], field["match"] << field["at"]
+                self.is_never |= self.values & mask != values & self.mask
+                self.mask, self.values = self.mask | mask, self.values | values
+                self.bytes = max(self.bytes, (field["at"] + field["bits"] + 7) // 8)
+
+    def fits_whenever(self, other):
+        """Whether data that have what the other asks for have this too."""
+        return not self.is_never and self.bytes <= other.bytes and other.mask & self.mask == self.mask and \
+            other.values & self.mask == self.values
