@@ -5,8 +5,8 @@
 # Waypoints are the destinations (129284), men overboard (127233), and those of routes and lists where the table has them.
 include "n2k" {search: "./"};
 
-# What XML may not have is a space.
-def xml: gsub("[[:cntrl:]\ufffe\uffff]"; " ") | @html;
+# What XML may not have, or what turns writing round, is a space.
+def xml: gsub("[[:cntrl:]\u061c\u200e\u200f\u202a-\u202e\u2066-\u2069\ufffe\uffff]"; " ") | @html;
 # With 7 decimals, as the bus has it; jq may write a small number with an exponent.
 def coordinate:
     (. * 1e7 | fabs | round) as $whole

@@ -8,9 +8,12 @@ include "n2k" {search: "./"};
 import "units" as $known {search: ["..", "../../tables"]};
 
 def padded($width): . + (" " * ($width - length) // "");
-def shown: if type == "number" then tostring elif type == "string" then . else tojson end;
-# A text may hold a line's end, or what a terminal obeys: each such sign is a space.
-def plain: if test("[[:cntrl:]]") then gsub("[[:cntrl:]]"; " ") else . end;
+# Flags are names and numbers of bits.
+def shown: if type == "string" then . elif type == "array" then map(tostring) | join(", ") | if . == "" then "none" else . end else tojson end;
+# A text may hold a line's end, what a terminal obeys, or what turns writing round: each such sign is a space.
+def plain: "[[:cntrl:]\u061c\u200e\u200f\u202a-\u202e\u2066-\u2069]" as $obeyed | if test($obeyed) then gsub($obeyed; " ") else . end;
+# Seconds of a field that counts for how long something has run are hours, with one decimal.
+def is_hours: test("\\b([Hh]ours|Run Time|Motor Time|Operating Time)\\b");
 def unit_names:
     {date: "days", time: "s"}
     + if . == null then {} else {rad: "deg", "rad/s": "deg/s", K: "°C", Pa: "hPa", date: null, time: null} end
@@ -24,7 +27,8 @@ things as $things | ($things | keys) as $names | ($ARGS.named.own // $known::kno
     | $m.fields | to_entries[] | select((.key != "list" or (.value | type != "array" or any(.[]; type != "object"))) and .value != null and $things[.key] == null)
     | $mine[.key] as $unit
     | [($m.timestamp | iso | .[11:19]), "\($m.src)", $m.description, $thing, .key,
+       if $unit == "s" and (.value | type) == "number" and (.key | is_hours) then "\(.value / 360 | round / 10) h" else
        (.value | shown) + (if $unit and (.value | type) == "number" then
-           ($called | if has($unit) then .[$unit] else $unit end) as $name | if $name then " " + $name else "" end else "" end)]]
+           ($called | if has($unit) then .[$unit] else $unit end) as $name | if $name then " " + $name else "" end else "" end) end]]
 | [["time", "src", "message", "of", "field", "value"]] + . | (transpose | map(map(length) | max)) as $widths
 | .[] | .[-1] as $value | [range(length - 1) as $at | .[$at] | padded($widths[$at])] + [$value] | join("  ") | plain

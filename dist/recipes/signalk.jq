@@ -1,7 +1,8 @@
 # Takes JSON lines, gives Signal K deltas of this boat by Signal K's paths and units: jq -jcf signalk.jq
 #
-# Position, COG, SOG, heading, rate of turn, attitude, speed, depth, wind, rudder, engine, gear, battery, tank,
-# temperature, humidity and pressure; other messages, and AIS targets, give nothing. Engine 0 is `port`, 1 is `starboard`.
+# Position, COG, SOG, heading, rate of turn, attitude, speed, log, depth, wind, current, rudder, autopilot, next point, engine
+# with its alarms, gear, battery, switches, tank, temperature, humidity, pressure and date; other messages, and AIS targets, give
+# nothing. Engine 0 is `port`, 1 is `starboard`. An alarm of an engine is told when it is set, and when it is over.
 # Wind whose reference is the boat or the water is angleTrueWater and speedTrue, as Signal K's own reader has it.
 # Numbers are those of the line but for rpm (Hz), percent (ratio), litres (m3) and wind angles (from -pi to pi). A stamp
 # that is no time is left out: Signal K then takes the time at which the delta comes.
@@ -11,6 +12,7 @@ include "n2k" {search: "./"};
 def at($path; $value): if $path and $value then {path: $path, value: $value} else empty end;
 def ratio: if type == "number" then . * 10000 | round / 1000000 else null end;
 def pi: 3.141592653589793;
+def signed: if . and . > pi then (. - 2 * pi) * 10000 | round / 10000 else . end;
 def by_reference($reference; $true; $magnetic):
     if $reference == "True" then $true elif $reference == "Magnetic" then $magnetic else null end;
 def engine:
@@ -36,9 +38,34 @@ def temperature($source; $instance; $value):
 def humidity($source; $value):
     at({"Inside": "environment.inside.relativeHumidity", "Outside": "environment.outside.relativeHumidity"}[$source | tostring]; $value | ratio);
 def place: if .Latitude and .Longitude then {latitude: .Latitude, longitude: .Longitude} else null end;
+# Alarms are flags that have a name.
+def notified($engine; $state; $method):
+    {path: "notifications.\($engine).\(camel)", value: {state: $state, method: $method, message: .}};
+def moment:
+    if .Date and .Time then (.Date * 86400000 + (.Time * 1000 | round)) as $ms
+        | ($ms / 1000 | floor | todate | rtrimstr("Z")) + ".\("00\($ms % 1000)"[-3:])Z" else null end;
+def switches:
+    "electrical.switches.bank.\(.Instance // 0)" as $bank
+    | to_entries[] | select(.key | startswith("Indicator"))
+    | at("\($bank).\(.key | ltrimstr("Indicator")).state"; {"On": 1, "Off": 0}[.value | tostring]);
+def next_point:
+    ("navigation.course" + if ."Calculation Type" == "Great Circle" then "GreatCircle" else "Rhumbline" end) as $course
+    | ."Course/Bearing reference" as $reference
+    | at($course + ".nextPoint.distance"; ."Distance to Waypoint"),
+      at(by_reference($reference; $course + ".bearingTrackTrue"; $course + ".bearingTrackMagnetic"); ."Bearing, Origin to Destination Waypoint"),
+      at(by_reference($reference; $course + ".nextPoint.bearingTrue"; $course + ".nextPoint.bearingMagnetic"); ."Bearing, Position to Destination Waypoint"),
+      at($course + ".nextPoint.velocityMadeGood"; ."Waypoint Closing Velocity"),
+      at($course + ".nextPoint.position"; {Latitude: ."Destination Latitude", Longitude: ."Destination Longitude"} | place);
+def current:
+    (if .Drift and .Set then by_reference(."Set Reference"; {setTrue: .Set}; {setMagnetic: .Set}) else null end) as $set
+    | at("environment.current"; if $set then $set + {drift: .Drift} else null end);
+# The states of Raymarine's autopilots, by Seatalk NG and by Seatalk 1.
+def pilots: {
+    "Standby": "standby", "Auto": "auto", "Auto, compass commanded": "auto", "Wind": "wind", "Vane, Wind Mode": "wind", "Track": "route",
+    "Track Mode": "route", "No Drift, COG referenced (In track, course changes)": "route"};
 
 def wind:
-    (."Wind Angle" | if . and . > pi then (. - 2 * pi) * 10000 | round / 10000 else . end) as $angle
+    (."Wind Angle" | signed) as $angle
     | if .Reference == "Apparent" then
           at("environment.wind.speedApparent"; ."Wind Speed"), at("environment.wind.angleApparent"; $angle)
       elif .Reference == "True (boat referenced)" or .Reference == "True (water referenced)" then
@@ -85,13 +112,25 @@ def tank:
           | at($tank + ".currentLevel"; .Level | ratio), at($tank + ".capacity"; .Capacity | if . then . / 1000 else . end)
       else empty end;
 
-# What a message says, from its PGN and its fields. The PGNs stand in three parts, so that few are compared.
+# What a message says, from its PGN and its fields. The PGNs stand in four parts, so that few are compared.
 def values_of($pgn):
-    if $pgn < 128000 then
+    if $pgn < 127000 then
+        if $pgn == 126992 then at("navigation.datetime"; moment)
+        elif $pgn == 126720 or $pgn == 65379 then at("steering.autopilot.state"; pilots[."Pilot Mode" | tostring])
+        elif $pgn == 65345 then at("steering.autopilot.target.windAngleApparent"; ."Wind Datum" | signed)
+        elif $pgn == 65359 then at("navigation.headingTrue"; ."Heading True"), at("navigation.headingMagnetic"; ."Heading Magnetic")
+        elif $pgn == 65360 then
+            at("steering.autopilot.target.headingTrue"; ."Target Heading True"),
+            at("steering.autopilot.target.headingMagnetic"; ."Target Heading Magnetic")
+        else empty end
+    elif $pgn < 128000 then
         if $pgn == 127245 then if (.Instance // 0) == 0 then at("steering.rudderAngle"; .Position) else empty end
         elif $pgn == 127250 then
             at(by_reference(.Reference; "navigation.headingTrue"; "navigation.headingMagnetic"); .Heading),
             at("navigation.magneticVariation"; .Variation), at("navigation.magneticDeviation"; .Deviation)
+        elif $pgn == 127237 then
+            at(by_reference(."Heading Reference"; "steering.autopilot.target.headingTrue"; "steering.autopilot.target.headingMagnetic");
+               ."Heading-To-Steer (Course)")
         elif $pgn == 127251 then at("navigation.rateOfTurn"; .Rate)
         elif $pgn == 127257 then
             if .Roll and .Pitch then at("navigation.attitude"; {roll: .Roll, pitch: .Pitch, yaw: .Yaw}) else empty end
@@ -101,6 +140,7 @@ def values_of($pgn):
             | at($engine + ".revolutions"; .Speed | if . then . / 60 else . end), at($engine + ".boostPressure"; ."Boost Pressure")
         elif $pgn == 127489 then engine_values
         elif $pgn == 127493 then gear
+        elif $pgn == 127501 then switches
         elif $pgn == 127505 then tank
         elif $pgn == 127506 then charge
         elif $pgn == 127508 then battery
@@ -112,6 +152,10 @@ def values_of($pgn):
             at("navigation.speedOverGround"; .SOG)
         elif $pgn == 128267 then depth
         elif $pgn == 128259 then at("navigation.speedThroughWater"; ."Speed Water Referenced")
+        elif $pgn == 128275 then at("navigation.log"; .Log), at("navigation.trip.log"; ."Trip Log")
+        elif $pgn == 129283 then at("navigation.courseRhumbline.crossTrackError"; .XTE)
+        elif $pgn == 129284 then next_point
+        elif $pgn == 129291 then current
         else empty end
     else
         if $pgn == 130306 then wind
@@ -129,13 +173,23 @@ def values_of($pgn):
         else empty end
     end;
 
-# The state is a stamp up to its second, and the same as ISO text, null where it is no time: each second is looked at once.
-foreach lines as $m ({};
+# The state is a stamp up to its second, and the same as ISO text, null where it is no time: each second is looked at once; what
+# is set of each engine; and what the last message of one changed.
+foreach lines as $m ({set: {}};
     ($m.timestamp / ".")[0] as $text
     | if .text == $text then . else
-          {text: $text, second: ($m.timestamp | iso | if seconds then (. / ".")[0] | rtrimstr("Z") else null end)}
-      end;
-    . as $stamp | [$m.fields | values_of($m.pgn)] as $values
+          .text = $text | .second = ($m.timestamp | iso | if seconds then (. / ".")[0] | rtrimstr("Z") else null end)
+      end
+    | if .changed then .changed = null else . end
+    | if $m.pgn == 127489 then
+          ($m.fields.Instance | engine) as $engine
+          | reduce ("Discrete Status 1", "Discrete Status 2") as $word (.;
+              if $m.fields[$word] | type == "array" then
+                  [$m.fields[$word][] | strings] as $now | (.set[$engine][$word] // []) as $was | .set[$engine][$word] = $now
+                  | .changed += [($now - $was)[] | notified($engine; "alarm"; ["visual", "sound"])] + [($was - $now)[] | notified($engine; "normal"; [])]
+              else . end)
+      else . end;
+    . as $stamp | [($m.fields | values_of($m.pgn)), (.changed // empty | .[])] as $values
     | if $values[0] then
           "{\"context\":\"vessels.self\",\"updates\":[{\"$source\":\"n2kdec.", $m.src,
           "\",\"source\":{\"label\":\"n2kdec\",\"type\":\"NMEA2000\",\"src\":\"", $m.src, "\",\"pgn\":", $m.pgn,

@@ -2,15 +2,14 @@
 """A made-up bus, as `candump -L can0` writes it:
 
     bus.py boat SECONDS [START]                 a boat under way: nine devices, some 60 messages a second
-    bus.py crowd LINES A_SECOND [--now]         200 devices, with lines that are bad, groups that break, unknown PGNs, ships that
-                                                come and go; with --now each line at its time, else all at once
+    bus.py crowd LINES A_SECOND                 200 devices, with lines that are bad, groups that break, unknown PGNs, ships that
+                                                come and go
 
-The same lines each time, but for the stamps of --now.
+The same lines each time.
 """
 import math
 import struct
 import sys
-import time
 
 START = 1751608800
 
@@ -43,7 +42,8 @@ DEVICES = [
     (41, 137, "TLA100 Fuel", "1420331", 150, 75), (43, 358, "BMV-712 Smart", "HQ2138YQK5C", 170, 35), (60, 275, "NAIS-500", "119021", 195, 70)]
 
 
-def boat(seconds, start=START):
+def boat(seconds, start=START, stop=12):
+    """The engine is silent for 28 seconds from the second `stop` on; its alert begins two seconds before, and is over within."""
     lines = []
     sequence = 0
     for tenth in range(int(seconds * 10)):
@@ -54,7 +54,7 @@ def boat(seconds, start=START):
         lines.append(frame(at + .0163, 2, 129026, 3, struct.pack("<BBHHH", tenth % 253, 0xFC, int(course * 10000), int(speed * 100), 0xFFFF)))
         lines.append(frame(at + .0311, 2, 127250, 5, struct.pack("<BHhhB", tenth % 253, int((course - 0.07 + 0.01 * math.sin(t)) * 10000), 0x7FFF, 785, 0xFD)))
         lines.append(frame(at + .0405, 2, 127245, 12, struct.pack("<BBhhH", 0, 0xF8, 0x7FFF, int(400 * math.sin(t / 3)), 0xFFFF)))
-        if t < 12 or t > 40:
+        if t < stop or t > stop + 28:
             lines.append(frame(at + .0552, 2, 127488, 22, struct.pack("<BHHbH", 0, int((1850 + 20 * math.sin(t)) * 4), 0xFFFF, 0x7F, 0xFFFF)))
         if tenth % 5 == 2:
             lines.append(frame(at + .0603, 2, 130306, 8, struct.pack("<BHHBH", tenth % 253, int((6.2 + math.sin(t / 5)) * 100), int((0.72 + 0.06 * math.sin(t / 4)) * 10000), 0xFA, 0xFFFF)))
@@ -66,7 +66,7 @@ def boat(seconds, start=START):
             lines.append(frame(at + .0803, 6, 127508, 43, struct.pack("<BhhHB", 0, int((12.84 + 0.02 * math.sin(t)) * 100), -62, 29515, tenth % 253)))
         if tenth % 25 == 8:
             lines.append(frame(at + .0905, 6, 127505, 41, struct.pack("<BhIB", 0, int((71.2 - t / 100) / 0.004), 1600, 0xFF)))
-        if tenth % 5 == 3 and (t < 12 or t > 40):
+        if tenth % 5 == 3 and (t < stop or t > stop + 28):
             sequence += 1
             engine = struct.pack("<BHHHhhIHHBHHbb", 0, 4120, 0xFFFF, 35615, 1421, 62, 4215600 + int(t), 0xFFFF, 0xFFFF, 0xFF, 0, 0, 0x7F, 0x7F)
             lines += fast(at + .0955, 2, 127489, 22, engine, sequence)
@@ -76,14 +76,14 @@ def boat(seconds, start=START):
             ship += struct.pack("<BHH", 0x2C, int(2.41 * 10000), 615) + b"\x00\x00\x04" + struct.pack("<HhBBB", 24000, 0, 0xF0, 0xFF, 0xFF)
             lines += fast(at + .0966, 4, 129038, 60, ship, sequence)
         if tenth % 100 == 60:
-            lines.append(frame(at + .0981, 7, 130841, 9, bytes.fromhex("419F0017FFFFFFFF")))
+            lines.append(frame(at + .0981, 7, 65300, 9, bytes.fromhex("419F0017FFFFFFFF")))
         if tenth % 600 == 15:
             for place, (sender, maker, model, serial, function, of_class) in enumerate(DEVICES):
                 sequence += 1
                 lines.append(frame(at + .001 * place, 6, 60928 | 0xFF, sender, claim(sender, maker, function, of_class)))
                 lines += fast(at + .02 + .006 * place, 6, 126996, sender, product(model, serial), sequence)
-        if t == 10 or t == 35:
-            state = 2 if t == 10 else 1
+        if t in (stop - 2, stop + 23):
+            state = 2 if t < stop else 1
             alert = struct.pack("<BBBHQBBBB", 0x15, 0, 1, 47, 0, 0, 0, 1, 0xC0) + struct.pack("<Q", 0) + bytes([0x11, 1, state])
             lines += fast(at + .099, 2, 126983, 22, alert, 3)
     return lines
@@ -102,7 +102,7 @@ def crowd(count, rate, start=START):
             # The same frame twice breaks its group.
             yield frame(at, 6, 129029, 201, bytes.fromhex("002B00D1067414FF"))
         elif number % 100 == 17:
-            yield frame(at, 7, 130841 + number // 1000 % 3, sender, bytes(8))
+            yield frame(at, 7, 65299 + number // 1000 % 3, sender, bytes(8))
         elif turn % 20 == 19:
             yield frame(at, 2, 127250, sender, struct.pack("<BHhhB", turn % 253, number % 62000, 0x7FFF, 785, 0xFD))
         elif turn % 20 > 15:
@@ -116,26 +116,9 @@ def crowd(count, rate, start=START):
 
 
 def main(words):
-    write = sys.stdout.write
-    if words[0] == "boat":
-        for line in boat(float(words[1]), float(words[2]) if len(words) > 2 else START):
-            write(line + "\n")
-        return
-    count, rate = int(words[1]), int(words[2])
-    if "--now" not in words:
-        for line in crowd(count, rate):
-            write(line + "\n")
-        return
-    # In pieces of a fiftieth of a second.
-    began, clock, pending = time.monotonic(), time.time(), []
-    for number, line in enumerate(crowd(count, rate, clock), 1):
-        pending.append(line + "\n")
-        if number % (rate // 50) == 0 or number == count:
-            time.sleep(max(0, began + number / rate - time.monotonic()))
-            write("".join(pending))
-            sys.stdout.flush()
-            pending = []
-    print(f"{time.monotonic() - began - count / rate:.2f}", file=sys.stderr)
+    lines = boat(float(words[1]), float(words[2]) if len(words) > 2 else START) if words[0] == "boat" else crowd(int(words[1]), int(words[2]))
+    for line in lines:
+        sys.stdout.write(line + "\n")
 
 
 if __name__ == "__main__":

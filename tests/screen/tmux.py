@@ -1,17 +1,24 @@
 """A terminal of tmux to run the screen in, with a shell, and what stands there."""
 import os
-import pathlib
 import shlex
 import subprocess
 import time
 
 import picture
 
-LONGEST = 60  # seconds for which a condition is waited for
+# A condition is waited for as long as .ci/tests lets a script run, less a minute in which it says what did not come.
+END = time.monotonic() + 1740
 
 
 class Failed(Exception):
     """What was waited for did not come."""
+
+
+def wait(what, terminal=None):
+    """A pause in a wait for this."""
+    if time.monotonic() > END:
+        raise Failed(f"{what} does not come" + ("; there stands:\n" + "\n".join(terminal.lines()) if terminal else ""))
+    time.sleep(0.04)
 
 
 class Terminal:
@@ -38,8 +45,17 @@ class Terminal:
     def tmux(self, *words):
         return subprocess.run(["tmux", "-S", self.socket, "-f", "/dev/null", *words], stdout=subprocess.PIPE, stderr=subprocess.PIPE, check=True, encoding="utf-8").stdout
 
+    def shown(self, *how):
+        """What stands there. A picture is put from the first row to the last, where the hidden cursor stays: it is whole then."""
+        while True:
+            at, _, text = self.tmux("display-message", "-p", "#{cursor_flag} #{cursor_y} #{pane_height}", ";", "capture-pane", "-p", *how).partition("\n")
+            flag, row, height = map(int, at.split())
+            if flag or row == height - 1:
+                return text
+            wait("a whole picture")
+
     def lines(self):
-        return [it.rstrip() for it in self.tmux("capture-pane", "-p").split("\n")[:-1]]
+        return [it.rstrip() for it in self.shown().split("\n")[:-1]]
 
     def line(self, at):
         return self.lines()[at]
@@ -51,7 +67,7 @@ class Terminal:
     def pieces(self):
         """What stands there with its look: pieces of each line."""
         found, pen = [], {}
-        for line in self.tmux("capture-pane", "-e", "-N", "-p").split("\n"):
+        for line in self.shown("-e", "-N").split("\n"):
             pieces, pen = picture.runs(line, pen)
             found.append(pieces)
         return found
@@ -71,7 +87,6 @@ class Terminal:
 
     def until(self, condition, what):
         """Waits until this holds."""
-        end = time.monotonic() + LONGEST
         while True:
             try:
                 if found := condition(self):
@@ -79,20 +94,14 @@ class Terminal:
             except (IndexError, TypeError):
                 # It is not there yet.
                 pass
-            if time.monotonic() > end:
-                raise Failed(f"{what} does not come; there stands:\n" + "\n".join(self.lines()))
-            time.sleep(0.04)
+            wait(what, self)
 
     def see(self, text):
         self.until(lambda it: it.has(text), repr(text))
 
     def ended(self):
-        """Waits for the picture of a log that has ended, and until it is whole: the same for a tenth of a second."""
+        """Waits for the picture of a log that has ended."""
         self.see("ENDED")
-        was, now = None, self.lines()
-        while now != was:
-            time.sleep(0.1)
-            was, now = now, self.lines()
 
     def state(self):
         """What a program may leave behind in a terminal."""
@@ -106,13 +115,16 @@ class Terminal:
         return self.line(0)
 
 
-def processes(text, of="[0-9]*"):
-    """The ids of the processes whose command line has this text."""
+def processes(text, room, of=None):
+    """The ids of the processes whose command line has this text, and whose environment a terminal of this room has given them; of
+    all, or of one."""
     found = []
-    for path in pathlib.Path("/proc").glob(f"{of}/cmdline"):
+    for process in map(int, [of] if of else filter(str.isdigit, os.listdir("/proc"))):
         try:
-            if text in path.read_bytes().replace(b"\0", b" ").decode("utf-8", "replace") and int(path.parts[2]) != os.getpid():
-                found.append(int(path.parts[2]))
+            words, told = (open(f"/proc/{process}/{it}", "rb").read().replace(b"\0", b" ").decode("utf-8", "replace") for it in ("cmdline", "environ"))
         except OSError:
-            pass
+            # It has ended.
+            continue
+        if text in words and f"N2K_INTERFACES={room}/" in told:
+            found.append(process)
     return found

@@ -51,19 +51,23 @@ class Frames:
     def front(self, identifier, length):
         number = int(identifier, 16)
         if len(identifier) == 8:
-            bits = [0, *(number >> place & 1 for place in range(28, 17, -1)), 1, 1, *(number >> place & 1 for place in range(17, -1, -1)), 0, 0, 0]
+            width, bits = 39, ((number >> 18 << 2 | 3) << 18 | number & 0x3FFFF) << 7 | length
         else:
-            bits = [0, *(number >> place & 1 for place in range(10, -1, -1)), 0, 0, 0]
-        bits += [length >> place & 1 for place in range(3, -1, -1)]
-        # Before the start the bus is idle, which is 1.
+            width, bits = 19, number << 7 | length
+        # Before the start the bus is idle, which is 1. What stands before a whole number of bytes is taken bit for bit.
         crc, state, count = 0, 4, 0
-        for bit in bits:
-            crc = (crc << 1 & 0x7FFF) ^ (0x4599 if (crc >> 14) ^ bit else 0)
-            more, state = stuffed(state, bit)
+        for place in range(width - 1, width // 8 * 8 - 1, -1):
+            more, state = stuffed(state, bits >> place & 1)
             count += more
+        for place in range(width // 8 * 8, -1, -8):
+            crc = (crc << 8 & 0x7FFF) ^ CRC[(crc >> 7) ^ (bits >> place & 255)]
+            if place < width // 8 * 8:
+                found = BY_8[state << 8 | bits >> place & 255]
+                state = found & 7
+                count += found >> 3
         if len(self.fronts) > 10000:
             self.fronts = {}
-        self.fronts[identifier, length] = found = crc, state, len(bits) + count + 8 * length + 15 + 13
+        self.fronts[identifier, length] = found = crc, state, width + count + 8 * length + 15 + 13
         return found
 
     def bits(self, identifier, data):

@@ -85,9 +85,9 @@ class Decoder:
     """The program that makes messages and reports of the lines."""
 
     def __init__(self, command):
-        # Ctrl-C reaches it too, and it is to sum up.
+        # Ctrl-C and Ctrl-\ reach it too, and it is to sum up.
         self.process = subprocess.Popen(command, stdin=subprocess.PIPE, stdout=subprocess.PIPE, stderr=subprocess.PIPE, bufsize=0,
-                                        preexec_fn=lambda: signal.signal(signal.SIGINT, signal.SIG_IGN))
+                                        preexec_fn=lambda: [signal.signal(it, signal.SIG_IGN) for it in (signal.SIGINT, signal.SIGQUIT)])
         self.stdin = self.process.stdin.fileno()
         os.set_blocking(self.stdin, False)
         # What it is to get, and whether it has the begin of a line without its end.
@@ -138,7 +138,9 @@ def kinds_of(command, numbers):
     two frames: the first is a whole fast packet of 6 bytes, the second can't be the first of one."""
     asked = [command[0], "decode", "--table", command[command.index("--table") + 1]]
     lines = [f"{stamp},7,{number},0,255,8,{first:02x},06,ff,ff,ff,ff,ff,ff\n" for number in numbers for stamp, first in (("first", 0), ("second", 1))]
-    said = subprocess.run(asked, input="".join(lines), stdout=subprocess.PIPE, stderr=subprocess.DEVNULL, encoding="utf-8", errors="replace").stdout
+    # Ctrl-Z would stop it too, and then it is waited for.
+    said = subprocess.run(asked, input="".join(lines), stdout=subprocess.PIPE, stderr=subprocess.DEVNULL, encoding="utf-8", errors="replace",
+                          start_new_session=True).stdout
     kinds = {}
     for line in said.splitlines():
         it = json.loads(line)

@@ -6,18 +6,23 @@ import re
 from screen import page
 from screen.bits import Frames
 
-# Above these the oldest is dropped: lines, messages that are told apart, PGNs, alarms that are over, reports.
-MOST_LINES, MOST_MESSAGES, MOST_PGNS, MOST_ALARMS, MOST_REPORTS = 1000, 5000, 2000, 200, 1000
+# Above these the oldest is dropped: lines, messages of other ships, alarms that are over, reports.
+MOST_LINES, MOST_SHIPS, MOST_ALARMS, MOST_REPORTS = 1000, 4000, 200, 1000
+# Above these what is new is left out: messages of own devices, PGNs, their senders, alarms that are set.
+MOST_OWN, MOST_PGNS, MOST_SENDERS, MOST_SET = 4000, 2000, 4000, 1000
 
 FORGOTTEN = 300  # seconds
+MINUTE = 60.0  # seconds for which something has to come at a regular rate before it can be late, and at least is late
 END = 253402300800  # the year 10000
 # A line of candump as n2kdec reads it: behind the data there may be something else, as its -x has it.
 STAMP = re.compile(rb"\(([0-9]{1,12}\.[0-9]{1,9})\)")
 CANDUMP = re.compile(STAMP.pattern + rb" +[!-~]{1,15} +([0-9A-Fa-f]{8}|[0-9A-Fa-f]{3})#((?:[0-9A-Fa-f]{2}){0,8})(?:_[0-9A-Fa-f])?(?: |\r?\Z)")
 TIMESTAMP = re.compile(rb'"timestamp": ?"([^"]*)"')
 
-THINGS = dict.fromkeys(page.THINGS).keys()
+THINGS, NO_VALUES = dict.fromkeys(page.THINGS).keys(), page.NO_VALUES
 FIRST = {pgn: place for place, pgn in enumerate(page.FIRST)}
+# What a sailor looks for, which stands before all devices: up to the engines.
+OWN_BOAT = set(page.FIRST[:page.FIRST.index(127493) + 1])
 
 
 def seconds(digits):
@@ -42,21 +47,25 @@ def stamp_of(line):
 class Often:
     """How often something comes: its last stamps."""
 
-    def __init__(self):
-        self.count, self.longest, self.stamps = 0, 0.0, collections.deque(maxlen=32)
+    def __init__(self, most=12):
+        self.count, self.longest, self.stamps = 0, 0.0, collections.deque(maxlen=most)
+        # Since when it comes, how many had come when a key said that it is known to be late, and when its rate was judged.
+        self.since, self.known, self.judged, self.regular = 0.0, 0, 0, False
 
     def add(self, at):
         stamps = self.stamps
         self.count += 1
-        if stamps:
-            gap = at - stamps[-1]
-            if -1 < gap < 3600:
-                # The longest gap of late: it is half as long after some 200 seconds.
-                longest = self.longest * (1 - gap / FORGOTTEN) if gap < FORGOTTEN else 0.0
-                self.longest = gap if gap > longest else longest
-            else:
-                # The clock was set.
-                stamps.clear()
+        gap = at - stamps[-1] if stamps else -1
+        if -1 < gap <= MINUTE or MINUTE < gap <= 10 * self.longest:
+            # The longest gap of late: it is half as long after some 200 seconds.
+            longest = self.longest * (1 - gap / FORGOTTEN) if gap < FORGOTTEN else 0.0
+            self.longest = gap if gap > longest else longest
+        else:
+            # It was gone, or the clock was set. What comes seldom has a rate by its last two.
+            self.since, self.longest, last = at, 0.0, at - gap
+            stamps.clear()
+            if 0 < gap < 3600:
+                stamps.append(last)
         stamps.append(at)
 
     def copy(self):
@@ -68,10 +77,23 @@ class Often:
     def last(self):
         return self.stamps[-1]
 
-    def late(self, now):
-        """The seconds since it came, where that is more than twice as long as it mostly takes, else 0."""
+    def is_regular(self):
+        """Whether it came at a regular rate for a minute: of its last gaps none is five times as long as they mostly are."""
+        if self.judged != self.count:
+            stamps = [at for at in self.stamps if at >= self.since]
+            gaps = [after - before for before, after in zip(stamps, stamps[1:])]
+            self.judged, self.regular = self.count, self.last - self.since >= MINUTE and len(gaps) > 2 and max(gaps) < 5 * sum(gaps) / len(gaps)
+        return self.regular
+
+    def silent(self, now):
+        """The seconds since it came, where it came at a regular rate and now does not for more than twice its longest gap, else 0."""
         age = now - self.stamps[-1]
-        return age if len(self.stamps) > 3 and age > 2 * self.longest + 1 else 0
+        return age if age > 2 * self.longest + 1 and self.is_regular() else 0
+
+    def late(self, now):
+        """The same, until it lapses: after ten times its longest gap, and a minute at least, or by a key."""
+        age, longest = now - self.stamps[-1], self.longest
+        return age if 2 * longest + 1 < age <= max(MINUTE, 10 * longest) and self.known != self.count and self.is_regular() else 0
 
     def each_second(self, now):
         """How often it comes in a second."""
@@ -116,12 +138,16 @@ class Stream(Often):
     """How often something comes that is many messages: where it comes often, as it was counted of late."""
 
     def __init__(self):
-        super().__init__()
+        super().__init__(32)
         self.meter = Meter()
 
     def add(self, at):
-        super().add(at)
-        self.meter.add(at, 1)
+        Often.add(self, at)
+        meter = self.meter
+        if meter.place == int(at * 2):
+            meter.amount += 1
+        else:
+            meter.add(at, 1)
 
     def copy(self):
         it = super().copy()
@@ -144,7 +170,10 @@ class Message(Often):
         self.fields = {}
         # Own boat first, then other ships, then the bus itself and settings. Of a device what the page has first.
         self.part = 1 if self.pgn in page.AIS else 2 if self.pgn in page.BUS else 0
-        self.order = (self.part, self.sender, page.is_maker(self.pgn), FIRST.get(self.pgn, len(FIRST)), self.pgn, self.description, self.thing)
+        first = FIRST.get(self.pgn, len(FIRST))
+        # Under which title it stands: a part and a device, or that of the own boat.
+        self.title_of = (-1, 0) if self.pgn in OWN_BOAT else (self.part, self.sender)
+        self.order = (*self.title_of, *((first, self.sender) if self.pgn in OWN_BOAT else (page.is_maker(self.pgn), first)), self.pgn, self.description, self.thing)
         self.title = self.description + (f" ({self.thing})" if self.thing else "")
 
     def copy(self):
@@ -153,11 +182,14 @@ class Message(Often):
         return it
 
     def shown(self, name):
-        """A field's value as sailors read it."""
-        value = self.fields[name][0]
+        """A field's value as sailors read it; of a field in a set its list, place and name."""
+        value, units = self.fields[name if type(name) is str else name[0]][0], self.units
+        if type(name) is not str:
+            of, place, name = name
+            value, units = value[place].get(name) if value and place < len(value) else None, units.get(of)
         if value is None:
             return "–"
-        unit = self.units.get(name)
+        unit = units.get(name) if isinstance(units, dict) else None
         air = "Atmospheric" in self.thing or any("Atmospheric" in it for it in self.fields)
         return page.shown(name, value, unit if isinstance(unit, str) else None, page.KNOT, air)
 
@@ -170,12 +202,12 @@ class Pgn(Stream):
     def __init__(self):
         super().__init__()
         self.kind, self.length, self.total, self.sender, self.description = None, None, None, None, ""
-        # Its frames, as long as it may be one that is unknown, and who sent the last one.
-        self.frames, self.of = Stream(), None
+        # Its frames, as long as it may be one that is unknown, and who sent the last one; and the last bytes of each sender.
+        self.frames, self.of, self.senders = Stream(), None, {}
 
     def copy(self):
         it = super().copy()
-        it.frames = self.frames.copy()
+        it.frames, it.senders = self.frames.copy(), dict(self.senders)
         return it
 
     @property
@@ -184,7 +216,7 @@ class Pgn(Stream):
 
 
 def alert(fields):
-    told = f"{fields.get('Alert Type', 'Alert')} {fields.get('Alert ID', '')}"
+    told = page.alert(fields)
     yield told, told, fields.get("Alert State") in page.STATES
 
 
@@ -211,6 +243,10 @@ class Bus:
         self.units, self.is_whole = units, is_whole
         self.messages, self.devices, self.pgns = {}, {}, {}
         self.products, self.claims = {}, {}
+        # How many messages are of other ships, and of each own device; what was left out: "ships", "own".
+        self.ships, self.own, self.left_out = 0, collections.Counter(), set()
+        self.texts, self.installed = {}, {}  # of alerts by sender and name, of devices by sender
+        self.senders = 0  # of all PGNs
         # Lines, the last of them, and what was reported of some; by number.
         self.lines, self.ring, self.reports = 0, collections.deque(maxlen=MOST_LINES), collections.OrderedDict()
         self.bad = self.broken = 0
@@ -228,10 +264,17 @@ class Bus:
         for name in ("messages", "devices", "pgns"):
             setattr(it, name, {key: one.copy() for key, one in getattr(self, name).items()})
         it.set = {where: dict(flags) for where, flags in self.set.items()}
-        it.products, it.claims, it.reports = dict(self.products), dict(self.claims), dict(self.reports)
+        it.products, it.claims, it.reports, it.left_out = dict(self.products), dict(self.claims), dict(self.reports), set(self.left_out)
+        it.texts, it.installed = dict(self.texts), dict(self.installed)
         it.ring, it.over = list(self.ring), list(self.over)
         it.bits, it.each_second = copy.deepcopy(self.bits), copy.deepcopy(self.each_second)
         return it
+
+    def acknowledge(self, now):
+        """What is late now is known to be."""
+        for it in (*self.messages.values(), *self.devices.values()):
+            if it.late(now):
+                it.known = it.count
 
     # -- Lines of the log.
 
@@ -301,7 +344,7 @@ class Bus:
         else:
             bits = self.frames.bits(identifier, data)
         self.bits.add(at, bits)
-        self.frame(pgn, sender, at, b"" if length > 8 or self.is_whole else data)
+        self.frame(pgn, sender, at, data, length > 8 or self.is_whole)
 
     def pgn(self, number):
         found = self.pgns.get(number)
@@ -311,11 +354,20 @@ class Bus:
                 self.pgns[number] = found
                 self.new.append(number)
                 self.version += 1
+            else:
+                self.left_out.add("own")
         return found
 
-    def frame(self, number, sender, at, data):
+    def frame(self, number, sender, at, data, is_whole=False):
         one = self.pgns.get(number) or self.pgn(number)
-        if data:
+        if sender in one.senders:
+            one.senders[sender] = data
+        elif self.senders < MOST_SENDERS and number in self.pgns:
+            self.senders += 1
+            one.senders[sender] = data
+        else:
+            self.left_out.add("own")
+        if data and not is_whole:
             one.length = len(data)
             if not data[0] & 31 and len(data) > 1:
                 one.total = data[1]
@@ -350,16 +402,17 @@ class Bus:
             return
         if at is None:
             at = self.at or 0.0
-        thing = ", ".join(str(fields[name]) for name in page.THINGS if name in things and fields[name] is not None) if things else ""
+        if len(things) == 1:
+            (name,) = things
+            thing = str(fields[name]) if fields[name] is not None else ""
+        else:
+            thing = ", ".join(str(fields[name]) for name in page.THINGS if name in things and fields[name] is not None) if things else ""
         key = sender, pgn, description, thing
         message = self.messages.get(key)
         if message is None:
-            message = self.messages[key] = Message(key, self.units)
-            self.version += 1
+            message = self.enter(Message(key, self.units), key)
         message.add(at)
         self.told = at
-        if len(self.messages) > MOST_MESSAGES:
-            self.drop()
         device = self.devices.get(sender)
         if device is None:
             device = self.devices[sender] = Stream()
@@ -372,7 +425,7 @@ class Bus:
 
         had, count = message.fields, 0
         for name, value in fields.items():
-            if name in page.NO_VALUES:
+            if name in NO_VALUES:
                 continue
             count += 1
             was = had.get(name)
@@ -391,17 +444,41 @@ class Bus:
         if pgn in ALARMS:
             for name, flag, is_set in ALARMS[pgn](fields):
                 self.flags(at, key, name, [flag] if is_set else [])
-        elif pgn in (126996, 60928):
-            told = self.products if pgn == 126996 else self.claims
+        elif pgn == 126985:
+            page.keep_text(self.texts, sender, fields)
+        elif pgn in (126996, 60928, 126998):
+            told = self.products if pgn == 126996 else self.claims if pgn == 60928 else self.installed
             if told.get(sender) != fields:
                 told[sender] = fields
                 self.version += 1
 
-    def drop(self):
-        """Forgets the tenth that is oldest."""
-        for key in sorted(self.messages, key=lambda key: self.messages[key].last)[:MOST_MESSAGES // 10]:
-            del self.messages[key]
-        self.set = {where: flags for where, flags in self.set.items() if where[0] in self.messages}
+    def enter(self, message, key):
+        """Keeps a new message, where there is a place. Other ships give way to newer ones. Of own devices none is forgotten, but
+        where made-up ones take all places, the device that has most of them gets no more: its newest without an alarm goes for another's."""
+        if message.part == 1:
+            self.ships += 1
+            if self.ships > MOST_SHIPS:
+                self.left_out.add("ships")
+                old = sorted((it.last, at) for at, it in self.messages.items() if it.part == 1)[:MOST_SHIPS // 10]
+                self.ships -= len(old)
+                for _, at in old:
+                    del self.messages[at]
+        else:
+            if len(self.messages) - self.ships >= MOST_OWN:
+                self.left_out.add("own")
+                most = max(self.own, key=self.own.get)
+                has_alarm = {at for at, _ in self.set}
+                # Two more, else places would go round among equals.
+                free = self.own[most] > self.own[key[0]] + 1 and next((at for at in reversed(self.messages) if at[0] == most and at not in has_alarm and
+                                                                       self.messages[at].part != 1), None)
+                if not free:
+                    return message
+                del self.messages[free]
+                self.own[most] -= 1
+            self.own[key[0]] += 1
+        self.messages[key] = message
+        self.version += 1
+        return message
 
     def flags(self, at, key, name, now):
         """Which flags of a field are set now."""
@@ -410,14 +487,20 @@ class Bus:
         for flag in [flag for flag in was if flag not in now]:
             self.over.append((was.pop(flag), at, flag, key, name))
         for flag in now:
-            was.setdefault(flag, at)
+            if len(self.set) <= MOST_SET:
+                was.setdefault(flag, at)
+            else:
+                self.left_out.add("own")
         if not was:
             del self.set[key, name]
 
     def device(self, sender):
-        """What a device is called: maker and model, as far as it has told them."""
-        product, claim = self.products.get(sender, {}), self.claims.get(sender, {})
-        return " ".join(str(it) for it in (claim.get("Manufacturer Code"), product.get("Model ID")) if it is not None)
+        """What a device is called: maker, model and installation, as far as it has told them."""
+        told = self.claims.get(sender, {}).get("Manufacturer Code"), self.model(sender)
+        return " ".join(str(it) for it in told if it is not None)
+
+    def model(self, sender):
+        return page.model(self.products.get(sender, {}), self.installed.get(sender, {}))
 
     # -- Reports.
 

@@ -13,6 +13,13 @@ def seconds_of(value):
     return f"{value:.0f} s" if value < 10000 else f"{value / 3600:.0f} h"
 
 
+def age_of(often, now):
+    """Of what is late how long, and once that lapsed since when, with a style; or None."""
+    if late := often.late(now):
+        return seconds_of(late), "alarm"
+    return (f"since {page.clock(often.last, '%H:%M')}", "dim") if often.silent(now) else None
+
+
 def rate_of(often, now):
     """How often something comes, in words: so often a second, or each so many seconds."""
     value = often.each_second(now)
@@ -33,7 +40,8 @@ class View:
     nothing = "Nothing has come yet."
 
     def __init__(self):
-        self.top = 0
+        # The first row that is shown, and whether a key has opened what is folded: the sets of lists, the senders of a PGN.
+        self.top, self.is_open = 0, False
 
     def head(self, width):
         """What stands above the rows, or None."""
@@ -72,14 +80,14 @@ class Values(View):
 
     def rows(self, bus, now, width, words):
         # Which rows there are changes seldom, unless values are filtered; where it takes long, it is looked at less often.
-        known, began = (bus, words, width < NARROW), time.monotonic()
-        if known != self.known or (words or bus.version != self.version) and began > self.again:
-            self.known, self.version, self.list = known, bus.version, self.made(bus, width < NARROW, words)
+        known, began = (bus, words, width < NARROW, self.is_open), time.monotonic()
+        if known != self.known or (words or self.is_open or bus.version != self.version) and began > self.again:
+            self.known, self.version, self.list = known, bus.version, self.made(bus, width < NARROW, words, self.is_open)
             self.again = began + 20 * (time.monotonic() - began)
         return self.list
 
     @staticmethod
-    def made(bus, is_narrow, words):
+    def made(bus, is_narrow, words, is_open):
         rows, before = [], None
         for message in sorted(bus.messages.values(), key=lambda it: it.order):
             names = list(message.fields)
@@ -89,12 +97,16 @@ class Values(View):
                     names = [name for name in names if fits(f"{label}{name} {message.shown(name)}", words)]
             if not names:
                 continue
-            if (message.part, message.sender) != before:
-                before = message.part, message.sender
+            if message.title_of != before:
+                before = message.title_of
                 rows.append((None, before))
             if is_narrow:
                 rows.append((message, None))
-            rows += [(message, name) for name in names]
+            for name in names:
+                rows.append((message, name))
+                value = message.fields[name][0]
+                if is_open and type(value) is list and page.is_sets(value):
+                    rows += [(message, (name, place, field)) for place, one in enumerate(value) for field in one]
         return rows
 
     def pieces(self, bus, now, fresh, width, height, words):
@@ -105,7 +117,7 @@ class Values(View):
             message, name = rows[at]
             if not shown and message:
                 # The device of what stands on top.
-                shown.append(self.device(bus, now, width, message.part, message.sender))
+                shown.append(self.device(bus, now, width, *message.title_of))
             elif not message:
                 shown.append(self.device(bus, now, width, *name))
             else:
@@ -117,6 +129,8 @@ class Values(View):
 
     @staticmethod
     def device(bus, now, width, part, sender):
+        if part < 0:
+            return [(0, "Own boat", "title")]
         told, rate = bus.device(sender), rate_of(bus.devices[sender], now)
         title = f"Device {sender}{f': {told}' if told else ''}{('', ', other ships', ', bus and settings')[part]}"
         return [(0, title, "title"), (width - 1 - len(rate), rate, "dim")]
@@ -124,16 +138,21 @@ class Values(View):
     @staticmethod
     def value(bus, now, fresh, width, message, name, nth, is_last):
         """A row of a message, of those that are shown the nth."""
-        late = message.late(now) if nth == 0 else 0
-        age = [(width - 1 - len(seconds_of(late)), seconds_of(late), "alarm")] if late else []
+        age = [(width - 1 - len(text), text, style) for text, style in [age_of(message, now)]] if nth == 0 and message.silent(now) else []
+        # Of the own boat each message says who sends it.
+        front = f"{message.sender:3} " if message.title_of[0] < 0 else ""
         if name is None:
-            return [(1, message.title, "plain"), *age]
-        value, since = message.fields[name]
-        style = "dim" if value is None else "fresh" if -1 < now - since < fresh else "plain"
+            return [(1, front + message.title, "plain"), *age]
+        value, since = message.fields[name if type(name) is str else name[0]]
+        text = message.shown(name)
+        if type(name) is not str:
+            name = f"  {name[1] + 1} {name[2]}"
+        style = "dim" if value is None or message.silent(now) and not message.late(now) else "fresh" if -1 < now - since < fresh else "plain"
         if width < NARROW:
-            return [(2, name, "dim"), (2 + (width - 2) // 2, message.shown(name), style)]
+            # A value has room for all its signs.
+            return [(2, name, "dim"), (max(4, min(2 + (width - 2) // 2, width - len(text))), text, style)]
         first, second = 1 + int(width * 0.4), 1 + int(width * 0.69)
-        title, room = message.title if nth == 0 else "", first - 2
+        title, room = message.title if nth == 0 else "", first - 2 - len(front)
         if message.thing and len(message.title) > room:
             # What it speaks of tells it apart from others: that stands in the second row, where there is one.
             thing = f"({message.thing})"
@@ -141,7 +160,9 @@ class Values(View):
                 title = message.description if not is_last else f"{cut(message.description, room - 1 - min(len(thing), 20))} {thing}"
             elif nth == 1:
                 title = thing
-        return [(1, title, "plain"), (first, name, "dim"), (second, message.shown(name), style), *age]
+        if title:
+            title = (front if nth == 0 else " " * len(front)) + title
+        return [(1, title, "plain"), (first, name, "dim"), (second, text, style), *age]
 
 
 class Devices(View):
@@ -159,14 +180,13 @@ class Devices(View):
         rows = []
         for sender in sorted(bus.devices):
             product, claim = bus.products.get(sender, {}), bus.claims.get(sender, {})
-            told = [claim.get("Manufacturer Code"), product.get("Model ID"), product.get("Model Serial Code"), product.get("Software Version Code"),
+            told = [claim.get("Manufacturer Code"), bus.model(sender), product.get("Model Serial Code"), product.get("Software Version Code"),
                     claim.get("Device Class")]
             maker, model, serial, software, kind = ("–" if it is None else str(it) for it in told)
             if words and not fits(f"{sender} {maker} {model} {serial} {software} {kind}", words):
                 continue
-            rate, late = rate_of(bus.devices[sender], now), bus.devices[sender].late(now)
-            style = "alarm" if late else "plain"
-            rate = f"{seconds_of(late)} ago" if late else rate
+            rate, style = age_of(bus.devices[sender], now) or (rate_of(bus.devices[sender], now), "plain")
+            rate += " ago" if style == "alarm" else ""
             if width < NARROW:
                 rows.append([(0, f"{sender:3}", "title"), (5, model, "plain"), (width - 1 - len(rate), rate, style)])
                 rows.append([(5, maker, "dim"), (width - 1 - len(serial), serial, "dim")])
@@ -204,6 +224,10 @@ class Pgns(View):
                 rows.append([(2, name, style), (width - 1 - len(sender) - 5, f"from {sender}", "dim")])
             else:
                 rows.append([*front, (37 - len(size), size, "plain"), (39, sender, "plain"), (48, name, style)])
+            for of, data in sorted(one.senders.items()) if self.is_open else ():
+                # The last bytes of each sender; where they leave room, its name.
+                told = [(48, bus.device(of), "dim")] if width >= NARROW and len(data) < 13 else []
+                rows.append([(2, f"{of:3}", "dim"), (8, data.hex(" ").upper() or "–", "plain"), *told])
         return rows
 
 
@@ -222,18 +246,21 @@ class Alarms(View):
         rows = []
         for since, until, flag, (sender, _, description, thing, *_), name in found:
             of = f"from {sender}: " + ", ".join(it for it in (description, thing, name) if it and it != flag)
+            flag = page.with_text(bus.texts, sender, flag)
             if words and not fits(f"{flag} {of} {bus.device(sender)}", words):
                 continue
             if until is None:
                 rows += self.entry(width, flag, "alarm", of, f"since {page.when(since, since, now)}", "")
             else:
                 rows += self.entry(width, flag, "plain", of, page.when(since, since, now), f"to {page.when(until, since, now)}")
-        late = [(it.order, it, it.late(now)) for it in bus.messages.values() if not it.part and it.late(now)]
-        for _, message, age in sorted(late, key=lambda it: it[0]):
+        # What is late, then what was.
+        silent = [(not it.late(now), it.order, it) for it in bus.messages.values() if not it.part and it.silent(now)]
+        for has_lapsed, _, message in sorted(silent, key=lambda it: it[:2]):
             of = f"from {message.sender}: {message.title}"
             if not words or fits(f"late {of} {bus.device(message.sender)}", words):
-                what = f"nothing for {seconds_of(age)}, before {rate_of(message, message.last)}"
-                rows += self.entry(width, what, "alarm", of, f"last {page.when(message.last, message.last, now)}", "")
+                age, style = age_of(message, now)
+                what = f"nothing {'' if has_lapsed else 'for '}{age}, before {rate_of(message, message.last)}"
+                rows += self.entry(width, what, style, of, f"last {page.when(message.last, message.last, now)}", "")
         return rows
 
     @staticmethod
@@ -302,11 +329,16 @@ KEYS = [
     ("1 v", "values, by device and message"), ("2 d", "devices"), ("3 g", "PGNs"), ("4 a", "alarms, and what is late"), ("5 r", "lines as they come"),
     ("Tab, right, left", "the next view, or the one before"), ("up, down", "a row"), ("Page Up, Page Down", "a page"), ("Home, End", "the first rows, the last ones"),
     ("/", "only rows with all words that follow; Esc: all rows"), ("p, Space", "hold the picture, and a log that is played; again: go on"),
+    ("o", "open or close: in values the sets of lists, in PGNs each sender with the bytes of its last frame"),
+    ("k", "what is late now is known: it is grey, and no more counted"),
     ("?", "this page, and back"), ("q", "end, as Ctrl-C does")]
 MEANINGS = [
-    "Values: a new value is set off for a second. Where a message is late by its own rate, its age stands there; a field that the last message lacks is –.",
+    "Values: what one looks for on board stands first, by who sends it; then the devices. A new value is set off for a second; a field that the last message lacks is –.",
+    "Late: a message that came at a regular rate for a minute, and now does not for more than twice its longest gap; its age stands there. After ten "
+    "times that gap, and a minute at least, it is grey, with the time since when.",
     "Load: the bits of the frames, with their stuff bits, of the 250,000 a second that the bus has.",
-    "Unknown: frames whose PGN is not in the table."]
+    "Unknown: frames whose PGN is not in the table.",
+    "Left out: of more than 4,000 messages of other ships the oldest go; of more than 4,000 of own devices the new ones of those that send most."]
 
 
 class Help(View):
