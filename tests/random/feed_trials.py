@@ -10,7 +10,8 @@ the end each point of the files, and each row, is there once, and besides only t
 influx1 and influx2 are servers made up here of the two interfaces of InfluxDB, which also refuse for now, break off before
 and after they have taken points, and take no large batch. influxd is the real one, of the 1.x that is on the PATH. With ended
 no folder grows by chance: feed is told to end while the server has a request and hasn't answered, in the middle of a stamp.
-The last line is `N faults`, after a line for each. Status 77 says that the trial can't be made here, and why.
+What is wanted is waited for until it comes, and whoever calls this sets the time. The last line is `N faults`, after a line for
+each. Status 77 says that the trial can't be made here, and why.
 """
 import http.server
 import json
@@ -148,13 +149,13 @@ bind-address = "127.0.0.1:{free_port()}"
 
     def ask(self, query):
         url = f"http://127.0.0.1:{self.port}/query?{urllib.parse.urlencode({'db': 'boat', 'q': query, 'epoch': 'ns'})}"
-        for _ in range(600):
+        while self.running.poll() is None:
             try:
-                with urllib.request.urlopen(url, timeout=60) as answer:
+                with urllib.request.urlopen(url) as answer:
                     return json.load(answer)["results"][0].get("series", [])
             except OSError:
                 time.sleep(0.1)
-        raise TimeoutError("influxd does not answer")
+        raise ChildProcessError("influxd has ended")
 
     def has(self):
         """How many points there are of each measurement."""
@@ -174,7 +175,7 @@ class Base:
             self.other = None
 
     def stop(self):
-        self.other = sqlite3.connect(self.file, timeout=30, isolation_level=None)
+        self.other = sqlite3.connect(self.file, timeout=3600, isolation_level=None)
         self.other.execute("BEGIN IMMEDIATE")
 
     def words(self, _):
@@ -266,7 +267,11 @@ class Folder:
 
 
 def converted(task, text):
-    return subprocess.run([CONVERT, task], input=text, capture_output=True, check=True).stdout.decode()
+    ran = subprocess.run([CONVERT, task], input=text, capture_output=True, check=False)
+    # Lines that were cut are no messages, which is status 1.
+    if ran.returncode > 1:
+        raise subprocess.SubprocessError(ran.stderr.decode())
+    return ran.stdout.decode()
 
 
 def rows_of(text):
@@ -322,7 +327,7 @@ def trial(name, room, chance):
     time.sleep(1)
     feed.terminate()
     feed.wait()
-    if subprocess.run([*command, "--once"], env=environment, stderr=said, timeout=120, check=False).returncode:
+    if subprocess.run([*command, "--once"], env=environment, stderr=said, check=False).returncode > 1:
         yield f"it fails: {open(f'{room}/said', encoding='utf-8').read()}"
     texts = folder.text()
     has = server.has()
@@ -392,14 +397,12 @@ def ended(_, room, __):
     with open(file, "w", encoding="utf-8", buffering=1) as folder:
         folder.write(lines[0])
         server.feed = subprocess.Popen(command, stderr=subprocess.DEVNULL)
-        for _ in range(200):
-            if server.has():
-                break
+        while not server.has() and server.feed.poll() is None:
             time.sleep(0.05)
         folder.write(lines[1])
-        server.feed.wait(20)
+        server.feed.wait()
         folder.write(lines[2])
-    subprocess.run([*command, "--once"], check=True, timeout=60, stderr=subprocess.DEVNULL)
+    subprocess.run([*command, "--once"], check=True, stderr=subprocess.DEVNULL)
     server.stop()
     has = sorted((int(stamp), fields) for (_, stamp), fields in server.has().items())
     if has != [(1751608800000000000 + it, f"dst=255,Depth={it}") for it in range(3)]:

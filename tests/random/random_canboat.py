@@ -3,9 +3,10 @@
 
     tests/random/random_canboat.py PROGRAM FIRST LAST
 
-One file for each seed from FIRST to LAST. Each table has to read without a fault, by table_faults.py and by PROGRAM,
-and its text has to read back as the table that it was made of. Of each file two damaged copies are converted too: each gets an error in words, or a table without a
-fault. The last line is `N tables, M of damaged files, K faults` (Python 3.11 or newer).
+One file for each seed from FIRST to LAST. Each table has to read without a fault, by table_rules.py and by PROGRAM,
+and its text has to read back as the table that it was made of. Of each file two damaged copies are converted too: each gives a
+table without a fault, and an error in words only where the file's own members are not there. The last line is
+`N tables, M of damaged files, K faults` (Python 3.9 or newer).
 """
 import copy
 import json
@@ -14,12 +15,10 @@ import random
 import subprocess
 import sys
 import tempfile
-import tomllib
-
-import table_faults
 
 sys.path.insert(0, os.path.join(os.path.dirname(os.path.abspath(__file__)), "..", "..", "tools"))
 import from_canboat
+import table_rules
 
 KINDS = ["NUMBER"] * 40 + ["LOOKUP"] * 16 + ["RESERVED"] * 8 + sorted(from_canboat.KNOWN)
 SIZES = [1, 2, 3, 4, 5, 6, 7, 11, 12, 19, 21, 30, 33, 40, 63, 65, 72, 288, 800, 1784, 1785, 5000]
@@ -54,7 +53,7 @@ def field(rng, at, lookups):
     kind = rng.choice(KINDS)
     bits = size(rng, kind)
     made = {"Name": text(rng), "FieldType": kind, "Signed": rng.random() < 0.3}
-    varies = rng.random() < 0.01 or kind in from_canboat.VARYING
+    varies = rng.random() < 0.01 or kind in from_canboat.VARYING or kind in from_canboat.STRINGS
     if varies:
         made["BitLengthVariable"] = True
     if not varies or rng.random() < 0.2:
@@ -64,13 +63,13 @@ def field(rng, at, lookups):
     if rng.random() < 0.7:
         made["Resolution"] = rng.choice(NUMBERS)
     if rng.random() < 0.02:
-        made["Offset"] = rng.choice(NUMBERS)
+        made["Offset"] = rng.choice([*NUMBERS, -2000000000, 500, 2**32, -2**32 - 1, 0.5])
     if rng.random() < 0.3:
         made["Unit"] = rng.choice(UNITS)
     if rng.random() < 0.005:
         made["Condition"] = "PGNIsProprietary"
-    if kind == "LOOKUP":
-        made["LookupEnumeration"] = rng.choice(lookups)["Name"]
+    if kind in from_canboat.NAMED:
+        made[from_canboat.NAMED[kind]] = rng.choice(lookups)["Name"]
     if rng.random() < 0.08:
         made["Match"] = match(rng, bits)
     return made, None if at is None or varies else at + bits
@@ -108,16 +107,17 @@ def lookup(rng, name):
     if rng.random() < 0.01:
         values = range(rng.choice([4096, 4097]))
     names = ["Unavailable", "Not available", "Unknown", "Null", "On", "Off"]
-    entries = [{"Name": rng.choice(names) if rng.random() < 0.7 else text(rng), "Value": value} for value in values]
-    return {"Name": name, "MaxValue": 3, "EnumValues": entries}
+    entries = [{"Name": rng.choice(names) if rng.random() < 0.7 else text(rng), "Value": value, "Bit": value, "Value1": value,
+                "Value2": 1} for value in values]
+    return {"Name": name, "MaxValue": 3, "EnumValues": entries, "EnumBitValues": entries}
 
 
 def database(rng):
     """What a file of canboat's form holds."""
     names = sorted({text(rng) for _ in range(rng.randint(1, 12))})
     lookups = [lookup(rng, name) for name in names]
-    return {"Version": "5.0.0", "License": text(rng), "LookupEnumerations": lookups,
-            "PGNs": [message(rng, lookups) for _ in range(rng.randint(0, 20))]}
+    return {"Version": "5.0.0", "License": text(rng), "LookupEnumerations": lookups, "LookupBitEnumerations": lookups[1:],
+            "LookupIndirectEnumerations": lookups[2:], "PGNs": [message(rng, lookups) for _ in range(rng.randint(0, 20))]}
 
 
 def damage(rng, value):
@@ -149,13 +149,13 @@ class Judge:
         return f"status {done.returncode}: {done.stderr}"
 
     def table(self, name, made):
-        """Tells each fault of a table."""
-        faults = sorted(table_faults.faults(made.encode()))
+        """Tells each fault of a table, and answers what it has."""
+        read, _, faults = table_rules.judged(made.encode())
         with open(self.path, "w", encoding="utf-8", newline="") as file:
             file.write(made)
-        faults += filter(None, [self.program_says()])
-        for fault in faults:
+        for fault in [*faults, *filter(None, [self.program_says()])]:
             self.fault(name, fault)
+        return read
 
     def fault(self, name, fault):
         self.faults += 1
@@ -165,23 +165,13 @@ class Judge:
 def convert(text):
     value = from_canboat.parse(text)
     table = from_canboat.table_of(value)
-    return table, from_canboat.table_text(value, table)
+    return table, from_canboat.table_as_text(value, table)
 
 
-def is_same(table, made):
-    """Whether the text reads back as the table that it was made of."""
-    def bare(fields):
-        return [{key: value for key, value in field.items() if key != "unit"} for field in fields]
-
-    messages = []
-    for message in table.messages():
-        messages.append({"number": message.number, "kind": message.kind, "description": message.description,
-                         "fields": bare(message.fields)})
-        if message.repeat:
-            messages[-1]["repeat"] = message.repeat | {"fields": bare(message.repeat["fields"])}
-    read = tomllib.loads(made)
+def is_same(table, read):
+    """Whether the text was read back as the table that it was made of."""
     lookups = {lookup["name"]: dict(lookup["entries"]) for lookup in read.get("lookup", [])}
-    return lookups == table.lookups and messages == read.get("pgn", [])
+    return lookups == table.lookups and [message.definition for message in table.messages()] == read.get("pgn", [])
 
 
 def main(program, first, last):
@@ -193,13 +183,15 @@ def main(program, first, last):
             value = database(rng)
             table, made = convert(json.dumps(value))
             tables += 1
-            judge.table(f"seed {seed}", made)
-            if not is_same(table, made):
+            if not is_same(table, judge.table(f"seed {seed}", made)):
                 judge.fault(f"seed {seed}", "the text is another table")
             for part in range(2):
+                copied = damage(rng, value)
                 try:
-                    _, made = convert(json.dumps(damage(rng, value)))
-                except from_canboat.BadInput:
+                    _, made = convert(json.dumps(copied))
+                except from_canboat.BadInput as error:
+                    if isinstance(copied.get("PGNs"), list) and "LookupEnumerations" in copied and "hold" not in str(error):
+                        judge.fault(f"seed {seed}, damaged {part}", error)
                     continue
                 damaged += 1
                 judge.table(f"seed {seed}, damaged {part}", made)

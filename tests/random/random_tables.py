@@ -143,7 +143,7 @@ def part_of_n2k(rng, whole):
              for field in definition["fields"] + definition.get("repeat", {"fields": []})["fields"] if "lookup" in field}
     lookups = [{"name": lookup["name"], "entries": copy.deepcopy(lookup["entries"][:rng.choice([2, 5, 20])])}
                for lookup in whole["lookup"] if lookup["name"] in named]
-    return {"format": rng.choice([2, 3]), "pgn": definitions, "lookup": lookups}
+    return {"format": whole["format"], "pgn": definitions, "lookup": lookups}
 
 
 def places(tree, path=()):

@@ -1,7 +1,7 @@
 //! Examples of `n2k_join`.
 use super::message_in;
 use crate::samples::{sample as sample_table, spelled};
-use n2k_join::{Counts, Join, Splitter, StateFault, Stream, Window};
+use n2k_join::{Counts, Join, Splitter, StateFault, Stream, Window, message_of};
 use n2k_wire::{BadCause, Packing, read_line, split_id};
 use std::alloc::Global;
 use std::test::Fail;
@@ -89,7 +89,7 @@ fn messages_lent(rt: HostRuntime) -> Result<(), Fail> {
     let mut entry = read_line("(1.0) can0 09F8027F#0500".as_bytes(), Packing::Frames);
     let step = join.lend(&table, &mut entry)?;
     assert_eq!(rt; step.line, 1);
-    let message = step.message.ok_or("a message")?;
+    let message = message_of(step.message, &entry).ok_or("a message")?;
     assert_eq!(rt; message.packet.id().pgn, 129026);
     Ok(())
 }
