@@ -6,15 +6,15 @@ use Rattle.std.specs.Result.{result_unwrap_or}
 use Rattle.std.proofs.lemmas.Bool.{false≢true}
 use Rattle.clap.specs.Words.{Text}
 use Rattle.n2k_run.specs.Device.{HasFailed}
-use Rattle.n2kdec.specs.Asked.{asked, save_name}
+use Rattle.n2kdec.specs.Asked.{save_name}
 use Rattle.n2kdec.specs.Commands.{Kept, Performs, Place, shelf}
-use Rattle.n2kdec.specs.Machine.{AddsCalls, AddsFailures, AsksFor, DoesAsked, DoesTyped, FileUse, HasCalled, Hints, IsPerformed, IsPerformedOver, IsReadable, IsStateAdmitted, IsStateRefused, IsUnopened, IsUnread, IsUnreadFile, LogAfter, Opens, Outside, IsSentenceOf, IsTerminal, RunsCommand, RunsTyped, StandsBefore, World, WritesFault, all_files, files_before, files_before_log, files_with, if_named, table_bytes, with_log}
+use Rattle.n2kdec.specs.Machine.{AddsCalls, AddsFailures, DoesAsked, FileUse, HasCalled, Hints, IsPerformed, IsPerformedOver, IsReadable, IsStateAdmitted, IsStateRefused, IsUnopened, IsUnread, IsUnreadFile, LogAfter, Opens, Outside, IsTerminal, IsToldOf, RunsCommand, RunsRequest, StandsBefore, World, WritesFault, all_files, files_before, files_before_log, files_with, if_named, table_bytes, with_log}
 use Rattle.n2kdec.specs.Fault.{status_of}
 use Rattle.n2kdec.specs.Found.{Finds, noted}
-use Rattle.n2kdec.specs.Parser.{Shown}
 use Rattle.n2kdec.specs.declared.asked.Request.{Request}
 use Rattle.n2kdec.specs.declared.asked.Command.{Command}
 use Rattle.n2kdec.specs.declared.asked.Files.{Files}
+use Rattle.n2kdec.specs.declared.asked.Task.{Task}
 use Rattle.n2kdec.specs.declared.ending.Ending.{Ending}
 use Rattle.n2kdec.specs.declared.fault.Fault.{Fault}
 use Rattle.n2kdec.specs.declared.fault.Fault.TheVariants.{TableSize, TableFile, StateSize, StateFile, Read, Memory, Save}
@@ -22,7 +22,6 @@ use Rattle.n2kdec.specs.declared.found.Found.{Found}
 use Rattle.n2kdec.specs.declared.found.Reading.{Reading}
 use Rattle.n2kdec.specs.declared.found.Reading.TheVariants as reading
 use Rattle.n2kdec.specs.declared.reason.Reason.{Reason}
-use Rattle.n2kdec.specs.declared.words.Words.{Words}
 
 -- what is counted of a file that is closed comes to what was counted before
 pub called_more : (had opened before after : ℕ) (calls : ℕ) → HasCalled had before 0 → opened ≡ before → AddsCalls opened after calls → HasCalled had after calls
@@ -119,17 +118,17 @@ all_opened files a b c d before log same =
 -- ---- a command
 
 -- over a log of which no call was made, by the bytes that were read
-module _ (command : Command) (table : List ℕ) (handed : Option (List ℕ)) (before after : Outside) (log : LogAfter) (result : Result Ending Fault) where
+module _ (task : Task) (table : List ℕ) (handed : Option (List ℕ)) (before after : Outside) (log : LogAfter) (result : Result Ending Fault) where
   abbrev pub PerformsAfter : List ℕ → Option (List ℕ) → Option (List ℕ) → ℕ → ℕ → Type 0
-  PerformsAfter held lent left calls failed = Performs command held lent (with_log left calls failed before) (with_log log.left log.calls log.failed after)
-      (shelf (save_name command) before.kept before.failed_keeps) (shelf (save_name command) after.kept after.failed_keeps) result
+  PerformsAfter held lent left calls failed = Performs task held lent (with_log left calls failed before) (with_log log.left log.calls log.failed after)
+      (shelf (save_name task) before.kept before.failed_keeps) (shelf (save_name task) after.kept after.failed_keeps) result
 
   abbrev pub FindsAfter : List ℕ → Option (List ℕ) → Option (List ℕ) → Type 0
-  FindsAfter held lent left = Finds command held lent left log.left result after.found
+  FindsAfter held lent left = Finds task held lent left log.left result after.found
 
   pub performed_over : (held : List ℕ) (lent left known : Option (List ℕ)) (calls failed had : ℕ) → held ≡ table → lent ≡ handed → left ≡ known → calls ≡ 0 → failed ≡ 0
       → had ≡ before.files.failed → AddsFailures had after.files.failed log.failed → HasCalled before.files.reads after.files.reads log.calls
-      → PerformsAfter held lent left calls failed → FindsAfter held lent left → IsPerformedOver command table handed known before after result
+      → PerformsAfter held lent left calls failed → FindsAfter held lent left → IsPerformedOver task table handed known before after result
   performed_over held lent left known calls failed had is_table is_state is none none_failed same counted called performs finds = record {
     log = log;
     counted = subst (λ n. AddsFailures n after.files.failed log.failed) same counted;
@@ -145,17 +144,17 @@ table_is items None none held empty is = ap items is ∙ empty
 table_is items (Some bytes) none held empty is = ap items is
 
 -- a command that is performed is run
-pub runs : (w : World) (files : Files) (command : Command) (before after : Outside) (result : Result Ending Fault) → IsPerformed w files command before after result
-    → RunsCommand w files command before after result
-runs w files command before after (Ok status) done = done
-runs w files command before after (Err fault) done = inl done
+pub runs : (w : World) (command : Command) (before after : Outside) (result : Result Ending Fault) → IsPerformed w command before after result
+    → RunsCommand w command before after result
+runs w command before after (Ok status) done = done
+runs w command before after (Err fault) done = inl done
 
-module _ (w : World) (files : Files) (command : Command) (o : Outside) where
+module _ (w : World) (command : Command) (o : Outside) where
   -- one whose files are not read is not begun
-  pub not_begun : (read : Reading) (used : FileUse) (found : Option Found) (fault : Fault) → found ≡ noted fault read o.found → IsStateAdmitted o.admits files command
-      → IsUnread w files read o.files used fault → RunsCommand w files command o (record o { files = used; found = found }) (Err fault)
+  pub not_begun : (read : Reading) (used : FileUse) (found : Option Found) (fault : Fault) → found ≡ noted fault read o.found → IsStateAdmitted o.admits command
+      → IsUnread w command.files read o.files used fault → RunsCommand w command o (record o { files = used; found = found }) (Err fault)
   not_begun read used found fault is admitted unread =
-      subst (λ n. RunsCommand w files command o (record o { files = used; found = n }) (Err fault)) (sym is)
+      subst (λ n. RunsCommand w command o (record o { files = used; found = n }) (Err fault)) (sym is)
       (inr (inl (record { read = read; admitted = admitted; unread = unread; else_same = refl })))
 
   abbrev pub having : Option (List Kept) → ℕ → ℕ → Outside
@@ -163,52 +162,47 @@ module _ (w : World) (files : Files) (command : Command) (o : Outside) where
 
   -- what keeps a state refuses it
   pub not_admitted : (kept : Option (List Kept)) (unkept refused : ℕ) (fault : Fault) → kept ≡ o.kept → unkept ≡ o.failed_keeps
-      → (fault ≡ Save) × IsStateRefused o.admits files command × HasFailed o.failed_admissions refused
-      → RunsCommand w files command o (having kept unkept refused) (Err fault)
+      → (fault ≡ Save) × IsStateRefused o.admits command × HasFailed o.failed_admissions refused
+      → RunsCommand w command o (having kept unkept refused) (Err fault)
   not_admitted kept unkept refused fault same keeps why =
-      subst (λ k. RunsCommand w files command o (having k unkept refused) (Err fault)) (sym same)
-      (subst (λ n. RunsCommand w files command o (having o.kept n refused) (Err fault)) (sym keeps)
+      subst (λ k. RunsCommand w command o (having k unkept refused) (Err fault)) (sym same)
+      (subst (λ n. RunsCommand w command o (having o.kept n refused) (Err fault)) (sym keeps)
       (inr (inr (record { refused = why.1; save = why.0; failed = why.2; else_same = refl }))))
 
   -- it has no objection
   pub admitted : (kept : Option (List Kept)) (unkept refused : ℕ) (after : Outside) (result : Result Ending Fault) → kept ≡ o.kept → unkept ≡ o.failed_keeps
-      → refused ≡ o.failed_admissions → RunsCommand w files command (having kept unkept refused) after result → RunsCommand w files command o after result
+      → refused ≡ o.failed_admissions → RunsCommand w command (having kept unkept refused) after result → RunsCommand w command o after result
   admitted kept unkept refused after result same keeps none_refused runs =
-      subst (λ n. RunsCommand w files command (having o.kept o.failed_keeps n) after result) none_refused
-      (subst (λ n. RunsCommand w files command (having o.kept n refused) after result) keeps
-      (subst (λ k. RunsCommand w files command (having k unkept refused) after result) same runs))
-
--- what the words ask for is what was typed
-pub does_typed : (shown : Shown) (w : World) (words : Words) (request : Result Request Fault) (before after : Outside) (result : Result Ending Fault) → AsksFor shown w words → request ≡ asked words
-    → DoesAsked w request before after result → DoesTyped shown w before after result
-does_typed shown w words request before after result asks is does = inl (words, asks, subst (λ r. DoesAsked w r before after result) is does)
+      subst (λ n. RunsCommand w command (having o.kept o.failed_keeps n) after result) none_refused
+      (subst (λ n. RunsCommand w command (having o.kept n refused) after result) keeps
+      (subst (λ k. RunsCommand w command (having k unkept refused) after result) same runs))
 
 -- a fault of what was typed is written behind what stands before its line
-pub reported : (shown : Shown) (w : World) (before done : Outside) (result : Result Ending Fault) (fault : Fault) (stood : List ℕ) (errors : Place) (status : ℕ) → DoesTyped shown w before done result
-    → result ≡ Err fault → StandsBefore shown w done.unkept done.found fault stood → WritesFault stood fault done.errors errors → status ≡ status_of fault
-    → RunsTyped shown w before (record done { errors = errors }) status
-reported shown w before done result fault stood errors status does is stands writes said = record {
+pub reported : (w : World) (request : Request) (before done : Outside) (result : Result Ending Fault) (fault : Fault) (stood : List ℕ) (errors : Place) (status : ℕ)
+    → DoesAsked w request before done result → result ≡ Err fault → StandsBefore w done.unkept request done.found fault stood → WritesFault stood fault done.errors errors → status ≡ status_of fault
+    → RunsRequest w request before (record done { errors = errors }) status
+reported w request before done result fault stood errors status does is stands writes said = record {
   result = Err fault;
   done = done;
-  does = subst (DoesTyped shown w before done) is does;
+  does = subst (DoesAsked w request before done) is does;
   concludes = (said, (stood, stands, writes), refl);
 }
 
 -- a command that came to its end, of which is said what there is to say
-pub ended : (shown : Shown) (w : World) (before done : Outside) (result : Result Ending Fault) (ending : Ending) (errors : Place) (status : ℕ) → DoesTyped shown w before done result
-    → result ≡ Ok ending → Hints w ending.has_other_form done.errors errors → status ≡ ending.status → RunsTyped shown w before (record done { errors = errors }) status
-ended shown w before done result ending errors status does is hints said = record {
+pub ended : (w : World) (request : Request) (before done : Outside) (result : Result Ending Fault) (ending : Ending) (errors : Place) (status : ℕ)
+    → DoesAsked w request before done result → result ≡ Ok ending → Hints w ending.has_other_form done.errors errors → status ≡ ending.status → RunsRequest w request before (record done { errors = errors }) status
+ended w request before done result ending errors status does is hints said = record {
   result = Ok ending;
   done = done;
-  does = subst (DoesTyped shown w before done) is does;
+  does = subst (DoesAsked w request before done) is does;
   concludes = (said, hints, refl);
 }
 
--- on a terminal the sentence of a fault stands before its line, where there is memory for it
-pub spoken : {V E : Type 0} (items : V → List ℕ) (shown : Shown) (w : World) (unkept : Text → Option Reason) (found : Option Found) (fault : Fault) (is_terminal : Bool) (said : Result V E) (none text : V)
-    → IsTerminal w is_terminal → is_terminal ≡ true → items none ≡ [] → IfOk said (λ said. IsSentenceOf shown w unkept found fault (items said)) → text ≡ result_unwrap_or said none
-    → StandsBefore shown w unkept found fault (items text)
-spoken items shown w unkept found fault is_terminal (Ok said) none text terminal is empty sentence same =
-    (is_terminal, terminal, inr (is, subst (λ (v : _). IsSentenceOf shown w unkept found fault (items v)) (sym same) sentence))
-spoken items shown w unkept found fault is_terminal (Err why) none text terminal is empty sentence same =
-    (is_terminal, terminal, inl (inl (ap items same ∙ empty)))
+-- on a terminal this stands before the line of a fault, where there is memory for it
+pub spoken : {V E : Type 0} (items : V → List ℕ) (w : World) (unkept : Text → Option Reason) (request : Request) (found : Option Found) (fault : Fault) (is_terminal : Bool) (said : Result V E) (none text : V)
+    → IsTerminal w is_terminal → is_terminal ≡ true → items none ≡ [] → IfOk said (λ said. IsToldOf w unkept request found fault (items said)) → text ≡ result_unwrap_or said none
+    → StandsBefore w unkept request found fault (items text)
+spoken items w unkept request found fault is_terminal (Ok said) none text terminal is empty told same =
+    (is_terminal, terminal, inr (is, subst (λ (v : _). IsToldOf w unkept request found fault (items v)) (sym same) told))
+spoken items w unkept request found fault is_terminal (Err why) none text terminal is empty told same =
+    (is_terminal, terminal, inl (ap items same ∙ empty))

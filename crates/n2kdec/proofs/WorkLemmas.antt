@@ -30,8 +30,8 @@ use Rattle.n2kdec.specs.Work.{AnswersWhole, DoesFrames, RefusesTable, Works, ans
 use Rattle.n2kdec.specs.declared.ending.Ending.{Ending}
 use Rattle.n2kdec.specs.declared.fault.Fault.{Fault}
 use Rattle.n2kdec.specs.declared.fault.Fault.TheVariants as fault
-use Rattle.n2kdec.specs.declared.asked.Command.{Command}
-use Rattle.n2kdec.specs.declared.asked.Command.TheVariants.{Plain, Decode, Frames}
+use Rattle.n2kdec.specs.declared.asked.Task.{Task}
+use Rattle.n2kdec.specs.declared.asked.Task.TheVariants.{Plain, Decode, Frames}
 use Rattle.n2kdec.specs.declared.work.Stop.{Stop}
 use Rattle.n2kdec.proofs.CommandLemmas.{IsUnkept, ended_whole, past_table, refused_table, unkept_whole}
 use Rattle.n2kdec.proofs.DecodeLemmas.{decoded, undecoded}
@@ -55,8 +55,8 @@ module _ (before after : Devices) (errors : Place) (had has : Option (List Kept)
             (ended_whole (frames_output (table_of bytes) interface) (frame_counts_of (kind (table_of bytes)) interface) before after errors does.counts does.ended told r does.runs does.told whole.1),
       )
 
-  pub performs : (command : Command) (bytes : List ℕ) (handed : Option (List ℕ)) (told : Result Part Stop) (r : Result Ending Fault) → Works command bytes handed before between told
-      → Closed (save_name command) told r → Performs command bytes handed before after (shelf (save_name command) had failed) (shelf (save_name command) has fails) r
+  pub performs : (task : Task) (bytes : List ℕ) (handed : Option (List ℕ)) (told : Result Part Stop) (r : Result Ending Fault) → Works task bytes handed before between told
+      → Closed (save_name task) told r → Performs task bytes handed before after (shelf (save_name task) had failed) (shelf (save_name task) has fails) r
   performs Plain bytes handed told r does closes =
       let whole = unkept_whole had has failed fails errors said does.counts does.ended told r does.told closes in
       (whole.0, ended_whole plain_output plain_counts_of before after errors does.counts does.ended told r does.runs does.told whole.1)
@@ -107,13 +107,13 @@ lines_of_part o save bytes handed before after (Err (part_faults.Stopped run.Rea
 lines_of_part o save bytes handed before after (Err (part_faults.Stopped _ part)) runs = tt
 
 module _ (bytes : List ℕ) (handed : Option (List ℕ)) (before after : Devices) (stop : Stop) where
-  abbrev Tells : Command → Type 0
-  Tells command = TellsLines (CountsLines command bytes handed before.left after.left) stop.fault stop.lines
+  abbrev Tells : Task → Type 0
+  Tells task = TellsLines (CountsLines task bytes handed before.left after.left) stop.fault stop.lines
 
-  refused_tells : (command : Command) → RefusesTable (faults bytes) before after stop → Tells command
-  refused_tells command refuses = subst (λ (s : Stop). TellsLines (CountsLines command bytes handed before.left after.left) s.fault s.lines) (sym refuses.told) tt
+  refused_tells : (task : Task) → RefusesTable (faults bytes) before after stop → Tells task
+  refused_tells task refuses = subst (λ (s : Stop). TellsLines (CountsLines task bytes handed before.left after.left) s.fault s.lines) (sym refuses.told) tt
 
-  tells : (command : Command) → Works command bytes handed before after (Err stop) → Tells command
+  tells : (task : Task) → Works task bytes handed before after (Err stop) → Tells task
   tells Plain does = lines_of_whole plain_effect does.counts before after does.ended stop does.runs does.told
   tells (Decode o save) (inl refuses) = refused_tells (Decode o save) refuses
   tells (Decode o save) (inr does) =
@@ -124,19 +124,19 @@ module _ (bytes : List ℕ) (handed : Option (List ℕ)) (before after : Devices
       lines_of_whole (frames_effect (table_of bytes) interface) does.1.counts before after does.1.ended stop does.1.runs does.1.told
 
 -- what is found out in what was done is found out about what becomes of the command
-module _ (command : Command) (bytes : List ℕ) (handed : Option (List ℕ)) (before after : Devices) (found : Option Found) where
+module _ (task : Task) (bytes : List ℕ) (handed : Option (List ℕ)) (before after : Devices) (found : Option Found) where
   abbrev FindsSo : Result Ending Fault → Type 0
-  FindsSo r = Finds command bytes handed before.left after.left r found
+  FindsSo r = Finds task bytes handed before.left after.left r found
 
   found_whole : (keeper kept : Shelf) (errors summed : Place) (text : List ℕ) (counts : Counts) (r : Result Ending Fault) → Closes keeper kept errors summed text counts r → found ≡ None → FindsSo r
   found_whole keeper kept errors summed text counts (Ok ending) closes none = none
   found_whole keeper kept errors summed text counts (Err f) (inl closes) none = subst (λ g. FindsSo (Err g)) (sym closes.1.0) (None, tt, none)
   found_whole keeper kept errors summed text counts (Err f) (inr closes) none = subst FindsSo (sym closes.0) (None, tt, none)
 
-  pub finds : (keeper kept : Shelf) (errors summed : Place) (told : Result Part Stop) (r : Result Ending Fault) → Works command bytes handed before after told
-      → ClosesPart keeper kept errors summed told r → FoundIn command bytes handed told found → FindsSo r
+  pub finds : (keeper kept : Shelf) (errors summed : Place) (told : Result Part Stop) (r : Result Ending Fault) → Works task bytes handed before after told
+      → ClosesPart keeper kept errors summed told r → FoundIn task bytes handed told found → FindsSo r
   finds keeper kept errors summed (Ok part) r does closes none = found_whole keeper kept errors summed part.state.items part.counts r closes none
-  finds keeper kept errors summed (Err stop) r does closes at = subst FindsSo (sym closes.0) (stop.lines, tells bytes handed before after stop command does, at)
+  finds keeper kept errors summed (Err stop) r does closes at = subst FindsSo (sym closes.0) (stop.lines, tells bytes handed before after stop task does, at)
 
 -- ---- the status
 
@@ -147,9 +147,9 @@ known_for_all : {A : Type 0} (left : Option (List ℕ)) (P : A → List ℕ → 
 known_for_all None P each = tt
 known_for_all (Some log) P each = each
 
-pub tells_status : (command : Command) (bytes : List ℕ) (handed : Option (List ℕ)) (before after : Devices) (keeper kept : Shelf) (r : Result Ending Fault) → Performs command bytes handed before after keeper kept r
-    → IfOk r (λ ending. IfSome before.left (λ all. HasStatus command bytes handed all ending.status))
-tells_status command bytes handed before after keeper kept (Err f) done = tt
+pub tells_status : (task : Task) (bytes : List ℕ) (handed : Option (List ℕ)) (before after : Devices) (keeper kept : Shelf) (r : Result Ending Fault) → Performs task bytes handed before after keeper kept r
+    → IfOk r (λ ending. IfSome before.left (λ all. HasStatus task bytes handed all ending.status))
+tells_status task bytes handed before after keeper kept (Err f) done = tt
 tells_status Plain bytes handed before after keeper kept (Ok ending) done =
     status_of plain_effect before after ending (λ all. HasStatus Plain bytes handed all ending.status) (λ came is. is) done.1
 tells_status (Frames interface) bytes handed before after keeper kept (Ok ending) done =

@@ -31,8 +31,8 @@ use Rattle.n2k_run.specs.Writing.{AppendsFront}
 use Rattle.n2k_run.specs.declared.options.Options.{Options}
 use Rattle.n2kdec.specs.Ending.{has_other_form}
 use Rattle.n2kdec.specs.Fault.{exit_status}
-use Rattle.n2kdec.specs.declared.asked.Command.{Command}
-use Rattle.n2kdec.specs.declared.asked.Command.TheVariants.{Plain, Decode, Frames}
+use Rattle.n2kdec.specs.declared.asked.Task.{Task}
+use Rattle.n2kdec.specs.declared.asked.Task.TheVariants.{Plain, Decode, Frames}
 use Rattle.n2kdec.specs.declared.asked.Files.{Files}
 use Rattle.n2kdec.specs.declared.ending.Ending.{Ending}
 use Rattle.n2kdec.specs.declared.fault.Fault.{Fault}
@@ -389,7 +389,7 @@ pub record Decodes (bytes : List ℕ) (o : Options) (handed : Option (List ℕ))
       (λ more. PrintsRest (table_of bytes) o front more before after keeper kept ending.status))
 
 -- How a command ends, with the place of its state. Where it has none that place is left as it was.
-abbrev pub Performs : Command → List ℕ → Option (List ℕ) → Devices → Devices → Shelf → Shelf → Result Ending Fault → Type 0
+abbrev pub Performs : Task → List ℕ → Option (List ℕ) → Devices → Devices → Shelf → Shelf → Result Ending Fault → Type 0
 Performs Plain bytes handed before after keeper kept result =
     (kept ≡ keeper) × Ends plain_effect before after result
 Performs (Decode o save) bytes handed before after keeper kept result =
@@ -398,7 +398,7 @@ Performs (Frames interface) bytes handed before after keeper kept result =
     (kept ≡ keeper) × EndsByTable (faults bytes) (frames_effect (table_of bytes) interface) before after result
 
 -- the status with which it comes to its end, where all bytes of its log are known
-abbrev pub HasStatus : Command → List ℕ → Option (List ℕ) → List ℕ → ℕ → Type 0
+abbrev pub HasStatus : Task → List ℕ → Option (List ℕ) → List ℕ → ℕ → Type 0
 HasStatus Plain bytes handed all status = status ≡ exit_status (plain_counts all)
 HasStatus (Decode o save) bytes handed all status =
     (front : List Entry)

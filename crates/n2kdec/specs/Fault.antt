@@ -1,6 +1,5 @@
 -- The line that a fault prints, and the status that the program ends with.
-use Rattle.std.specs.Prelude.{◌≡◌, ◌⊎◌, ◌++◌, ℕ, List, [], Bool, true, Option, codes, ◌==◌, if◌then◌else◌}
-use Rattle.clap.specs.Words.{Text}
+use Rattle.std.specs.Prelude.{◌≡◌, ◌⊎◌, ◌++◌, ℕ, List, codes, ◌==◌, if◌then◌else◌}
 use Rattle.n2k_join.specs.declared.counts.Counts.{Counts}
 use Rattle.n2k_join.specs.declared.fault.StateFault.{StateFault}
 use Rattle.n2k_join.specs.declared.fault.StateFault.TheVariants as state
@@ -8,7 +7,6 @@ use Rattle.n2k_run.specs.declared.fault.RunFault.{RunFault}
 use Rattle.n2k_run.specs.declared.fault.RunFault.TheVariants as run
 use Rattle.n2k_table.specs.declared.fault.TableFault.{TableFault}
 use Rattle.n2k_table.specs.declared.fault.TableFault.TheVariants as table
-use Rattle.n2kdec.specs.Parser.{AreLinesOf}
 use Rattle.n2kdec.specs.declared.fault.Fault.{Fault}
 use Rattle.n2kdec.specs.declared.fault.Fault.TheVariants.{Words, Interface, TableSize, StateSize, Table, State}
 use Rattle.n2kdec.specs.declared.fault.Fault.TheVariants.{TableFile, StateFile, Read, Write, Report, Memory, Lines}
@@ -57,12 +55,6 @@ fault_line Report = codes "n2kdec: report\n"
 fault_line Memory = codes "n2kdec: memory\n"
 fault_line Lines = codes "n2kdec: lines\n"
 fault_line Save = codes "n2kdec: save\n"
-
--- What may stand before the line of a fault: nothing; or, on a terminal, the lines of what is said of refused words,
--- where that is known.
-abbrev pub IsBeforeLine : Option Text → Bool → Fault → List ℕ → Type 0
-IsBeforeLine said is_terminal fault text =
-    (text ≡ []) ⊎ ((is_terminal ≡ true) × (fault ≡ Words) × AreLinesOf said text)
 
 -- What is written on standard error at a fault: its line, behind this text or, where memory is refused, alone.
 abbrev pub IsFaultMessage : List ℕ → Fault → List ℕ → Type 0

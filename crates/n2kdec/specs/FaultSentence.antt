@@ -1,6 +1,6 @@
 -- What is said of a fault on a terminal, in one line: the file or the stream that it is of, what is wrong, and what to do.
 use Rattle.std.specs.Prelude.{◌≡◌, ◌==◌, ◌++◌, ◌∷◌, ℕ, Bool, true, false, List, [], Option, Some, None}
-use Rattle.std.specs.Prelude.{codes, decimal, if◌then◌else◌, IfSome, option_map}
+use Rattle.std.specs.Prelude.{codes, decimal, if◌then◌else◌, IfSome, option_and_then, option_map}
 use Rattle.std.specs.Option.{unwrap_or}
 use Rattle.clap.specs.Words.{Text}
 use Rattle.n2k_join.specs.declared.fault.StateFault.{StateFault}
@@ -10,7 +10,6 @@ use Rattle.n2k_table.specs.declared.fault.TableFault.TheVariants as table
 use Rattle.n2kdec.specs.Asked.{save_name}
 use Rattle.n2kdec.specs.Escape.{escaped}
 use Rattle.n2kdec.specs.declared.asked.Command.{Command}
-use Rattle.n2kdec.specs.declared.asked.Files.{Files}
 use Rattle.n2kdec.specs.declared.fault.Fault.{Fault}
 use Rattle.n2kdec.specs.declared.fault.Fault.TheVariants.{Words, Interface, TableSize, StateSize, Table, State}
 use Rattle.n2kdec.specs.declared.fault.Fault.TheVariants.{TableFile, StateFile, Read, Write, Report, Memory, Lines}
@@ -108,34 +107,42 @@ advice_of _ reason = []
 
 -- ---- what it is of
 
--- the log as it is called
-abbrev pub log_name : Option Text → Text
-log_name None = codes "standard input"
-log_name (Some name) = name
+-- the files of a command: the table, the state that it goes on from, its log as it is called, the state after it
+abbrev pub table_of : Option Command → Option Text
+table_of command = option_and_then (λ c. c.files.table) command
+
+abbrev pub state_of : Option Command → Option Text
+state_of command = option_and_then (λ c. c.files.state) command
+
+abbrev pub log_of : Option Command → Option Text
+log_of command = option_map (λ c. unwrap_or c.files.log (codes "standard input")) command
+
+abbrev pub save_of : Option Command → Option Text
+save_of command = option_and_then (λ c. save_name c.task) command
 
 -- what was read when memory was refused, and else the words that were typed
-abbrev pub wanting : Files → Option Found → Option Text
-wanting files (Some (NoMemory reading.Table)) = files.table
-wanting files (Some (NoMemory reading.State)) = files.state
-wanting files (Some (NoMemory reading.Log)) = Some (log_name files.log)
-wanting files _ = Some (codes "the command line")
+abbrev pub wanting : Option Command → Option Found → Option Text
+wanting command (Some (NoMemory reading.Table)) = table_of command
+wanting command (Some (NoMemory reading.State)) = state_of command
+wanting command (Some (NoMemory reading.Log)) = log_of command
+wanting command _ = Some (codes "the command line")
 
 -- The name that was typed, or that of a stream; none where nothing is said.
-abbrev pub subject_of : Files → Command → Fault → Option Found → Option Text
-subject_of files command Words found = None
-subject_of files command Interface found = Some (codes "--candump")
-subject_of files command TableSize found = files.table
-subject_of files command StateSize found = files.state
-subject_of files command (Table fault) found = files.table
-subject_of files command (State fault) found = files.state
-subject_of files command TableFile found = files.table
-subject_of files command StateFile found = files.state
-subject_of files command Read found = Some (log_name files.log)
-subject_of files command Write found = Some (codes "standard output")
-subject_of files command Report found = None
-subject_of files command Memory found = wanting files found
-subject_of files command Lines found = Some (log_name files.log)
-subject_of files command Save found = save_name command
+abbrev pub subject_of : Option Command → Fault → Option Found → Option Text
+subject_of command Words found = None
+subject_of command Interface found = Some (codes "--candump")
+subject_of command TableSize found = table_of command
+subject_of command StateSize found = state_of command
+subject_of command (Table fault) found = table_of command
+subject_of command (State fault) found = state_of command
+subject_of command TableFile found = table_of command
+subject_of command StateFile found = state_of command
+subject_of command Read found = log_of command
+subject_of command Write found = Some (codes "standard output")
+subject_of command Report found = None
+subject_of command Memory found = wanting command found
+subject_of command Lines found = log_of command
+subject_of command Save found = save_of command
 
 -- ---- the line
 
@@ -158,25 +165,25 @@ some_lines_text lines = codes " (after line " ++ decimal lines ++ codes ")"
 abbrev pub lines_text : ℕ → Text
 lines_text lines = if lines == 0 then [] else some_lines_text lines
 
-abbrev pub found_text : Files → Option Found → Text
-found_text files None = []
-found_text files (Some (Tables saved table)) = tables_text saved (unwrap_or files.table []) table
-found_text files (Some (Windows saved window)) = windows_text saved window
-found_text files (Some (LinesTaken lines)) = lines_text lines
-found_text files (Some (NoMemory read)) = []
+abbrev pub found_text : Option Command → Option Found → Text
+found_text command None = []
+found_text command (Some (Tables saved table)) = tables_text saved (unwrap_or (table_of command) []) table
+found_text command (Some (Windows saved window)) = windows_text saved window
+found_text command (Some (LinesTaken lines)) = lines_text lines
+found_text command (Some (NoMemory read)) = []
 
 -- what is wrong with a subject, what was found out about it, and what to do
-abbrev pub told_of : Files → Text → Fault → Option Reason → Option Found → Text
-told_of files subject fault reason found =
-    named subject ++ codes ": " ++ words_of fault reason ++ found_text files found ++ advice_of fault reason
+abbrev pub told_of : Option Command → Text → Fault → Option Reason → Option Found → Text
+told_of command subject fault reason found =
+    named subject ++ codes ": " ++ words_of fault reason ++ found_text command found ++ advice_of fault reason
 
 abbrev pub line_of : Text → List ℕ
 line_of text = codes "n2kdec: " ++ escaped false text ++ codes "\n"
 
 -- what is said of a fault, for this reason and with what was found out; nothing where it is of no file
-abbrev pub fault_sentence : Files → Command → Fault → Option Reason → Option Found → List ℕ
-fault_sentence files command fault reason found =
-    unwrap_or (option_map (λ subject. line_of (told_of files subject fault reason found)) (subject_of files command fault found)) []
+abbrev pub fault_sentence : Option Command → Fault → Option Reason → Option Found → List ℕ
+fault_sentence command fault reason found =
+    unwrap_or (option_map (λ subject. line_of (told_of command subject fault reason found)) (subject_of command fault found)) []
 
 -- this is the known reason, where both are there
 abbrev pub IsAsKnown : Option Reason → Option Reason → Type 0

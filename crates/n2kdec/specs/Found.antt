@@ -17,8 +17,8 @@ use Rattle.n2k_run.specs.Lines.{whole_lines}
 use Rattle.n2k_run.specs.Parts.{begun}
 use Rattle.n2k_run.specs.declared.part.Part.{Part}
 use Rattle.n2kdec.specs.Commands.{Effect, decode_from, entries_for, frames_effect, plain_effect, shelf}
-use Rattle.n2kdec.specs.declared.asked.Command.{Command}
-use Rattle.n2kdec.specs.declared.asked.Command.TheVariants.{Plain, Decode, Frames}
+use Rattle.n2kdec.specs.declared.asked.Task.{Task}
+use Rattle.n2kdec.specs.declared.asked.Task.TheVariants.{Plain, Decode, Frames}
 use Rattle.n2kdec.specs.declared.ending.Ending.{Ending}
 use Rattle.n2kdec.specs.declared.fault.Fault.{Fault}
 use Rattle.n2kdec.specs.declared.fault.Fault.TheVariants.{Read, State, Memory}
@@ -49,7 +49,7 @@ windows lines state =
     option_map (λ saved. Windows saved lines) (option_and_then (number_in (codes "window")) (parsed state))
 
 -- what a state is of that `decode` refuses for it
-abbrev pub difference : Command → List ℕ → Option (List ℕ) → StateFault → Option Found
+abbrev pub difference : Task → List ℕ → Option (List ℕ) → StateFault → Option Found
 difference (Decode o save) table (Some state) TableDiffers = tables table state
 difference (Decode o save) table (Some state) WindowDiffers = windows o.window.lines state
 difference _ table handed _ = None
@@ -62,7 +62,7 @@ Counts c before after lines =
     (came : List ℕ) × Consumes before after came × (lines ≡ (c.counts (entries_for c (whole_lines came))).lines)
 
 -- so many are counted by a command, with the bytes of a table and from the state that is handed in
-abbrev pub CountsLines : Command → List ℕ → Option (List ℕ) → Option (List ℕ) → Option (List ℕ) → ℕ → Type 0
+abbrev pub CountsLines : Task → List ℕ → Option (List ℕ) → Option (List ℕ) → Option (List ℕ) → ℕ → Type 0
 CountsLines Plain table handed before after lines = Counts plain_effect before after lines
 CountsLines (Frames interface) table handed before after lines =
     Counts (frames_effect (table_of table) interface) before after lines
@@ -84,20 +84,20 @@ noted _ read found = found
 
 -- By what a command was handed, and the lines that are told. What a state is of is not found out where memory for it is
 -- refused. A command reads its log. Of other faults nothing is found out.
-abbrev pub FoundAt : Command → List ℕ → Option (List ℕ) → Option ℕ → Fault → Option Found → Type 0
-FoundAt command table handed lines Read found = found ≡ option_map (λ n. Lines n) lines
-FoundAt command table handed lines (State fault) found =
-    IfSome found (λ is. difference command table handed fault ≡ Some is)
-FoundAt command table handed lines Memory found = found ≡ Some (NoMemory reading.Log)
-FoundAt command table handed lines _ found = found ≡ None
+abbrev pub FoundAt : Task → List ℕ → Option (List ℕ) → Option ℕ → Fault → Option Found → Type 0
+FoundAt task table handed lines Read found = found ≡ option_map (λ n. Lines n) lines
+FoundAt task table handed lines (State fault) found =
+    IfSome found (λ is. difference task table handed fault ≡ Some is)
+FoundAt task table handed lines Memory found = found ≡ Some (NoMemory reading.Log)
+FoundAt task table handed lines _ found = found ≡ None
 
-abbrev pub FoundIn : Command → List ℕ → Option (List ℕ) → Result Part Stop → Option Found → Type 0
-FoundIn command table handed (Ok part) found = found ≡ None
-FoundIn command table handed (Err stop) found = FoundAt command table handed stop.lines stop.fault found
+abbrev pub FoundIn : Task → List ℕ → Option (List ℕ) → Result Part Stop → Option Found → Type 0
+FoundIn task table handed (Ok part) found = found ≡ None
+FoundIn task table handed (Err stop) found = FoundAt task table handed stop.lines stop.fault found
 
 -- by what becomes of a command, whose log has these bytes before it and these behind it
-abbrev pub Finds : Command → List ℕ → Option (List ℕ) → Option (List ℕ) → Option (List ℕ) → Result Ending Fault → Option Found → Type 0
-Finds command table handed before after (Ok ending) found = found ≡ None
-Finds command table handed before after (Err fault) found =
-    (lines : Option ℕ) × TellsLines (CountsLines command table handed before after) fault lines
-    × FoundAt command table handed lines fault found
+abbrev pub Finds : Task → List ℕ → Option (List ℕ) → Option (List ℕ) → Option (List ℕ) → Result Ending Fault → Option Found → Type 0
+Finds task table handed before after (Ok ending) found = found ≡ None
+Finds task table handed before after (Err fault) found =
+    (lines : Option ℕ) × TellsLines (CountsLines task table handed before after) fault lines
+    × FoundAt task table handed lines fault found

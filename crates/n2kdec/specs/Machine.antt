@@ -6,23 +6,22 @@ use Rattle.clap.specs.Words.{Text}
 use Rattle.n2k_run.specs.declared.device.Sink.{Ghosts as OfSink}
 use Rattle.n2k_run.specs.Device.{HasFailed}
 use Rattle.n2k_run.specs.Runs.{Devices, devices}
-use Rattle.n2kdec.specs.Asked.{asked, save_name}
+use Rattle.n2kdec.specs.Asked.{IsAsked, IsOfWords, save_name}
 use Rattle.n2kdec.specs.Commands.{IsCutOff, IsWritten, IsWrittenUnlessFailed, IsAdmitted, Kept, MayBeRefused}
 use Rattle.n2kdec.specs.Commands.{Performs, Place, place, shelf}
 use Rattle.n2kdec.specs.Ending.{hint}
-use Rattle.n2kdec.specs.Fault.{IsBeforeLine, IsFaultMessage, longest_file, status_of}
-use Rattle.n2kdec.specs.FaultSentence.{IsAsKnown, fault_sentence, has_reason}
+use Rattle.n2kdec.specs.Fault.{IsFaultMessage, longest_file, status_of}
+use Rattle.n2kdec.specs.FaultSentence.{IsAsKnown, fault_sentence, has_reason, save_of}
 use Rattle.n2kdec.specs.Found.{Finds, noted}
-use Rattle.n2kdec.specs.Parser.{Shown, said_of}
-use Rattle.n2kdec.specs.Words.{IsAskedBy, IsRefused}
+use Rattle.n2kdec.specs.Parser.{Shown}
 use Rattle.n2kdec.specs.declared.asked.Request.{Request}
 use Rattle.n2kdec.specs.declared.asked.Request.TheVariants as to
 use Rattle.n2kdec.specs.declared.asked.Command.{Command}
-use Rattle.n2kdec.specs.declared.asked.Command.TheVariants.{Plain}
+use Rattle.n2kdec.specs.declared.asked.Task.{Task}
 use Rattle.n2kdec.specs.declared.asked.Files.{Files}
 use Rattle.n2kdec.specs.declared.ending.Ending.{Ending}
 use Rattle.n2kdec.specs.declared.fault.Fault.{Fault}
-use Rattle.n2kdec.specs.declared.fault.Fault.TheVariants.{Words as WordsFault, TableSize, TableFile, StateSize}
+use Rattle.n2kdec.specs.declared.fault.Fault.TheVariants.{TableSize, TableFile, StateSize}
 use Rattle.n2kdec.specs.declared.fault.Fault.TheVariants.{StateFile, Read, Memory, Save, Write}
 use Rattle.n2kdec.specs.declared.found.Found.{Found}
 use Rattle.n2kdec.specs.declared.found.Reading.{Reading}
@@ -30,7 +29,6 @@ use Rattle.n2kdec.specs.declared.found.Reading.TheVariants as reading
 use Rattle.n2kdec.specs.declared.keeper.Keeper.{Ghosts as OfKeeper}
 use Rattle.n2kdec.specs.declared.machine.Outlets.{Outlets}
 use Rattle.n2kdec.specs.declared.reason.Reason.{Reason}
-use Rattle.n2kdec.specs.declared.words.Words.{Words}
 
 -- ---- what the program meets
 
@@ -233,63 +231,62 @@ with_log left calls failed o = devices left calls failed o.output.text o.output.
 -- The command is performed by these bytes of a table and of a state, over a log with these bytes. The calls of the log
 -- are counted, and the failed ones, so that Read is reported of no log of which neither a read failed nor as many reads
 -- were made as a run makes at most.
-pub record IsPerformedOver (command : Command) (table : List ℕ) (handed left : Option (List ℕ)) (before after : Outside)
+pub record IsPerformedOver (task : Task) (table : List ℕ) (handed left : Option (List ℕ)) (before after : Outside)
     (result : Result Ending Fault) : Type 0 where
   pub log : LogAfter
   pub counted : AddsFailures before.files.failed after.files.failed log.failed
   pub called : HasCalled before.files.reads after.files.reads log.calls
-  pub performs : Performs command table handed (with_log left 0 0 before)
+  pub performs : Performs task table handed (with_log left 0 0 before)
       (with_log log.left log.calls log.failed after)
-      (shelf (save_name command) before.kept before.failed_keeps)
-      (shelf (save_name command) after.kept after.failed_keeps) result
-  pub finds : Finds command table handed left log.left result after.found
+      (shelf (save_name task) before.kept before.failed_keeps)
+      (shelf (save_name task) after.kept after.failed_keeps) result
+  pub finds : Finds task table handed left log.left result after.found
 
--- the state may be kept under the name that the command has for it, if any, by a run of these files
-abbrev pub IsStateAdmitted : (Text → Files → Option Bool) → Files → Command → Type 0
-IsStateAdmitted admits files command = IfSome (save_name command) (λ name. IsAdmitted admits name files)
+-- the state may be kept under the name that the command has for it, if any, by a run of its files
+abbrev pub IsStateAdmitted : (Text → Files → Option Bool) → Command → Type 0
+IsStateAdmitted admits command = IfSome (save_name command.task) (λ name. IsAdmitted admits name command.files)
 
 -- the command has a name for its state, under which it may be refused
-abbrev pub IsStateRefused : (Text → Files → Option Bool) → Files → Command → Type 0
-IsStateRefused admits files command =
-    IsSome (save_name command) × IfSome (save_name command) (λ name. MayBeRefused admits name files)
+abbrev pub IsStateRefused : (Text → Files → Option Bool) → Command → Type 0
+IsStateRefused admits command =
+    IsSome (save_name command.task) × IfSome (save_name command.task) (λ name. MayBeRefused admits name command.files)
 
 -- The command is performed by the bytes of its files, over its log, and its state is kept under the name that it has
 -- for it, which was admitted; none other was refused.
-pub record IsPerformed (w : World) (files : Files) (command : Command) (before after : Outside)
-    (result : Result Ending Fault) : Type 0 where
-  pub admitted : IsStateAdmitted before.admits files command
-  pub opened : Opens before.files after.files (all_files files)
+pub record IsPerformed (w : World) (command : Command) (before after : Outside) (result : Result Ending Fault)
+    : Type 0 where
+  pub admitted : IsStateAdmitted before.admits command
+  pub opened : Opens before.files after.files (all_files command.files)
   pub table : Option (List ℕ)
-  pub is_table : IsOfFile w files.table table
+  pub is_table : IsOfFile w command.files.table table
   pub handed : Option (List ℕ)
-  pub is_state : IsOfFile w files.state handed
-  pub over : IsPerformedOver command (table_bytes table) handed (bytes_named w files.log) before after result
+  pub is_state : IsOfFile w command.files.state handed
+  pub over : IsPerformedOver command.task (table_bytes table) handed (bytes_named w command.files.log) before after result
   pub none_refused : after.failed_admissions ≡ before.failed_admissions
 
 -- The state can't be kept under the name that the command has for it, since that would harm a file that is read: what
 -- keeps a state counts that it has not admitted one, and all else is as it was.
-pub record IsNotAdmitted (files : Files) (command : Command) (before after : Outside) (fault : Fault) : Type 0 where
-  pub refused : IsStateRefused before.admits files command
+pub record IsNotAdmitted (command : Command) (before after : Outside) (fault : Fault) : Type 0 where
+  pub refused : IsStateRefused before.admits command
   pub save : fault ≡ Save
   pub failed : HasFailed before.failed_admissions after.failed_admissions
   pub else_same : after ≡ record before { failed_admissions = after.failed_admissions }
 
 -- It is not begun, though its state is admitted, since a file is not read, which is noted where memory was refused; and
 -- nothing is printed or kept.
-pub record IsNotBegun (w : World) (files : Files) (command : Command) (before after : Outside) (fault : Fault)
-    : Type 0 where
+pub record IsNotBegun (w : World) (command : Command) (before after : Outside) (fault : Fault) : Type 0 where
   pub read : Reading
-  pub admitted : IsStateAdmitted before.admits files command
-  pub unread : IsUnread w files read before.files after.files fault
+  pub admitted : IsStateAdmitted before.admits command
+  pub unread : IsUnread w command.files read before.files after.files fault
   pub else_same : after ≡ record before { files = after.files; found = noted fault read before.found }
 
 -- it is performed; or not begun; or its state is not admitted
-abbrev pub RunsCommand : World → Files → Command → Outside → Outside → Result Ending Fault → Type 0
-RunsCommand w files command before after (Ok ending) = IsPerformed w files command before after (Ok ending)
-RunsCommand w files command before after (Err fault) =
-    IsPerformed w files command before after (Err fault)
-    ⊎ IsNotBegun w files command before after fault
-    ⊎ IsNotAdmitted files command before after fault
+abbrev pub RunsCommand : World → Command → Outside → Outside → Result Ending Fault → Type 0
+RunsCommand w command before after (Ok ending) = IsPerformed w command before after (Ok ending)
+RunsCommand w command before after (Err fault) =
+    IsPerformed w command before after (Err fault)
+    ⊎ IsNotBegun w command before after fault
+    ⊎ IsNotAdmitted command before after fault
 
 -- ---- from the words that were typed to the status
 
@@ -303,83 +300,66 @@ Shows text before after result = MatchResult result
     (λ ending. (ending ≡ ending_of_text) × IsWritten before after text)
     (λ fault. (fault ≡ Write) × IsCutOff before after text)
 
--- What words ask for is done. An interface that is none is told before any file is opened.
-abbrev pub DoesAsked : World → Result Request Fault → Outside → Outside → Result Ending Fault → Type 0
-DoesAsked w (Ok (to.Help text)) before after result =
+-- What is asked for is done. Where that is refused, as an interface that is none is, all is as it was.
+abbrev pub DoesAsked : World → Request → Outside → Outside → Result Ending Fault → Type 0
+DoesAsked w (to.Help text) before after result =
     Shows text before.output after.output result × (after ≡ record before { output = after.output })
-DoesAsked w (Ok (to.Command files command)) before after result = RunsCommand w files command before after result
-DoesAsked w (Err fault) before after result = (result ≡ Err fault) × (after ≡ before)
+DoesAsked w (to.Command command) before after result = RunsCommand w command before after result
+DoesAsked w (to.Refused fault lines) before after result = (result ≡ Err fault) × (after ≡ before)
 
--- what was typed asks for these words
-abbrev pub AsksFor : Shown → World → Words → Type 0
-AsksFor shown w words = IfSome w.typed (λ typed. IsAskedBy shown typed words)
-
--- why no words come of what was typed
-abbrev pub IsUnasked : World → Fault → Type 0
-IsUnasked w WordsFault = IfSome w.typed IsRefused
-IsUnasked w Memory = Unit {0}
-IsUnasked w _ = ⊥
-
--- what was typed is done; or it is refused, and all is as it was
-abbrev pub DoesTyped : Shown → World → Outside → Outside → Result Ending Fault → Type 0
-DoesTyped shown w before after result =
-    ((words : Words) × AsksFor shown w words × DoesAsked w (asked words) before after result)
-    ⊎ ((fault : Fault) × (result ≡ Err fault) × IsUnasked w fault × (after ≡ before))
+-- what was typed asks for this
+abbrev pub AsksFor : Shown → World → Request → Type 0
+AsksFor shown w request = IsOfWords request × IfSome w.typed (IsAsked shown request)
 
 -- this is whether standard error is a terminal
 abbrev pub IsTerminal : World → Bool → Type 0
 IsTerminal w is_terminal = IfSome w.terminal (λ known. is_terminal ≡ known)
 
--- the files and the command that were asked for; none, and `plain`, where a text was, or nothing that can be done
-abbrev pub no_files : Files
-no_files = record { table = None; state = None; log = None }
-
-abbrev pub files_of : Result Request Fault → Files
-files_of (Ok (to.Command files command)) = files
-files_of _ = no_files
-
-abbrev pub command_of : Result Request Fault → Command
-command_of (Ok (to.Command files command)) = command
-command_of _ = Plain
+-- the command that was asked for, if one was
+abbrev pub command_of : Request → Option Command
+command_of (to.Command command) = Some command
+command_of _ = None
 
 -- The reason of a fault, where it is known: of a file that can't be read why that one fails and no other, of the output
 -- why that does, of a state why it is not kept.
-abbrev pub reason_of : World → (Text → Option Reason) → Files → Command → Fault → Option Reason
-reason_of w unkept files command TableFile = w.unread files.table
-reason_of w unkept files command StateFile = w.unread files.state
-reason_of w unkept files command Read = w.unread files.log
-reason_of w unkept files command Write = w.unwritten
-reason_of w unkept files command Save = option_and_then unkept (save_name command)
-reason_of w unkept files command _ = None
+abbrev pub reason_of : World → (Text → Option Reason) → Option Command → Fault → Option Reason
+reason_of w unkept command TableFile = option_and_then (λ c. w.unread c.files.table) command
+reason_of w unkept command StateFile = option_and_then (λ c. w.unread c.files.state) command
+reason_of w unkept command Read = option_and_then (λ c. w.unread c.files.log) command
+reason_of w unkept command Write = w.unwritten
+reason_of w unkept command Save = option_and_then unkept (save_of command)
+reason_of w unkept command _ = None
 
 -- that reason, or none; other faults have none
-abbrev pub HasReason : World → (Text → Option Reason) → Files → Command → Fault → Option Reason → Type 0
-HasReason w unkept files command fault reason =
-    IsAsKnown (reason_of w unkept files command fault) reason × (has_reason fault ≡ false → reason ≡ None)
+abbrev pub HasReason : World → (Text → Option Reason) → Option Command → Fault → Option Reason → Type 0
+HasReason w unkept command fault reason =
+    IsAsKnown (reason_of w unkept command fault) reason × (has_reason fault ≡ false → reason ≡ None)
 
 -- the sentence of a fault, by the names that were typed, for its reason and with what was found out
-abbrev pub IsSentenceOf : Shown → World → (Text → Option Reason) → Option Found → Fault → List ℕ → Type 0
-IsSentenceOf shown w unkept found fault text =
-    (words : Words) × AsksFor shown w words
-    × ((reason : Option Reason) × HasReason w unkept (files_of (asked words)) (command_of (asked words)) fault reason
-    × (text ≡ fault_sentence (files_of (asked words)) (command_of (asked words)) fault reason found))
+abbrev pub IsSentenceOf : World → (Text → Option Reason) → Option Command → Option Found → Fault → List ℕ → Type 0
+IsSentenceOf w unkept command found fault text =
+    (reason : Option Reason) × HasReason w unkept command fault reason
+    × (text ≡ fault_sentence command fault reason found)
 
--- This may stand before the line of a fault: on a terminal what is said of what was typed, where the words are refused,
--- and else the sentence of the fault; off it nothing.
-abbrev pub StandsBefore : Shown → World → (Text → Option Reason) → Option Found → Fault → List ℕ → Type 0
-StandsBefore shown w unkept found fault text =
+-- what is said of a fault: the lines that are said of refused words, else its sentence
+abbrev pub IsToldOf : World → (Text → Option Reason) → Request → Option Found → Fault → List ℕ → Type 0
+IsToldOf w unkept (to.Refused refused (Some lines)) found fault text = text ≡ lines.items
+IsToldOf w unkept request found fault text = IsSentenceOf w unkept (command_of request) found fault text
+
+-- This may stand before the line of a fault: on a terminal what is said of it; off it nothing.
+abbrev pub StandsBefore : World → (Text → Option Reason) → Request → Option Found → Fault → List ℕ → Type 0
+StandsBefore w unkept request found fault text =
     (is_terminal : Bool) × IsTerminal w is_terminal
-    × (IsBeforeLine (option_and_then (said_of shown) w.typed) is_terminal fault text
-    ⊎ ((is_terminal ≡ true) × IsSentenceOf shown w unkept found fault text))
+    × ((text ≡ []) ⊎ ((is_terminal ≡ true) × IsToldOf w unkept request found fault text))
 
 -- what is said of a fault is written behind this text, whole unless the place fails
 abbrev pub WritesFault : List ℕ → Fault → Place → Place → Type 0
 WritesFault stood fault before after =
     (text : List ℕ) × IsFaultMessage stood fault text × IsWrittenUnlessFailed before after text
 
-abbrev pub ReportsFault : Shown → World → (Text → Option Reason) → Option Found → Fault → Place → Place → Type 0
-ReportsFault shown w unkept found fault before after =
-    (stood : List ℕ) × StandsBefore shown w unkept found fault stood × WritesFault stood fault before after
+abbrev pub ReportsFault : World → (Text → Option Reason) → Request → Option Found → Fault → Place → Place → Type 0
+ReportsFault w unkept request found fault before after =
+    (stood : List ℕ) × StandsBefore w unkept request found fault stood × WritesFault stood fault before after
 
 -- On a terminal it is said behind all that a log has another form, unless the place fails; off it nothing is.
 abbrev pub HintsOn : Bool → Place → Place → Type 0
@@ -395,17 +375,23 @@ Hints w true before after = HintsOnTerminal w before after
 Hints w false before after = after ≡ before
 
 -- the status of a result, and what is said of it
-abbrev pub Concludes : Shown → World → Result Ending Fault → Outside → Outside → ℕ → Type 0
-Concludes shown w (Ok ending) before after status =
+abbrev pub Concludes : World → Request → Result Ending Fault → Outside → Outside → ℕ → Type 0
+Concludes w request (Ok ending) before after status =
     (status ≡ ending.status) × Hints w ending.has_other_form before.errors after.errors
     × (after ≡ record before { errors = after.errors })
-Concludes shown w (Err fault) before after status =
-    (status ≡ status_of fault) × ReportsFault shown w before.unkept before.found fault before.errors after.errors
+Concludes w request (Err fault) before after status =
+    (status ≡ status_of fault) × ReportsFault w before.unkept request before.found fault before.errors after.errors
     × (after ≡ record before { errors = after.errors })
 
--- The program: what was typed is done, and the status is that of it.
-pub record RunsTyped (shown : Shown) (w : World) (before after : Outside) (status : ℕ) : Type 0 where
+-- what is asked for is done, and the status is that of it
+pub record RunsRequest (w : World) (request : Request) (before after : Outside) (status : ℕ) : Type 0 where
   pub result : Result Ending Fault
   pub done : Outside
-  pub does : DoesTyped shown w before done result
-  pub concludes : Concludes shown w result done after status
+  pub does : DoesAsked w request before done result
+  pub concludes : Concludes w request result done after status
+
+-- The program: what was typed is done.
+pub record RunsTyped (shown : Shown) (w : World) (before after : Outside) (status : ℕ) : Type 0 where
+  pub request : Request
+  pub asks : AsksFor shown w request
+  pub runs : RunsRequest w request before after status

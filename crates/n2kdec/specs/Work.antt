@@ -15,8 +15,8 @@ use Rattle.n2k_run.specs.declared.part.Part.{Part}
 use Rattle.n2k_run.specs.declared.part.PartFault.{PartFault}
 use Rattle.n2k_run.specs.declared.part.PartFault.TheVariants as part_faults
 use Rattle.n2kdec.specs.Fault.{fault_of_run}
-use Rattle.n2kdec.specs.declared.asked.Command.{Command}
-use Rattle.n2kdec.specs.declared.asked.Command.TheVariants.{Plain, Decode, Frames}
+use Rattle.n2kdec.specs.declared.asked.Task.{Task}
+use Rattle.n2kdec.specs.declared.asked.Task.TheVariants.{Plain, Decode, Frames}
 use Rattle.n2kdec.specs.declared.fault.Fault.{Fault}
 use Rattle.n2kdec.specs.declared.fault.Fault.TheVariants.{Table, State, Memory}
 use Rattle.n2kdec.specs.declared.work.Stop.{Stop}
@@ -92,7 +92,7 @@ ByTable bytes before after (Err stop) Does =
     RefusesTable (faults bytes) before after stop ⊎ ((faults bytes ≡ []) × Does (table bytes))
 
 -- What a command does: its run, with its options or its interface, by the table and from the state of these bytes.
-abbrev pub Works : Command → List ℕ → Option (List ℕ) → Devices → Devices → Result Part Stop → Type 0
+abbrev pub Works : Task → List ℕ → Option (List ℕ) → Devices → Devices → Result Part Stop → Type 0
 Works Plain bytes handed before after result = DoesPlain before after result
 Works (Decode o save) bytes handed before after result =
     ByTable bytes before after result (λ t. DoesDecode t o handed before after result)

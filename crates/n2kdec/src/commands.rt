@@ -6,7 +6,7 @@ ghost use Rattle.n2kdec.specs.Commands.{HasStatus, IsRefusal, Performs, place, s
 ghost use Rattle.n2kdec.specs.Found.{Finds};
 ghost use Rattle.n2kdec.specs.Inner.Closing.{Closes, ClosesPart, SumsUp};
 
-use crate::asked::Command;
+use crate::asked::Task;
 use crate::ending::{Ending, ending_of};
 use crate::fault::Fault;
 use crate::found::found_in;
@@ -29,19 +29,19 @@ fn sum_up<E: Sink>(counts: &Counts, errors: &mut E) -> Result<Ending, Fault>
 /// Keeps the state of a part, where the command has a name for it, and then writes its summary, also where the state
 /// can't be kept. Of two faults the first counts.
 fn save_and_sum_up<K: Keeper, E: Sink>(
-    command: &Command,
+    task: &Task,
     part: &Part,
     keeper: &mut K,
     errors: &mut E,
 ) -> Result<Ending, Fault>
-    ensures closes { Closes (shelf (save_name command.now) (K.kept keeper.old) (K.failed_keeps keeper.old))
-        (shelf (save_name command.now) (K.kept keeper.new) (K.failed_keeps keeper.new))
+    ensures closes { Closes (shelf (save_name task.now) (K.kept keeper.old) (K.failed_keeps keeper.old))
+        (shelf (save_name task.now) (K.kept keeper.new) (K.failed_keeps keeper.new))
         (place (E.contents errors.old) (E.failed_calls errors.old))
         (place (E.contents errors.new) (E.failed_calls errors.new)) part.now.state.items part.now.counts result }
     ensures admissions { K.failed_admissions keeper.new ≡ K.failed_admissions keeper.old }
 {
-    let saved = match command {
-        Command::Decode {
+    let saved = match task {
+        Task::Decode {
             save: Some(name),
             ..
         } => keeper.keep(name.as_str(), &part.state, errors),
@@ -55,13 +55,13 @@ fn save_and_sum_up<K: Keeper, E: Sink>(
 /// What follows the work of a command. Where it stands after whole lines it is summed up, and its state is kept unless
 /// it stands at the limit of lines.
 fn close<K: Keeper, E: Sink>(
-    command: &Command,
+    task: &Task,
     ended: Result<Part, Stop>,
     keeper: &mut K,
     errors: &mut E,
 ) -> Result<Ending, Fault>
-    ensures closes { ClosesPart (shelf (save_name command.now) (K.kept keeper.old) (K.failed_keeps keeper.old))
-        (shelf (save_name command.now) (K.kept keeper.new) (K.failed_keeps keeper.new))
+    ensures closes { ClosesPart (shelf (save_name task.now) (K.kept keeper.old) (K.failed_keeps keeper.old))
+        (shelf (save_name task.now) (K.kept keeper.new) (K.failed_keeps keeper.new))
         (place (E.contents errors.old) (E.failed_calls errors.old))
         (place (E.contents errors.new) (E.failed_calls errors.new)) ended result }
     ensures admissions { K.failed_admissions keeper.new ≡ K.failed_admissions keeper.old }
@@ -69,12 +69,12 @@ fn close<K: Keeper, E: Sink>(
     ensures at_most_one { IfOk result (λ ending. ending.status ≤ 1) }
 {
     match ended {
-        Ok(part) => save_and_sum_up(command, &part, keeper, errors),
+        Ok(part) => save_and_sum_up(task, &part, keeper, errors),
         Err(stop) => {
             match (&stop.part, stop.fault) {
                 (None, _) => {}
                 (Some(part), Fault::Read) => {
-                    let _ = save_and_sum_up(command, part, keeper, errors);
+                    let _ = save_and_sum_up(task, part, keeper, errors);
                 }
                 (Some(part), _) => {
                     let _ = sum_up(&part.counts, errors);
@@ -99,7 +99,7 @@ fn close<K: Keeper, E: Sink>(
 /// about a fault goes to the outlets, too.
 pub fn run_command<R: Source, W: Sink, E: Sink, K: Keeper>(
     alloc: Global,
-    command: &Command,
+    task: &Task,
     table: &[u8],
     state: Option<&[u8]>,
     log: &mut R,
@@ -107,14 +107,14 @@ pub fn run_command<R: Source, W: Sink, E: Sink, K: Keeper>(
 ) -> Result<Ending, Fault>
     ensures performs { let before = seen R.Source W.Sink E.Sink log.old outlets.old.output outlets.old.errors in
         let after = seen R.Source W.Sink E.Sink log.new outlets.new.output outlets.new.errors in
-        Performs command.now table.now (option_map (λ bytes. bytes.now) state.entry) before after
-        (shelf (save_name command.now) (K.kept outlets.old.keeper) (K.failed_keeps outlets.old.keeper))
-        (shelf (save_name command.now) (K.kept outlets.new.keeper) (K.failed_keeps outlets.new.keeper)) result }
+        Performs task.now table.now (option_map (λ bytes. bytes.now) state.entry) before after
+        (shelf (save_name task.now) (K.kept outlets.old.keeper) (K.failed_keeps outlets.old.keeper))
+        (shelf (save_name task.now) (K.kept outlets.new.keeper) (K.failed_keeps outlets.new.keeper)) result }
     ensures admissions { K.failed_admissions outlets.new.keeper ≡ K.failed_admissions outlets.old.keeper }
-    ensures found { Finds command.now table.now (option_map (λ bytes. bytes.now) state.entry) (R.remaining log.old)
+    ensures found { Finds task.now table.now (option_map (λ bytes. bytes.now) state.entry) (R.remaining log.old)
         (R.remaining log.new) result outlets.new.found }
     ensures status { IfOk result (λ ending. IfSome (R.remaining log.old)
-        (λ all. HasStatus command.now table.now (option_map (λ bytes. bytes.now) state.entry) all ending.status)) }
+        (λ all. HasStatus task.now table.now (option_map (λ bytes. bytes.now) state.entry) all ending.status)) }
     ensures at_most_one { IfOk result (λ ending. ending.status ≤ 1) }
     ensures untouched { IfErr result (λ fault. IsRefusal fault
         → (log.new ≡ log.old) × (outlets.new.output ≡ outlets.old.output) × (outlets.new.errors ≡ outlets.old.errors)
@@ -122,13 +122,13 @@ pub fn run_command<R: Source, W: Sink, E: Sink, K: Keeper>(
 {
     let ended = work(
         alloc,
-        command,
+        task,
         table,
         state,
         log,
         &mut outlets.output,
         &mut outlets.errors,
     );
-    outlets.found = found_in(alloc, command, table, state, &ended);
-    close(command, ended, &mut outlets.keeper, &mut outlets.errors)
+    outlets.found = found_in(alloc, task, table, state, &ended);
+    close(task, ended, &mut outlets.keeper, &mut outlets.errors)
 }

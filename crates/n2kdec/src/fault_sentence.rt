@@ -2,11 +2,11 @@
 ghost use Rattle.std.specs.Prelude.{◌≡◌, ◌++◌, IfOk, OnOk, decimal, option_map};
 ghost use Rattle.n2kdec.specs.FaultSentence.{advice_of, fault_sentence, fault_words};
 ghost use Rattle.n2kdec.specs.FaultSentence.{line_of, named, save_advice, state_advice, state_words, subject_of};
-ghost use Rattle.n2kdec.specs.FaultSentence.{log_name, wanting};
+ghost use Rattle.n2kdec.specs.FaultSentence.{log_of, save_of, state_of, table_of, wanting};
 ghost use Rattle.n2kdec.specs.FaultSentence.{found_text, lines_text, some_lines_text, table_advice, table_words};
 ghost use Rattle.n2kdec.specs.FaultSentence.{tables_text, told_of, windows_text, words_of};
 
-use crate::asked::{Command, Files};
+use crate::asked::{Command, Task};
 use crate::escape::push_escaped;
 use crate::fault::Fault;
 use crate::found::{Found, Reading};
@@ -134,14 +134,19 @@ fn push_lines(lines: u64, text: &mut Vec<u8>) -> Result<(), AllocError>
 }
 
 /// Appends what was found out about a fault.
-fn push_found(files: &Files, found: &Option<Found>, text: &mut Vec<u8>) -> Result<(), AllocError>
-    ensures { OnOk result (text.new.items ≡ text.old.items ++ found_text files.now found.now) }
+fn push_found(
+    command: Option<&Command>,
+    found: &Option<Found>,
+    text: &mut Vec<u8>,
+) -> Result<(), AllocError>
+    ensures { OnOk result (text.new.items ≡ text.old.items
+        ++ found_text (option_map (λ c. c.now) command.entry) found.now) }
 {
     match found {
         None => Ok(()),
         Some(Found::Tables(saved, table)) => push_tables(
             saved.as_str(),
-            text_of(&files.table).unwrap_or(""),
+            table_of(command).unwrap_or(""),
             table.as_str(),
             text,
         ),
@@ -208,46 +213,67 @@ fn text_of(word: &Option<Word>) -> Option<&str>
     Some(word.as_ref()?.as_str())
 }
 
-/// The log as it is called.
-fn log_name(log: &Option<Word>) -> &str
-    ensures { result.now ≡ log_name log.now }
+/// The name of the table of a command.
+fn table_of(command: Option<&Command>) -> Option<&str>
+    ensures { option_map (λ text. text.now) result ≡ table_of (option_map (λ c. c.now) command.entry) }
 {
-    text_of(log).unwrap_or("standard input")
+    text_of(&command?.files.table)
+}
+
+/// That of the state that it goes on from.
+fn state_of(command: Option<&Command>) -> Option<&str>
+    ensures { option_map (λ text. text.now) result ≡ state_of (option_map (λ c. c.now) command.entry) }
+{
+    text_of(&command?.files.state)
+}
+
+/// Its log as it is called.
+fn log_of(command: Option<&Command>) -> Option<&str>
+    ensures { option_map (λ text. text.now) result ≡ log_of (option_map (λ c. c.now) command.entry) }
+{
+    Some(text_of(&command?.files.log).unwrap_or("standard input"))
+}
+
+/// The name of the file that gets the state after it.
+fn save_of(command: Option<&Command>) -> Option<&str>
+    ensures { option_map (λ text. text.now) result ≡ save_of (option_map (λ c. c.now) command.entry) }
+{
+    match &command?.task {
+        Task::Decode { save, .. } => text_of(save),
+        _ => None,
+    }
 }
 
 /// What was read when memory was refused, and else the words that were typed.
-fn wanting<'a>(files: &'a Files, found: &Option<Found>) -> Option<&'a str>
-    ensures { option_map (λ text. text.now) result ≡ wanting files.now found.now }
+fn wanting<'a>(command: Option<&'a Command>, found: &Option<Found>) -> Option<&'a str>
+    ensures { option_map (λ text. text.now) result ≡ wanting (option_map (λ c. c.now) command.entry) found.now }
 {
     match found {
-        Some(Found::Memory(Reading::Table)) => text_of(&files.table),
-        Some(Found::Memory(Reading::State)) => text_of(&files.state),
-        Some(Found::Memory(Reading::Log)) => Some(log_name(&files.log)),
+        Some(Found::Memory(Reading::Table)) => table_of(command),
+        Some(Found::Memory(Reading::State)) => state_of(command),
+        Some(Found::Memory(Reading::Log)) => log_of(command),
         _ => Some("the command line"),
     }
 }
 
 /// What a fault is of: the name that was typed, or that of a stream.
 fn subject_of<'a>(
-    files: &'a Files,
-    command: &'a Command,
+    command: Option<&'a Command>,
     fault: Fault,
     found: &Option<Found>,
 ) -> Option<&'a str>
-    ensures { option_map (λ text. text.now) result ≡ subject_of files.now command.now fault found.now }
+    ensures { option_map (λ text. text.now) result
+        ≡ subject_of (option_map (λ c. c.now) command.entry) fault found.now }
 {
     match fault {
         Fault::Words | Fault::Report => None,
         Fault::Interface => Some("--candump"),
-        Fault::TableSize | Fault::Table(_) | Fault::TableFile => text_of(&files.table),
-        Fault::StateSize | Fault::State(_) | Fault::StateFile => text_of(&files.state),
-        Fault::Read | Fault::Lines => Some(log_name(&files.log)),
+        Fault::TableSize | Fault::Table(_) | Fault::TableFile => table_of(command),
+        Fault::StateSize | Fault::State(_) | Fault::StateFile => state_of(command),
+        Fault::Read | Fault::Lines => log_of(command),
         Fault::Write => Some("standard output"),
-        Fault::Memory => wanting(files, found),
-        Fault::Save => match command {
-            Command::Decode { save, .. } => text_of(save),
-            _ => None,
-        },
+        Fault::Memory => wanting(command, found),
+        Fault::Save => save_of(command),
     }
 }
 
@@ -271,39 +297,38 @@ fn line_of(alloc: Global, text: &[u8]) -> Result<Vec<u8>, AllocError>
 /// What is said of a subject: what is wrong with it, what was found out, and what to do.
 fn told_of(
     alloc: Global,
-    files: &Files,
+    command: Option<&Command>,
     subject: &str,
     fault: Fault,
     reason: &Option<Reason>,
     found: &Option<Found>,
 ) -> Result<Vec<u8>, AllocError>
-    ensures { IfOk result (λ text. text.items ≡ told_of files.now subject.now fault reason.now found.now) }
+    ensures { IfOk result (λ text. text.items ≡ told_of (option_map (λ c. c.now) command.entry) subject.now fault reason.now found.now) }
 {
     let mut text = named(subject).as_bytes().to_vec(alloc)?;
     text.extend_from_slice(b": ")?;
     text.extend_from_slice(words_of(fault, reason).as_bytes())?;
-    push_found(files, found, &mut text)?;
+    push_found(command, found, &mut text)?;
     text.extend_from_slice(advice_of(fault, reason).as_bytes())?;
     Ok(text)
 }
 
-/// What is said of a fault of a command over these files, for this reason and with what was found out: one line with
+/// What is said of a fault of a command, or of none, for this reason and with what was found out: one line with
 /// its LF, in which control characters are escaped; nothing where it is of no file and no stream.
 pub fn fault_sentence(
     alloc: Global,
-    files: &Files,
-    command: &Command,
+    command: Option<&Command>,
     fault: Fault,
     reason: &Option<Reason>,
     found: &Option<Found>,
 ) -> Result<Vec<u8>, AllocError>
     ensures { IfOk result (λ text.
-        text.items ≡ fault_sentence files.now command.now fault reason.now found.now) }
+        text.items ≡ fault_sentence (option_map (λ c. c.now) command.entry) fault reason.now found.now) }
 {
-    match subject_of(files, command, fault, found) {
+    match subject_of(command, fault, found) {
         Some(subject) => line_of(
             alloc,
-            &told_of(alloc, files, subject, fault, reason, found)?,
+            &told_of(alloc, command, subject, fault, reason, found)?,
         ),
         None => Ok(Vec::new(alloc)),
     }

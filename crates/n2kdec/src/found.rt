@@ -7,7 +7,7 @@ ghost use Rattle.sha2.specs.Sha256.{sha256};
 ghost use Rattle.n2k_join.specs.Resumed.{parsed};
 ghost use Rattle.n2kdec.specs.Found.{FoundIn, difference, noted, number_in, tables, text_in, windows};
 
-use crate::asked::Command;
+use crate::asked::Task;
 use crate::fault::Fault;
 use crate::words::Word;
 use crate::work::Stop;
@@ -94,16 +94,16 @@ fn windows(alloc: Global, window: u32, state: &[u8]) -> Option<Found>
 /// What a state is of that `decode` refuses for it.
 fn difference(
     alloc: Global,
-    command: &Command,
+    task: &Task,
     table: &[u8],
     state: Option<&[u8]>,
     fault: StateFault,
 ) -> Option<Found>
     ensures { IfSome result (λ found.
-        difference command.now table.now (option_map (λ bytes. bytes.now) state.entry) fault ≡ Some found) }
+        difference task.now table.now (option_map (λ bytes. bytes.now) state.entry) fault ≡ Some found) }
 {
-    match command {
-        Command::Decode { options, .. } => match fault {
+    match task {
+        Task::Decode { options, .. } => match fault {
             StateFault::TableDiffers => tables(alloc, table, state?),
             StateFault::WindowDiffers => windows(alloc, options.window.get(), state?),
             _ => None,
@@ -124,18 +124,18 @@ pub fn note_memory(fault: Fault, reading: Reading, found: &mut Option<Found>)
 /// What is found out about what stopped a command, which was handed these bytes of a table and of a state.
 pub fn found_in(
     alloc: Global,
-    command: &Command,
+    task: &Task,
     table: &[u8],
     state: Option<&[u8]>,
     ended: &Result<Part, Stop>,
 ) -> Option<Found>
-    ensures { FoundIn command.now table.now (option_map (λ bytes. bytes.now) state.entry) ended.now result }
+    ensures { FoundIn task.now table.now (option_map (λ bytes. bytes.now) state.entry) ended.now result }
 {
     match ended {
         Ok(_) => None,
         Err(stop) => match stop.fault {
             Fault::Read => Some(Found::Lines(stop.lines?)),
-            Fault::State(fault) => difference(alloc, command, table, state, fault),
+            Fault::State(fault) => difference(alloc, task, table, state, fault),
             Fault::Memory => Some(Found::Memory(Reading::Log)),
             _ => None,
         },

@@ -6,25 +6,23 @@ ghost use Rattle.n2k_run.specs.Device.{HasFailed};
 ghost use Rattle.n2kdec.specs.Asked.{save_name};
 ghost use Rattle.n2kdec.specs.Commands.{place};
 ghost use Rattle.n2kdec.specs.FaultSentence.{IsAsKnown};
-ghost use Rattle.n2kdec.specs.Machine.{AsksFor, DoesTyped, HasReason, IsOfFile, IsSentenceOf, IsStateAdmitted};
-ghost use Rattle.n2kdec.specs.Machine.{IsStateRefused, IsUnasked, OpensFile, command_of, files_of};
-ghost use Rattle.n2kdec.specs.Machine.{ReadsFile, RunsCommand, RunsTyped, Shows, StandsBefore, bytes_named};
-ghost use Rattle.n2kdec.specs.Machine.{Hints, HintsOnTerminal, outside};
-ghost use Rattle.n2kdec.specs.Parser.{AreLinesOf, said_of};
+ghost use Rattle.n2kdec.specs.Machine.{AsksFor, DoesAsked, HasReason, Hints, HintsOnTerminal, IsOfFile, IsSentenceOf};
+ghost use Rattle.n2kdec.specs.Machine.{IsStateAdmitted, IsStateRefused, IsToldOf, OpensFile, ReadsFile, RunsCommand, RunsRequest, RunsTyped, Shows};
+ghost use Rattle.n2kdec.specs.Machine.{StandsBefore, bytes_named, outside};
 
-use crate::asked::{Command, Files, Request, asked};
-use crate::command_line::words;
+use crate::asked::{Command, Request, Task};
+use crate::command_line::request;
 use crate::commands::run_command;
 use crate::ending::{Ending, hint};
 use crate::fault::{Fault, status};
-use crate::fault_message::{lines_of, write_fault, write_text};
+use crate::fault_message::{write_fault, write_text};
 use crate::fault_sentence::fault_sentence;
 use crate::found::{Reading, note_memory};
 use crate::keeper::Keeper;
 use crate::machine::{Machine, Outlets};
 use crate::parser::Parser;
 use crate::reason::Reason;
-use crate::words::{Word, Words};
+use crate::words::Word;
 use n2k_run::{BytesFault, Sink, read_bytes, write_all};
 use std::alloc::{AllocError, Global};
 use std::process::ExitCode;
@@ -42,17 +40,17 @@ fn texts_of(alloc: Global, words: &[String]) -> Result<Vec<&str>, AllocError>
     Ok(all)
 }
 
-/// What the words that were typed ask for.
-fn typed_words<P: Parser, M: Machine>(
-    alloc: Global,
-    parser: &P,
-    machine: &M,
-) -> Result<Words, Fault>
-    ensures asked { IfOk result (AsksFor (P.shown parser.now) (M.world machine.now)) }
-    ensures unasked { IfErr result (IsUnasked (M.world machine.now)) }
+/// What was typed asks for this.
+fn typed_request<P: Parser, M: Machine>(alloc: Global, parser: &P, machine: &M) -> Request
+    ensures { AsksFor (P.shown parser.now) (M.world machine.now) result }
 {
-    let typed = machine.typed(alloc)?;
-    words(alloc, parser, &texts_of(alloc, &typed)?)
+    match machine.typed(alloc) {
+        Ok(typed) => match texts_of(alloc, &typed) {
+            Ok(texts) => request(alloc, parser, &texts),
+            Err(_) => Request::Refused(Fault::Memory, None),
+        },
+        Err(fault) => Request::Refused(fault, None),
+    }
 }
 
 /// The bytes of the file of this name, where there is a name; or the fault of one that is too large, of one that can't
@@ -103,20 +101,19 @@ fn open_log<M: Machine>(machine: &mut M, name: &Option<Word>) -> Result<M::File,
 fn run_on_files<M: Machine, K: Keeper>(
     alloc: Global,
     machine: &mut M,
-    files: &Files,
     command: &Command,
     outlets: &mut Outlets<M::Output, M::Errors, K>,
 ) -> Result<Ending, Fault>
-    requires { IsStateAdmitted K.admits files.now command.now }
+    requires { IsStateAdmitted K.admits command.now }
     ensures same { M.world machine.new ≡ M.world machine.old }
-    ensures runs { RunsCommand (M.world machine.old) files.now command.now
+    ensures runs { RunsCommand (M.world machine.old) command.now
         (outside M.Output.Sink M.Errors.Sink K.Keeper (M.files machine.old) outlets.old)
         (outside M.Output.Sink M.Errors.Sink K.Keeper (M.files machine.new) outlets.new) result }
 {
     let table = match read_file(
         alloc,
         machine,
-        &files.table,
+        &command.files.table,
         Fault::TableSize,
         Fault::TableFile,
     ) {
@@ -129,7 +126,7 @@ fn run_on_files<M: Machine, K: Keeper>(
     let state = match read_file(
         alloc,
         machine,
-        &files.state,
+        &command.files.state,
         Fault::StateSize,
         Fault::StateFile,
     ) {
@@ -139,7 +136,7 @@ fn run_on_files<M: Machine, K: Keeper>(
             return Err(fault);
         }
     };
-    let mut log = match open_log(machine, &files.log) {
+    let mut log = match open_log(machine, &command.files.log) {
         Ok(log) => log,
         Err(fault) => {
             note_memory(fault, Reading::Log, &mut outlets.found);
@@ -148,25 +145,28 @@ fn run_on_files<M: Machine, K: Keeper>(
     };
     let table = table.unwrap_or(Vec::new(alloc));
     let state = state.as_ref().map(|bytes| bytes.as_slice());
-    let answer = run_command(alloc, command, &table, state, &mut log, outlets);
+    let answer = run_command(alloc, &command.task, &table, state, &mut log, outlets);
     machine.close(log);
     answer
 }
 
 /// Asks whether the state may be kept under the name that the command has for it, where it has one.
-fn admit<K: Keeper>(files: &Files, command: &Command, keeper: &mut K) -> Result<(), Fault>
+fn admit<K: Keeper>(command: &Command, keeper: &mut K) -> Result<(), Fault>
     ensures same { K.kept keeper.new ≡ K.kept keeper.old }
     ensures keeps { K.failed_keeps keeper.new ≡ K.failed_keeps keeper.old }
-    ensures admitted { OnOk result (IsStateAdmitted K.admits files.now command.now) }
+    ensures admitted { OnOk result (IsStateAdmitted K.admits command.now) }
     ensures none_failed { OnOk result (K.failed_admissions keeper.new ≡ K.failed_admissions keeper.old) }
-    ensures refused { IfErr result (λ fault. (fault ≡ Fault.Save) × IsStateRefused K.admits files.now command.now
+    ensures refused { IfErr result (λ fault. (fault ≡ Fault.Save) × IsStateRefused K.admits command.now
         × HasFailed (K.failed_admissions keeper.old) (K.failed_admissions keeper.new)) }
 {
-    match command {
-        Command::Decode {
+    match &command.task {
+        Task::Decode {
             save: Some(name),
             ..
-        } => keeper.admit(name.as_str(), files).map_err(|_| Fault::Save),
+        } => match keeper.admit(name.as_str(), &command.files) {
+            Ok(()) => Ok(()),
+            Err(_) => Err(Fault::Save),
+        },
         _ => Ok(()),
     }
 }
@@ -176,17 +176,16 @@ fn admit<K: Keeper>(files: &Files, command: &Command, keeper: &mut K) -> Result<
 fn run_admitted<M: Machine, K: Keeper>(
     alloc: Global,
     machine: &mut M,
-    files: &Files,
     command: &Command,
     outlets: &mut Outlets<M::Output, M::Errors, K>,
 ) -> Result<Ending, Fault>
     ensures same { M.world machine.new ≡ M.world machine.old }
-    ensures runs { RunsCommand (M.world machine.old) files.now command.now
+    ensures runs { RunsCommand (M.world machine.old) command.now
         (outside M.Output.Sink M.Errors.Sink K.Keeper (M.files machine.old) outlets.old)
         (outside M.Output.Sink M.Errors.Sink K.Keeper (M.files machine.new) outlets.new) result }
 {
-    admit(files, command, &mut outlets.keeper)?;
-    run_on_files(alloc, machine, files, command, outlets)
+    admit(command, &mut outlets.keeper)?;
+    run_on_files(alloc, machine, command, outlets)
 }
 
 /// Prints the text of the help or of the version.
@@ -202,61 +201,30 @@ fn show<W: Sink>(text: &Word, output: &mut W) -> Result<Ending, Fault>
 }
 
 /// Does what was typed, and answers what came to its end.
-fn run_typed<P: Parser, M: Machine, K: Keeper>(
+fn do_request<M: Machine, K: Keeper>(
     alloc: Global,
-    parser: &P,
     machine: &mut M,
+    request: &Request,
     outlets: &mut Outlets<M::Output, M::Errors, K>,
 ) -> Result<Ending, Fault>
     ensures same { M.world machine.new ≡ M.world machine.old }
-    ensures does { DoesTyped (P.shown parser.now) (M.world machine.old)
+    ensures does { DoesAsked (M.world machine.old) request.now
         (outside M.Output.Sink M.Errors.Sink K.Keeper (M.files machine.old) outlets.old)
         (outside M.Output.Sink M.Errors.Sink K.Keeper (M.files machine.new) outlets.new) result }
 {
-    let words = typed_words(alloc, parser, machine)?;
-    match asked(words)? {
-        Request::Help(text) => show(&text, &mut outlets.output),
-        Request::Command(files, command) => run_admitted(alloc, machine, &files, &command, outlets),
-    }
-}
-
-/// The lines of what is said of what was typed, where that is refused.
-fn lines_of_typed<P: Parser, M: Machine>(
-    alloc: Global,
-    parser: &P,
-    machine: &M,
-) -> Result<Vec<u8>, Fault>
-    ensures { IfOk result (λ lines. AreLinesOf
-        (option_and_then (said_of (P.shown parser.now)) (M.world machine.now).typed) lines.items) }
-{
-    let typed = machine.typed(alloc)?;
-    Ok(lines_of(alloc, parser, &texts_of(alloc, &typed)?)?)
-}
-
-/// The files that were asked for, and the command; none, and `plain`, where a text was, or nothing that can be done.
-fn files_of(request: Result<Request, Fault>) -> (Files, Command)
-    ensures files { result.0 ≡ files_of request }
-    ensures command { result.1 ≡ command_of request }
-{
     match request {
-        Ok(Request::Command(files, command)) => (files, command),
-        _ => {
-            let files = Files {
-                table: None,
-                state: None,
-                log: None,
-            };
-            (files, Command::Plain)
-        }
+        Request::Help(text) => show(text, &mut outlets.output),
+        Request::Command(command) => run_admitted(alloc, machine, command, outlets),
+        Request::Refused(fault, _) => Err(*fault),
     }
 }
 
 /// Why a state could not be kept under the name that the command has for it.
 fn why_unkept<K: Keeper>(alloc: Global, command: &Command, keeper: &K) -> Option<Reason>
-    ensures { IsAsKnown (option_and_then K.unkept (save_name command.now)) result }
+    ensures { IsAsKnown (option_and_then K.unkept (save_name command.now.task)) result }
 {
-    match command {
-        Command::Decode {
+    match &command.task {
+        Task::Decode {
             save: Some(name),
             ..
         } => keeper.why_unkept(alloc, name.as_str()),
@@ -268,58 +236,71 @@ fn why_unkept<K: Keeper>(alloc: Global, command: &Command, keeper: &K) -> Option
 fn reason_of<M: Machine, K: Keeper>(
     alloc: Global,
     machine: &M,
-    files: &Files,
-    command: &Command,
+    command: Option<&Command>,
     outlets: &Outlets<M::Output, M::Errors, K>,
     fault: Fault,
 ) -> Option<Reason>
-    ensures { HasReason (M.world machine.now) K.unkept files.now command.now fault result }
+    ensures { HasReason (M.world machine.now) K.unkept (option_map (λ c. c.now) command.entry) fault result }
 {
     match fault {
-        Fault::TableFile => machine.why_unread(alloc, &files.table),
-        Fault::StateFile => machine.why_unread(alloc, &files.state),
-        Fault::Read => machine.why_unread(alloc, &files.log),
+        Fault::TableFile => machine.why_unread(alloc, &command?.files.table),
+        Fault::StateFile => machine.why_unread(alloc, &command?.files.state),
+        Fault::Read => machine.why_unread(alloc, &command?.files.log),
         Fault::Write => machine.why_unwritten(alloc, &outlets.output),
-        Fault::Save => why_unkept(alloc, command, &outlets.keeper),
+        Fault::Save => why_unkept(alloc, command?, &outlets.keeper),
         _ => None,
     }
 }
 
-/// The sentence of a fault of what was typed.
-fn sentence_of<P: Parser, M: Machine, K: Keeper>(
+/// The sentence of a fault of a command, or of none.
+fn sentence_of<M: Machine, K: Keeper>(
     alloc: Global,
-    parser: &P,
     machine: &M,
+    command: Option<&Command>,
     outlets: &Outlets<M::Output, M::Errors, K>,
     fault: Fault,
-) -> Result<Vec<u8>, Fault>
-    ensures { IfOk result (λ text.
-        IsSentenceOf (P.shown parser.now) (M.world machine.now) K.unkept outlets.now.found fault text.items) }
+) -> Result<Vec<u8>, AllocError>
+    ensures { IfOk result (λ text. IsSentenceOf (M.world machine.now) K.unkept
+        (option_map (λ c. c.now) command.entry) outlets.now.found fault text.items) }
 {
-    let (files, command) = files_of(asked(typed_words(alloc, parser, machine)?));
-    let reason = reason_of(alloc, machine, &files, &command, outlets, fault);
-    let found = &outlets.found;
-    Ok(fault_sentence(alloc, &files, &command, fault, &reason, found)?)
+    let reason = reason_of(alloc, machine, command, outlets, fault);
+    fault_sentence(alloc, command, fault, &reason, &outlets.found)
+}
+
+/// What is said on a terminal of a fault: of refused words what their parser shows, else the sentence of the fault.
+fn told_of<M: Machine, K: Keeper>(
+    alloc: Global,
+    machine: &M,
+    request: &Request,
+    outlets: &Outlets<M::Output, M::Errors, K>,
+    fault: Fault,
+) -> Result<Vec<u8>, AllocError>
+    ensures { IfOk result (λ text.
+        IsToldOf (M.world machine.now) K.unkept request.now outlets.now.found fault text.items) }
+{
+    match request {
+        Request::Refused(_, Some(lines)) => lines.clone(),
+        Request::Refused(_, None) => sentence_of(alloc, machine, None, outlets, fault),
+        Request::Help(_) => sentence_of(alloc, machine, None, outlets, fault),
+        Request::Command(command) => { sentence_of(alloc, machine, Some(command), outlets, fault) }
+    }
 }
 
 /// What stands before the line of a fault. Where memory for it is refused, that is nothing.
-fn text_before<P: Parser, M: Machine, K: Keeper>(
+fn text_before<M: Machine, K: Keeper>(
     alloc: Global,
-    parser: &P,
     machine: &M,
+    request: &Request,
     outlets: &Outlets<M::Output, M::Errors, K>,
     fault: Fault,
 ) -> Vec<u8>
-    ensures { StandsBefore (P.shown parser.now) (M.world machine.now) K.unkept outlets.now.found fault result.items }
+    ensures { StandsBefore (M.world machine.now) K.unkept request.now outlets.now.found fault result.items }
 {
     if !machine.is_terminal() {
         return Vec::new(alloc);
     }
     let none = Vec::new(alloc);
-    match fault {
-        Fault::Words => lines_of_typed(alloc, parser, machine).unwrap_or(none),
-        _ => sentence_of(alloc, parser, machine, outlets, fault).unwrap_or(none),
-    }
+    told_of(alloc, machine, request, outlets, fault).unwrap_or(none)
 }
 
 /// Says on a terminal what to do with a log of another form.
@@ -343,8 +324,32 @@ fn say_hint<M: Machine, E: Sink>(machine: &M, ending: Ending, errors: &mut E)
     }
 }
 
-/// Does what was typed, says what there is to say of it, and answers the status that the program ends with.
+/// Does what is asked for, says what there is to say of it, and answers the status that the program ends with.
 #[tactic(auto, using(crate::proofs::MachineLemmas::reported, crate::proofs::MachineLemmas::ended))]
+fn run_request<M: Machine, K: Keeper>(
+    alloc: Global,
+    machine: &mut M,
+    request: &Request,
+    outlets: &mut Outlets<M::Output, M::Errors, K>,
+) -> ExitCode
+    ensures { RunsRequest (M.world machine.old) request.now
+        (outside M.Output.Sink M.Errors.Sink K.Keeper (M.files machine.old) outlets.old)
+        (outside M.Output.Sink M.Errors.Sink K.Keeper (M.files machine.new) outlets.new) (exit_status result) }
+{
+    match do_request(alloc, machine, request, outlets) {
+        Ok(ending) => {
+            say_hint(machine, ending, &mut outlets.errors);
+            ExitCode::from(ending.status)
+        }
+        Err(fault) => {
+            let before = text_before(alloc, machine, request, outlets, fault);
+            write_fault(alloc, &fault, before, &mut outlets.errors);
+            ExitCode::from(status(&fault))
+        }
+    }
+}
+
+/// Does what was typed, and answers the status that the program ends with.
 pub fn run<P: Parser, M: Machine, K: Keeper>(
     alloc: Global,
     parser: &P,
@@ -356,15 +361,6 @@ pub fn run<P: Parser, M: Machine, K: Keeper>(
         (outside M.Output.Sink M.Errors.Sink K.Keeper (M.files machine.old) outlets.old)
         (outside M.Output.Sink M.Errors.Sink K.Keeper (M.files machine.new) outlets.new) (exit_status result) }
 {
-    match run_typed(alloc, parser, machine, outlets) {
-        Ok(ending) => {
-            say_hint(machine, ending, &mut outlets.errors);
-            ExitCode::from(ending.status)
-        }
-        Err(fault) => {
-            let before = text_before(alloc, parser, machine, outlets, fault);
-            write_fault(alloc, &fault, before, &mut outlets.errors);
-            ExitCode::from(status(&fault))
-        }
-    }
+    let request = typed_request(alloc, parser, machine);
+    run_request(alloc, machine, &request, outlets)
 }

@@ -4,7 +4,7 @@ ghost use Rattle.n2k_run.specs.Runs.{seen};
 ghost use Rattle.n2kdec.specs.Commands.{IsRefusal};
 ghost use Rattle.n2kdec.specs.Work.{AnswersWhole, Works, answer_of_part, lines_at, stop_of, stop_of_part, stop_of_run};
 
-use crate::asked::{Command, name_of};
+use crate::asked::{Task, name_of};
 use crate::fault::Fault;
 use n2k_join::Counts;
 use n2k_run::{
@@ -106,7 +106,7 @@ fn part(ended: Result<Part, PartFault>) -> Result<Part, Stop>
 /// with a fault is refused before the log is read, and leaves each device as it was.
 pub fn work<R: Source, W: Sink, E: Sink>(
     alloc: Global,
-    command: &Command,
+    task: &Task,
     table: &[u8],
     state: Option<&[u8]>,
     log: &mut R,
@@ -115,24 +115,24 @@ pub fn work<R: Source, W: Sink, E: Sink>(
 ) -> Result<Part, Stop>
     ensures works { let before = seen R.Source W.Sink E.Sink log.old output.old errors.old in
         let after = seen R.Source W.Sink E.Sink log.new output.new errors.new in
-        Works command.now table.now (option_map (λ bytes. bytes.now) state.entry) before after result }
+        Works task.now table.now (option_map (λ bytes. bytes.now) state.entry) before after result }
     ensures untouched { IfErr result (λ stop. IsRefusal stop.fault
         → (stop.part ≡ None) × ((log.new ≡ log.old) × (output.new ≡ output.old) × (errors.new ≡ errors.old))) }
 {
-    match command {
-        Command::Plain => {
+    match task {
+        Task::Plain => {
             let mut counts = Counts::NONE;
             let ended = run_plain_counted(alloc, &mut counts, log, output, errors);
             whole(alloc, counts, ended)
         }
-        Command::Decode { options, .. } => match Table::read(alloc, table) {
+        Task::Decode { options, .. } => match Table::read(alloc, table) {
             Ok(table) => {
                 let ended = run_part(alloc, &table, state, *options, log, output, errors);
                 part(ended)
             }
             Err(fault) => Err(Stop::from_fault(Fault::Table(fault))),
         },
-        Command::Frames(interface) => match Table::read(alloc, table) {
+        Task::Frames(interface) => match Table::read(alloc, table) {
             Ok(table) => {
                 let (name, mut counts) = (name_of(interface), Counts::NONE);
                 let ended = run_frames_counted(
