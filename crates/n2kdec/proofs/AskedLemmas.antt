@@ -1,10 +1,12 @@
 -- From what `clap` says of a parse to what the words ask for.
-use Rattle.std.proofs.Common.{◌≡◌, ◌∙◌, ℕ, List, [], ◌∷◌, true, Option, Some, None, Result, Ok, Err, IfErr, IfOk, IfSome, ap, sym, subst, refl, inl, inr, codes}
+use Rattle.std.proofs.Common.{◌≡◌, ◌∙◌, ℕ, List, [], ◌∷◌, Bool, cond, true, false, Option, Some, None, Result, Ok, Err, IfErr, IfOk, IfSome, IsErrOf, ap, sym, subst, refl, inl, inr, codes, true≢false}
+use Rattle.std.specs.Option.{option_and_then, option_map}
 use Rattle.std.specs.Borrow.{Bor}
 use Rattle.std.specs.List.{flat_map}
+use Rattle.std.specs.Str.{bytes_eq}
 use Rattle.std.proofs.lemmas.List.Folds.{flat_map-map}
 use Rattle.clap.specs.Walk.{texts}
-use Rattle.clap.specs.Words.{App, FailsBy, HasKind, HasMatchesOf, IsAmong, Kinds, Row, Text, fault_of, is_simple, is_simple_and_free, kind_of, subcommand_of, takes}
+use Rattle.clap.specs.Words.{App, FailsBy, HasKind, HasMatchesOf, IsAmong, Kinds, Row, Text, fault_of, first_of, is_simple, is_simple_and_free, kind_of, subcommand_of, takes}
 use Rattle.clap.specs.declared.error.Error.{Error}
 use Rattle.clap.specs.declared.parser.matches.ArgMatches.{ArgMatches}
 use Rattle.clap.specs.declared.error.kind.ErrorKind.{ErrorKind}
@@ -97,7 +99,7 @@ module _ (shown : Shown) (words : List Text) where
   of_words (to.Command command) asked = tt
   of_words (to.Refused fault.Words lines) asked = some_said lines asked.1
   of_words (to.Refused fault.Interface lines) asked = unsaid fault.Interface (λ is. cc) lines asked.1
-  of_words (to.Refused fault.Memory lines) asked = unsaid fault.Memory (λ is. cc) lines asked.1
+  of_words (to.Refused (fault.Memory read) lines) asked = (asked.0, unsaid (fault.Memory read) (λ is. cc) lines asked.1)
   of_words (to.Refused _ lines) asked = absurd asked.0
 
 -- the matches are those of the definition, so what is named in them is what the words name
@@ -112,7 +114,7 @@ module _ (shown : Shown) (words : List Text) (rows : Option (Text × List Row)) 
   unasked : (f : Fault) → Names (command_of words) (Err f) → IsUnasked f words
   unasked fault.Words names = inr (none, names)
   unasked fault.Interface names = (none, names)
-  unasked fault.Memory names = tt
+  unasked (fault.Memory read) names = names
   unasked _ names = absurd names
 
   pub asked_fault : (f : Fault) → Names (named rows) (Err f) → IsAsked shown (to.Refused f None) words
@@ -136,7 +138,7 @@ module _ (shown : Shown) (words : List Text) (kind : ErrorKind) (text : Option T
   asked_by_refusal (to.Refused fault.Words lines) (inl memory) answers = absurd (answers.2 memory)
   asked_by_refusal (to.Refused fault.Words lines) (inr (among, same)) answers =
       (inl (kind, among, answers.0, answers.1), said_of_words text (said_of shown words) lines (same ∙ sym (said_at_fault (fault_of program_app words) kind (shown words) among)) answers.3)
-  asked_by_refusal (to.Refused fault.Memory lines) fails answers = (tt, subst (λ l. IfSome l (λ lines. (fault.Memory ≡ fault.Words) × AreLinesOf (said_of shown words) lines.items)) (sym answers) tt)
+  asked_by_refusal (to.Refused (fault.Memory read) lines) fails answers = (answers.0, subst (λ l. IfSome l (λ lines. (fault.Memory read ≡ fault.Words) × AreLinesOf (said_of shown words) lines.items)) (sym answers.1) tt)
   asked_by_refusal (to.Refused _ lines) fails answers = absurd answers
 
 -- ---- texts, one behind the other

@@ -1,5 +1,5 @@
 -- From what a run, the place of a state and the summary leave to what a command leaves.
-use Rattle.std.proofs.Common.{◌≡◌, ◌⊎◌, ◌≤◌, ◌+◌, length, ◌==◌, ◌++◌, Bool, true, false, cond, arith, ◌∙◌, ℕ, List, [], Option, Ok, Err, Result, IfSome, ap, sym, subst, refl, inl, inr, append_assoc, ap₂, None}
+use Rattle.std.proofs.Common.{◌≡◌, ◌⊎◌, ◌≤◌, ◌+◌, length, ◌==◌, ◌++◌, Bool, true, false, cond, arith, ◌∙◌, ℕ, List, [], Option, Some, Ok, Err, Result, IfSome, ap, sym, subst, refl, inl, inr, append_assoc, ap₂, None}
 use Rattle.std.proofs.KnownBytes.{Appends-nil, Appends-trans}
 use Rattle.std.proofs.lemmas.Bool.{false≢true}
 use Rattle.std.specs.Io.KnownBytes.{Appends}
@@ -23,6 +23,7 @@ use Rattle.n2kdec.specs.Ending.{ending_of, has_other_form}
 use Rattle.n2kdec.specs.Fault.{exit_status, fault_of_run}
 use Rattle.n2kdec.specs.declared.ending.Ending.{Ending}
 use Rattle.n2kdec.specs.declared.fault.Fault.{Fault}
+use Rattle.n2kdec.specs.declared.fault.Reading.TheVariants as reading
 use Rattle.n2kdec.specs.declared.fault.Fault.TheVariants.{Memory, Report, Table}
 use Rattle.n2kdec.specs.declared.work.Stop.{Stop}
 use Rattle.n2kdec.specs.Work.{RefusesTable, AnswersWhole}
@@ -139,17 +140,17 @@ module _ (c : Effect) (stands : List Entry → Type 0) (before after : Devices) 
   breaks_off : IsLeft → IfSome before.left (HasFronts c.output before mid) → BreaksOff c before after
   breaks_off left ran = (left.1, fronts (same_text left.0) ran)
 
-  leaves : {T : Type 0} (f : RunFault) → Runs {T = T} c.output stands before mid (Err f) → Follows f → Leaves c before after (fault_of_run f)
-  leaves run.Read ran follows =
+  leaves : {T : Type 0} (f : RunFault) (lines : ℕ) → Runs {T = T} c.output stands before mid (Err f) → Follows f → Leaves c before after (fault_of_run f lines)
+  leaves run.Read lines ran follows =
       let said = follows _ ran.ends.holds in
       record { came = ran.ends.came; given = ran.ends.given; taken = taken _ (SumsUpPart c.sums_up_a_part) ran.ends.numbered ran.ends.gained ran.device.reports said.0; saved = saved_behind _ ran.ends.gained said.1 }
-  leaves run.TooManyLines ran follows =
+  leaves run.TooManyLines lines ran follows =
       let said = follows _ ran.ends.holds in
       let numbered = all_numbered ran.ends.taken ran.ends.full in
       record { lines = ran.ends.taken; full = ran.ends.full; more = ran.ends.left; taken = taken _ (SumsUpPart c.sums_up_a_part) numbered ran.ends.gained ran.device.reports said.0; unsaved = said.1 }
-  leaves run.Write ran follows = breaks_off follows ran.fronts
-  leaves run.Report ran follows = inl (breaks_off follows ran.fronts)
-  leaves run.Memory ran follows = breaks_off follows ran.fronts
+  leaves run.Write lines ran follows = breaks_off follows ran.fronts
+  leaves run.Report lines ran follows = inl (breaks_off follows ran.fronts)
+  leaves run.Memory lines ran follows = breaks_off follows ran.fronts
 
   same_failed : summed ≡ errors → after.failed_reports ≡ errors.failed
   same_failed same = ap (λ (p : Place). p.failed) same
@@ -157,11 +158,11 @@ module _ (c : Effect) (stands : List Entry → Type 0) (before after : Devices) 
   none_failed : summed ≡ errors → NoneFailed before mid → NoneFailed before after
   none_failed same none = record { reads = none.reads; writes = none.writes; reports = same_failed same ∙ none.reports }
 
-  device : {T : Type 0} (f : RunFault) → Runs {T = T} c.output stands before mid (Err f) → Follows f → HasDevice c before after (fault_of_run f)
-  device run.Read ran follows = (ran.device.reads, ran.device.writes)
-  device run.TooManyLines ran follows = record { reads = ran.device.reads; writes = ran.device.writes }
-  device run.Write ran follows = record { reads = ran.device.reads; writes = ran.device.writes; reports = same_failed follows.0 ∙ ran.device.reports }
-  device run.Report ran follows = (
+  device : {T : Type 0} (f : RunFault) (lines : ℕ) → Runs {T = T} c.output stands before mid (Err f) → Follows f → HasDevice c before after (fault_of_run f lines)
+  device run.Read lines ran follows = (ran.device.reads, ran.device.writes)
+  device run.TooManyLines lines ran follows = record { reads = ran.device.reads; writes = ran.device.writes }
+  device run.Write lines ran follows = record { reads = ran.device.reads; writes = ran.device.writes; reports = same_failed follows.0 ∙ ran.device.reports }
+  device run.Report lines ran follows = (
     record {
       reads = ran.device.reads;
       writes = ran.device.writes;
@@ -169,7 +170,7 @@ module _ (c : Effect) (stands : List Entry → Type 0) (before after : Devices) 
     },
     ap (λ (p : Shelf). p.failed) follows.1,
   )
-  device run.Memory ran follows = inl (none_failed follows.0 ran.device)
+  device run.Memory lines ran follows = inl (none_failed follows.0 ran.device)
 
   still_first : (more : List ℕ) × Appends errors.text after.reported more → IfSome before.left (ReportsFirst c.output before mid) → IfSome before.left (ReportsFirst c.output before after)
   still_first then = known_more before.left _ _ (λ log first. record {
@@ -181,22 +182,22 @@ module _ (c : Effect) (stands : List Entry → Type 0) (before after : Devices) 
   })
 
   -- a run's fault stops a command
-  pub stopped_by_run : {T : Type 0} (f : RunFault) → Runs {T = T} c.output stands before mid (Err f) → Follows f → (more : List ℕ) × Appends errors.text after.reported more
-      → IsStopped c before after (fault_of_run f)
-  stopped_by_run f ran follows then = record { leaves = leaves f ran follows; device = device f ran follows; reports_first = still_first then ran.reports_first }
+  pub stopped_by_run : {T : Type 0} (f : RunFault) (lines : ℕ) → Runs {T = T} c.output stands before mid (Err f) → Follows f → (more : List ℕ) × Appends errors.text after.reported more
+      → IsStopped c before after (fault_of_run f lines)
+  stopped_by_run f lines ran follows then = record { leaves = leaves f lines ran follows; device = device f lines ran follows; reports_first = still_first then ran.reports_first }
 
   -- one after which nothing is written and nothing is saved
-  pub left_by_run : {T : Type 0} (f : RunFault) → Runs {T = T} c.output stands before mid (Err f) → Follows f → summed ≡ errors → IsStopped c before after (fault_of_run f)
-  left_by_run f ran follows same = stopped_by_run f ran follows ([], subst (λ e. Appends errors.text e []) (same_text same) (Appends-nil errors.text))
+  pub left_by_run : {T : Type 0} (f : RunFault) (lines : ℕ) → Runs {T = T} c.output stands before mid (Err f) → Follows f → summed ≡ errors → IsStopped c before after (fault_of_run f lines)
+  left_by_run f lines ran follows same = stopped_by_run f lines ran follows ([], subst (λ e. Appends errors.text e []) (same_text same) (Appends-nil errors.text))
 
   -- a run stands at a line, but memory for its state was refused
-  line_device : (ran : Result (Unit {0}) RunFault) → EndsAtLine ran → c.sums_up_a_part ≡ true → summed ≡ errors → Runs c.output stands before mid ran → HasDevice c before after Memory
+  line_device : (ran : Result (Unit {0}) RunFault) → EndsAtLine ran → c.sums_up_a_part ≡ true → summed ≡ errors → Runs c.output stands before mid ran → HasDevice c before after (Memory (Some reading.Log))
   line_device (Ok x) line part same runs = inl (none_failed same runs.device)
   line_device (Err run.Read) line part same runs = inr (part, record { reads = runs.device.reads; writes = runs.device.writes; reports = same_failed same ∙ runs.device.reports })
   line_device (Err run.TooManyLines) line part same runs = inl (none_failed same runs.device)
   line_device _ line part same runs = absurd line
 
-  pub left_at_line : (ran : Result (Unit {0}) RunFault) → EndsAtLine ran → c.sums_up_a_part ≡ true → Runs c.output stands before mid ran → IsLeft → IsStopped c before after Memory
+  pub left_at_line : (ran : Result (Unit {0}) RunFault) → EndsAtLine ran → c.sums_up_a_part ≡ true → Runs c.output stands before mid ran → IsLeft → IsStopped c before after (Memory (Some reading.Log))
   left_at_line ran line part runs left = record {
     leaves = breaks_off left (line_fronts c.output before mid stands ran line runs);
     device = line_device ran line part left.0 runs;
@@ -291,7 +292,7 @@ module _ (output : Output) (counts_of : List Entry → Counts) (before after : D
   ended_whole counts (Err fault) told r runs tells closes =
       let is = subst (λ t. ClosesWhole errors said t r) tells closes in
       subst (Ends whole_effect before after) (sym is.0)
-      (left_by_run whole_effect _ before after errors fault runs (nothing_follows _ fault is.1) is.1)
+      (left_by_run whole_effect _ before after errors fault counts.lines runs (nothing_follows _ fault is.1) is.1)
 
 -- a command that has begun ends by no refusal of its table
 pub past_table : (found : List TableFault) (c : Effect) (before after : Devices) (r : Result Ending Fault) → found ≡ [] → Ends c before after r → EndsByTable found c before after r

@@ -1,5 +1,5 @@
 -- From what a call leaves to what the program leaves.
-use Rattle.std.proofs.Common.{◌≡◌, ◌⊎◌, ◌∙◌, ◌++◌, append-nil, append_assoc, ap, arith, ℕ, List, [], ◌∷◌, Option, Some, None, Result, Ok, Err, IfOk, IfSome, Bool, true, option_map, inl, inr, refl, subst, sym}
+use Rattle.std.proofs.Common.{◌≡◌, ◌⊎◌, ◌∙◌, ◌++◌, append-nil, append_assoc, ap, arith, ℕ, List, [], ◌∷◌, Option, Some, None, Result, Ok, Err, IfErr, IfOk, IfSome, Bool, true, option_map, inl, inr, refl, subst, sym}
 use Rattle.std.specs.Prelude.{IsSome}
 use Rattle.std.specs.Option.{unwrap_or}
 use Rattle.std.specs.Result.{result_unwrap_or}
@@ -10,7 +10,7 @@ use Rattle.n2kdec.specs.Asked.{save_name}
 use Rattle.n2kdec.specs.Commands.{Kept, Performs, Place, shelf}
 use Rattle.n2kdec.specs.Machine.{AddsCalls, AddsFailures, DoesAsked, FileUse, HasCalled, Hints, IsPerformed, IsPerformedOver, IsReadable, IsStateAdmitted, IsStateRefused, IsUnopened, IsUnread, IsUnreadFile, LogAfter, Opens, Outside, IsTerminal, IsToldOf, RunsCommand, RunsRequest, StandsBefore, World, WritesFault, all_files, files_before, files_before_log, files_with, if_named, table_bytes, with_log}
 use Rattle.n2kdec.specs.Fault.{status_of}
-use Rattle.n2kdec.specs.Found.{Finds, noted}
+use Rattle.n2kdec.specs.Told.{Tells}
 use Rattle.n2kdec.specs.declared.asked.Request.{Request}
 use Rattle.n2kdec.specs.declared.asked.Command.{Command}
 use Rattle.n2kdec.specs.declared.asked.Files.{Files}
@@ -18,9 +18,8 @@ use Rattle.n2kdec.specs.declared.asked.Task.{Task}
 use Rattle.n2kdec.specs.declared.ending.Ending.{Ending}
 use Rattle.n2kdec.specs.declared.fault.Fault.{Fault}
 use Rattle.n2kdec.specs.declared.fault.Fault.TheVariants.{TableSize, TableFile, StateSize, StateFile, Read, Memory, Save}
-use Rattle.n2kdec.specs.declared.found.Found.{Found}
-use Rattle.n2kdec.specs.declared.found.Reading.{Reading}
-use Rattle.n2kdec.specs.declared.found.Reading.TheVariants as reading
+use Rattle.n2kdec.specs.declared.fault.Reading.{Reading}
+use Rattle.n2kdec.specs.declared.fault.Reading.TheVariants as reading
 use Rattle.n2kdec.specs.declared.reason.Reason.{Reason}
 
 -- what is counted of a file that is closed comes to what was counted before
@@ -69,10 +68,10 @@ module _ (w : World) (files : Files) (begun mid now : FileUse) (fault : Fault) w
   Unread read f = IsUnread w files read begun now f
 
   -- some of the files were opened, and there is no memory
-  no_memory : (read : Reading) → fault ≡ Memory → now.failed ≡ begun.failed → Opens begun now (files_before files read) ⊎ Opens begun now (files_with files read) → Unread read fault
-  no_memory read is same opens = subst (Unread read) (sym is) (same, opens)
+  no_memory : (read : Reading) → fault ≡ Memory (Some read) → now.failed ≡ begun.failed → Opens begun now (files_before files read) ⊎ Opens begun now (files_with files read) → Unread read fault
+  no_memory read is same opens = subst (Unread read) (sym is) (refl, same, opens)
 
-  pub table_unread : IsSome files.table × IsUnreadFile w files.table TableSize TableFile begun now fault → Unread reading.Table fault
+  pub table_unread : IsSome files.table × IsUnreadFile w files.table reading.Table TableSize begun now fault → Unread reading.Table fault
   table_unread (some, inl large) = subst (Unread reading.Table) (sym large.0) (large.1, large.2, subst (Opens begun now) (named_is files.table some) large.3)
   table_unread (some, inr (inl (is, same, inl none))) = no_memory reading.Table is same (inl none)
   table_unread (some, inr (inl (is, same, inr opens))) = no_memory reading.Table is same (inr (subst (Opens begun now) (named_is files.table some) opens))
@@ -86,7 +85,7 @@ module _ (w : World) (files : Files) (begun mid now : FileUse) (fault : Fault) w
     both : IsSome files.state → Opens mid now (files.state ∷ []) → Opens begun now (files_before_log files)
     both some opens = opens_then begun mid now (if_named files.table) (if_named files.state) table.2 (subst (Opens mid now) (named_is files.state some) opens)
 
-    pub state_unread : IsSome files.state × IsUnreadFile w files.state StateSize StateFile mid now fault → Unread reading.State fault
+    pub state_unread : IsSome files.state × IsUnreadFile w files.state reading.State StateSize mid now fault → Unread reading.State fault
     state_unread (some, inl large) = subst (Unread reading.State) (sym large.0) (table.0, large.1, large.2 ∙ table.1, both some large.3)
     state_unread (some, inr (inl (is, same, inl none))) =
         no_memory reading.State is (same ∙ table.1) (inl (opens_no_more begun mid now (if_named files.table) table.2 none))
@@ -94,13 +93,13 @@ module _ (w : World) (files : Files) (begun mid now : FileUse) (fault : Fault) w
     state_unread (some, inr (inr (is, unreadable, opens))) = subst (Unread reading.State) (sym is) (table.0, (unreadable.0, failed_since table.1 unreadable.1), both some opens)
 
   pub log_unread : IsReadable w files.table → IsReadable w files.state → mid.failed ≡ begun.failed → Opens begun mid (files_before_log files)
-      → IsUnopened files.log Read mid now fault → Unread reading.Log fault
+      → IsUnopened files.log reading.Log mid now fault → Unread reading.Log fault
   log_unread table state none_failed before (inl (is, same, inl none)) =
       no_memory reading.Log is (same ∙ none_failed) (inl (opens_no_more begun mid now (files_before_log files) before none))
   log_unread table state none_failed before (inl (is, same, inr opens)) =
       no_memory reading.Log is (same ∙ none_failed) (inr (opens_then begun mid now (files_before_log files) (files.log ∷ []) before opens))
   log_unread table state none_failed before (inr (is, unreadable, opens)) =
-      subst (Unread reading.Log) (sym is) (table, state, (unreadable.0, failed_since none_failed unreadable.1), opens_then begun mid now (files_before_log files) (files.log ∷ []) before opens)
+      subst (Unread reading.Log) (sym is) (refl, table, state, (unreadable.0, failed_since none_failed unreadable.1), opens_then begun mid now (files_before_log files) (files.log ∷ []) before opens)
 
 -- the table and the state were read
 pub both_opened : (files : Files) (a b c : FileUse) → Opens a b (if_named files.table) → Opens b c (if_named files.state) → Opens a c (files_before_log files)
@@ -123,19 +122,19 @@ module _ (task : Task) (table : List ℕ) (handed : Option (List ℕ)) (before a
   PerformsAfter held lent left calls failed = Performs task held lent (with_log left calls failed before) (with_log log.left log.calls log.failed after)
       (shelf (save_name task) before.kept before.failed_keeps) (shelf (save_name task) after.kept after.failed_keeps) result
 
-  abbrev pub FindsAfter : List ℕ → Option (List ℕ) → Option (List ℕ) → Type 0
-  FindsAfter held lent left = Finds task held lent left log.left result after.found
+  abbrev pub TellsAfter : List ℕ → Option (List ℕ) → Option (List ℕ) → Type 0
+  TellsAfter held lent left = IfErr result (Tells task held lent left log.left)
 
   pub performed_over : (held : List ℕ) (lent left known : Option (List ℕ)) (calls failed had : ℕ) → held ≡ table → lent ≡ handed → left ≡ known → calls ≡ 0 → failed ≡ 0
       → had ≡ before.files.failed → AddsFailures had after.files.failed log.failed → HasCalled before.files.reads after.files.reads log.calls
-      → PerformsAfter held lent left calls failed → FindsAfter held lent left → IsPerformedOver task table handed known before after result
-  performed_over held lent left known calls failed had is_table is_state is none none_failed same counted called performs finds = record {
+      → PerformsAfter held lent left calls failed → TellsAfter held lent left → IsPerformedOver task table handed known before after result
+  performed_over held lent left known calls failed had is_table is_state is none none_failed same counted called performs told = record {
     log = log;
     counted = subst (λ n. AddsFailures n after.files.failed log.failed) same counted;
     called = called;
     performs = subst (λ t. PerformsAfter t handed known 0 0) is_table (subst (λ h. PerformsAfter held h known 0 0) is_state
         (subst (λ l. PerformsAfter held lent l 0 0) is (subst (λ n. PerformsAfter held lent left 0 n) none_failed (subst (λ n. PerformsAfter held lent left n failed) none performs))));
-    finds = subst (λ t. FindsAfter t handed known) is_table (subst (λ h. FindsAfter held h known) is_state (subst (λ l. FindsAfter held lent l) is finds));
+    told = subst (λ t. TellsAfter t handed known) is_table (subst (λ h. TellsAfter held h known) is_state (subst (λ l. TellsAfter held lent l) is told));
   }
 
 -- the bytes of a table that was read, or none
@@ -151,11 +150,9 @@ runs w command before after (Err fault) done = inl done
 
 module _ (w : World) (command : Command) (o : Outside) where
   -- one whose files are not read is not begun
-  pub not_begun : (read : Reading) (used : FileUse) (found : Option Found) (fault : Fault) → found ≡ noted fault read o.found → IsStateAdmitted o.admits command
-      → IsUnread w command.files read o.files used fault → RunsCommand w command o (record o { files = used; found = found }) (Err fault)
-  not_begun read used found fault is admitted unread =
-      subst (λ n. RunsCommand w command o (record o { files = used; found = n }) (Err fault)) (sym is)
-      (inr (inl (record { read = read; admitted = admitted; unread = unread; else_same = refl })))
+  pub not_begun : (read : Reading) (used : FileUse) (fault : Fault) → IsStateAdmitted o.admits command
+      → IsUnread w command.files read o.files used fault → RunsCommand w command o (record o { files = used }) (Err fault)
+  not_begun read used fault admitted unread = inr (inl (record { read = read; admitted = admitted; unread = unread; else_same = refl }))
 
   abbrev pub having : Option (List Kept) → ℕ → ℕ → Outside
   having kept unkept refused = record o { kept = kept; failed_keeps = unkept; failed_admissions = refused }
@@ -179,7 +176,7 @@ module _ (w : World) (command : Command) (o : Outside) where
 
 -- a fault of what was typed is written behind what stands before its line
 pub reported : (w : World) (request : Request) (before done : Outside) (result : Result Ending Fault) (fault : Fault) (stood : List ℕ) (errors : Place) (status : ℕ)
-    → DoesAsked w request before done result → result ≡ Err fault → StandsBefore w done.unkept request done.found fault stood → WritesFault stood fault done.errors errors → status ≡ status_of fault
+    → DoesAsked w request before done result → result ≡ Err fault → StandsBefore w done.unkept request fault stood → WritesFault stood fault done.errors errors → status ≡ status_of fault
     → RunsRequest w request before (record done { errors = errors }) status
 reported w request before done result fault stood errors status does is stands writes said = record {
   result = Err fault;
@@ -199,10 +196,10 @@ ended w request before done result ending errors status does is hints said = rec
 }
 
 -- on a terminal this stands before the line of a fault, where there is memory for it
-pub spoken : {V E : Type 0} (items : V → List ℕ) (w : World) (unkept : Text → Option Reason) (request : Request) (found : Option Found) (fault : Fault) (is_terminal : Bool) (said : Result V E) (none text : V)
-    → IsTerminal w is_terminal → is_terminal ≡ true → items none ≡ [] → IfOk said (λ said. IsToldOf w unkept request found fault (items said)) → text ≡ result_unwrap_or said none
-    → StandsBefore w unkept request found fault (items text)
-spoken items w unkept request found fault is_terminal (Ok said) none text terminal is empty told same =
-    (is_terminal, terminal, inr (is, subst (λ (v : _). IsToldOf w unkept request found fault (items v)) (sym same) told))
-spoken items w unkept request found fault is_terminal (Err why) none text terminal is empty told same =
+pub spoken : {V E : Type 0} (items : V → List ℕ) (w : World) (unkept : Text → Option Reason) (request : Request) (fault : Fault) (is_terminal : Bool) (said : Result V E) (none text : V)
+    → IsTerminal w is_terminal → is_terminal ≡ true → items none ≡ [] → IfOk said (λ said. IsToldOf w unkept request fault (items said)) → text ≡ result_unwrap_or said none
+    → StandsBefore w unkept request fault (items text)
+spoken items w unkept request fault is_terminal (Ok said) none text terminal is empty told same =
+    (is_terminal, terminal, inr (is, subst (λ (v : _). IsToldOf w unkept request fault (items v)) (sym same) told))
+spoken items w unkept request fault is_terminal (Err why) none text terminal is empty told same =
     (is_terminal, terminal, inl (ap items same ∙ empty))

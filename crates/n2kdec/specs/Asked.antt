@@ -32,7 +32,7 @@ Gives words result = (fault_of program_app words ≡ []) × (command_of words �
 abbrev pub IsUnasked : Fault → List Text → Type 0
 IsUnasked Words words = HasFault words ⊎ Gives words (Err Words)
 IsUnasked Interface words = Gives words (Err Interface)
-IsUnasked Memory words = Unit {0}
+IsUnasked (Memory read) words = read ≡ None
 IsUnasked _ words = ⊥
 
 -- the help that is shown of these words, or the version, where they ask for it
@@ -45,7 +45,7 @@ IsHelp shown text words =
 abbrev pub IsOfWords : Request → Type 0
 IsOfWords (to.Refused Words lines) = IfSome lines (λ lines. AreLinesOf None lines.items)
 IsOfWords (to.Refused Interface lines) = lines ≡ None
-IsOfWords (to.Refused Memory lines) = lines ≡ None
+IsOfWords (to.Refused (Memory read) lines) = (read ≡ None) × (lines ≡ None)
 IsOfWords (to.Refused _ lines) = ⊥
 IsOfWords _ = Unit {0}
 

@@ -275,12 +275,12 @@ LacksState c before after = HasTakenAll c before after IsWrittenUnlessFailed (Ca
 -- Memory the run breaks off; after Report too, or all but the summary is done. So memory is not refused once something
 -- is saved or summed up. No other fault stops a run.
 abbrev pub Leaves : Effect → Devices → Devices → Fault → Type 0
-Leaves c before after Read = HasRead c before after
+Leaves c before after (Read lines) = HasRead c before after
 Leaves c before after Lines = IsFull c before after
 Leaves c before after Save = LacksState c before after
 Leaves c before after Write = BreaksOff c before after
 Leaves c before after Report = BreaksOff c before after ⊎ LacksSummary c before after
-Leaves c before after Memory = BreaksOff c before after
+Leaves c before after (Memory read) = BreaksOff c before after
 Leaves c before after _ = ⊥
 
 -- no call of the log's device failed, and none of the output
@@ -293,7 +293,7 @@ pub record LogAndOutputHold (before after : Devices) : Type 0 where
 -- memory was refused for the state of what had been read. After Read, Lines and Save the errors may have failed too, in
 -- the summary.
 abbrev pub HasDevice : Effect → Devices → Devices → Fault → Type 0
-HasDevice c before after Read =
+HasDevice c before after (Read lines) =
     (HasFailed before.failed_reads after.failed_reads
     ⊎ (OutlastsReads before.calls after.calls × (after.failed_reads ≡ before.failed_reads)))
     × (after.failed_writes ≡ before.failed_writes)
@@ -301,7 +301,7 @@ HasDevice c before after Lines = LogAndOutputHold before after
 HasDevice c before after Save = HasSaveFailed c.saving × LogAndOutputHold before after
 HasDevice c before after Write = WriteFails before after
 HasDevice c before after Report = ReportFails before after × (c.saving.after.failed ≡ c.saving.before.failed)
-HasDevice c before after Memory = NoneFailed before after ⊎ ((c.sums_up_a_part ≡ true) × ReadFails before after)
+HasDevice c before after (Memory read) = NoneFailed before after ⊎ ((c.sums_up_a_part ≡ true) × ReadFails before after)
 HasDevice c before after _ = ⊥
 
 -- A fault stopped the command. No text stands before the report of its own line or of an earlier one.
@@ -319,14 +319,14 @@ Ends c before after result = MatchResult result (IsDone c before after) (IsStopp
 -- the table or the state is refused
 abbrev pub IsRefusal : Fault → Type 0
 IsRefusal (Table fault) = Unit {0}
-IsRefusal (State fault) = Unit {0}
+IsRefusal (State fault of) = Unit {0}
 IsRefusal _ = ⊥
 
 -- A refused table has the fault, or memory was wanted; a refused state is handed in with a table that has none, and its
 -- first fault is answered, or memory was wanted. Where another fault is, both are taken.
 abbrev pub IsJudged : List TableFault → Option (List ℕ) → Result StateOf StateFault → Fault → Type 0
 IsJudged found handed begun (Table fault) = fault ≢ table.Memory → Contains found fault
-IsJudged found handed begun (State fault) =
+IsJudged found handed begun (State fault of) =
     (found ≡ []) × IsSome handed × (fault ≢ state_faults.Memory → begun ≡ Err fault)
 IsJudged found handed begun fault = (found ≡ []) × IsOk begun
 
@@ -339,7 +339,7 @@ IsRefusedOrStopped found c before after fault = (found ≡ []) × IsStopped c be
 -- how a command ends whose state is taken, if its table is
 abbrev pub EndsUnlessRefused : Effect → Devices → Devices → Result Ending Fault → Type 0
 EndsUnlessRefused c before after (Err (Table fault)) = Unit {0}
-EndsUnlessRefused c before after (Err (State fault)) = fault ≡ state_faults.Memory
+EndsUnlessRefused c before after (Err (State fault of)) = fault ≡ state_faults.Memory
 EndsUnlessRefused c before after (Err fault) = IsStopped c before after fault
 EndsUnlessRefused c before after (Ok ending) = IsDone c before after ending
 

@@ -1,5 +1,5 @@
 -- The line that a fault prints, and the status that the program ends with.
-use Rattle.std.specs.Prelude.{◌≡◌, ◌⊎◌, ◌++◌, ℕ, List, codes, ◌==◌, if◌then◌else◌}
+use Rattle.std.specs.Prelude.{◌≡◌, ◌⊎◌, ◌++◌, ℕ, List, Some, codes, ◌==◌, if◌then◌else◌}
 use Rattle.n2k_join.specs.declared.counts.Counts.{Counts}
 use Rattle.n2k_join.specs.declared.fault.StateFault.{StateFault}
 use Rattle.n2k_join.specs.declared.fault.StateFault.TheVariants as state
@@ -8,6 +8,8 @@ use Rattle.n2k_run.specs.declared.fault.RunFault.TheVariants as run
 use Rattle.n2k_table.specs.declared.fault.TableFault.{TableFault}
 use Rattle.n2k_table.specs.declared.fault.TableFault.TheVariants as table
 use Rattle.n2kdec.specs.declared.fault.Fault.{Fault}
+use Rattle.n2kdec.specs.declared.fault.Reading.{Reading}
+use Rattle.n2kdec.specs.declared.fault.Reading.TheVariants as reading
 use Rattle.n2kdec.specs.declared.fault.Fault.TheVariants.{Words, Interface, TableSize, StateSize, Table, State}
 use Rattle.n2kdec.specs.declared.fault.Fault.TheVariants.{TableFile, StateFile, Read, Write, Report, Memory, Lines}
 use Rattle.n2kdec.specs.declared.fault.Fault.TheVariants.{Save}
@@ -46,13 +48,13 @@ fault_line Interface = codes "n2kdec: interface\n"
 fault_line TableSize = codes "n2kdec: table size\n"
 fault_line StateSize = codes "n2kdec: state size\n"
 fault_line (Table fault) = table_line fault
-fault_line (State fault) = state_line fault
+fault_line (State fault of) = state_line fault
 fault_line TableFile = codes "n2kdec: table file\n"
 fault_line StateFile = codes "n2kdec: state file\n"
-fault_line Read = codes "n2kdec: read\n"
+fault_line (Read lines) = codes "n2kdec: read\n"
 fault_line Write = codes "n2kdec: write\n"
 fault_line Report = codes "n2kdec: report\n"
-fault_line Memory = codes "n2kdec: memory\n"
+fault_line (Memory read) = codes "n2kdec: memory\n"
 fault_line Lines = codes "n2kdec: lines\n"
 fault_line Save = codes "n2kdec: save\n"
 
@@ -76,23 +78,29 @@ status_of Interface = 2
 status_of TableSize = 2
 status_of StateSize = 2
 status_of (Table fault) = table_status fault
-status_of (State fault) = state_status fault
+status_of (State fault of) = state_status fault
 status_of TableFile = 3
 status_of StateFile = 3
-status_of Read = 3
+status_of (Read lines) = 3
 status_of Write = 3
 status_of Report = 3
-status_of Memory = 3
+status_of (Memory read) = 3
 status_of Lines = 3
 status_of Save = 3
 
--- what the program says of a run's fault
-abbrev pub fault_of_run : RunFault → Fault
-fault_of_run run.Read = Read
-fault_of_run run.Write = Write
-fault_of_run run.Report = Report
-fault_of_run run.Memory = Memory
-fault_of_run run.TooManyLines = Lines
+-- what the program says of the fault of a run that took so many lines
+abbrev pub fault_of_run : RunFault → ℕ → Fault
+fault_of_run run.Read lines = Read lines
+fault_of_run run.Write lines = Write
+fault_of_run run.Report lines = Report
+fault_of_run run.Memory lines = Memory (Some reading.Log)
+fault_of_run run.TooManyLines lines = Lines
+
+-- and of a file that can't be read
+abbrev pub unread : Reading → Fault
+unread reading.Table = TableFile
+unread reading.State = StateFile
+unread reading.Log = Read 0
 
 -- 0 where no line was bad
 abbrev pub exit_status : Counts → ℕ

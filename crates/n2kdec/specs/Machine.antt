@@ -1,7 +1,7 @@
 -- What the program meets, and what comes of the words that were typed: the files that they name are read, their command
 -- is performed, its state is kept under the name that they have for it, and a fault is reported.
 use Rattle.std.specs.Prelude.{◌≡◌, ◌⊎◌, ◌<◌, ◌≤◌, ◌+◌, ◌++◌, ◌-◌, ◌^◌, ℕ, Bool, List, [], ◌∷◌, Option, Some, None}
-use Rattle.std.specs.Prelude.{IfSome, IsSome, MatchResult, Result, Ok, Err, length, option_and_then, true, false}
+use Rattle.std.specs.Prelude.{IfErr, IfSome, IsSome, MatchResult, Result, Ok, Err, length, option_and_then, true, false}
 use Rattle.clap.specs.Words.{Text}
 use Rattle.n2k_run.specs.declared.device.Sink.{Ghosts as OfSink}
 use Rattle.n2k_run.specs.Device.{HasFailed}
@@ -10,9 +10,9 @@ use Rattle.n2kdec.specs.Asked.{IsAsked, IsOfWords, save_name}
 use Rattle.n2kdec.specs.Commands.{IsCutOff, IsWritten, IsWrittenUnlessFailed, IsAdmitted, Kept, MayBeRefused}
 use Rattle.n2kdec.specs.Commands.{Performs, Place, place, shelf}
 use Rattle.n2kdec.specs.Ending.{hint}
-use Rattle.n2kdec.specs.Fault.{IsFaultMessage, longest_file, status_of}
-use Rattle.n2kdec.specs.FaultSentence.{IsAsKnown, fault_sentence, has_reason, save_of}
-use Rattle.n2kdec.specs.Found.{Finds, noted}
+use Rattle.n2kdec.specs.Fault.{IsFaultMessage, longest_file, status_of, unread}
+use Rattle.n2kdec.specs.FaultSentence.{IsAsKnown, IsSentence, has_reason, save_of}
+use Rattle.n2kdec.specs.Told.{Tells}
 use Rattle.n2kdec.specs.Parser.{Shown}
 use Rattle.n2kdec.specs.declared.asked.Request.{Request}
 use Rattle.n2kdec.specs.declared.asked.Request.TheVariants as to
@@ -23,9 +23,8 @@ use Rattle.n2kdec.specs.declared.ending.Ending.{Ending}
 use Rattle.n2kdec.specs.declared.fault.Fault.{Fault}
 use Rattle.n2kdec.specs.declared.fault.Fault.TheVariants.{TableSize, TableFile, StateSize}
 use Rattle.n2kdec.specs.declared.fault.Fault.TheVariants.{StateFile, Read, Memory, Save, Write}
-use Rattle.n2kdec.specs.declared.found.Found.{Found}
-use Rattle.n2kdec.specs.declared.found.Reading.{Reading}
-use Rattle.n2kdec.specs.declared.found.Reading.TheVariants as reading
+use Rattle.n2kdec.specs.declared.fault.Reading.{Reading}
+use Rattle.n2kdec.specs.declared.fault.Reading.TheVariants as reading
 use Rattle.n2kdec.specs.declared.keeper.Keeper.{Ghosts as OfKeeper}
 use Rattle.n2kdec.specs.declared.machine.Outlets.{Outlets}
 use Rattle.n2kdec.specs.declared.reason.Reason.{Reason}
@@ -77,17 +76,17 @@ IsUnreadable name before after = IsSome name × HasFailed before.failed after.fa
 
 -- Why none of this name is opened: memory, which may be refused before it is looked for; or the fault of one that
 -- can't be.
-abbrev pub IsUnopened : Option Text → Fault → FileUse → FileUse → Fault → Type 0
-IsUnopened name refused before after fault =
-    ((fault ≡ Memory) × (after.failed ≡ before.failed) × (Opens before after [] ⊎ Opens before after (name ∷ [])))
-    ⊎ ((fault ≡ refused) × IsUnreadable name before after × Opens before after (name ∷ []))
+abbrev pub IsUnopened : Option Text → Reading → FileUse → FileUse → Fault → Type 0
+IsUnopened name read before after fault =
+    ((fault ≡ Memory (Some read)) × (after.failed ≡ before.failed) × (Opens before after [] ⊎ Opens before after (name ∷ [])))
+    ⊎ ((fault ≡ unread read) × IsUnreadable name before after × Opens before after (name ∷ []))
 
 -- an opening, which is counted as failed where the file can't be had, and then alone
-pub record OpensFile {T : Type 0} (name : Option Text) (refused : Fault) (before after : FileUse)
+pub record OpensFile {T : Type 0} (name : Option Text) (read : Reading) (before after : FileUse)
     (result : Result T Fault) : Type 0 where
   pub no_read : after.reads ≡ before.reads
   pub answer : MatchResult result (λ file. (after.failed ≡ before.failed) × Opens before after (name ∷ []))
-      (IsUnopened name refused before after)
+      (IsUnopened name read before after)
 
 -- so many failed calls more are counted
 abbrev pub AddsFailures : ℕ → ℕ → ℕ → Type 0
@@ -109,7 +108,7 @@ abbrev pub HasCalled : ℕ → ℕ → ℕ → Type 0
 HasCalled before after calls = after < 2 ^ 64 - 1 → before + calls ≤ after
 
 -- What the program changes: the output, the errors, and what was kept under which name, with how many times a text could
--- not be kept and how many times a state was not admitted; how files were used; and what is found out about a fault.
+-- not be kept and how many times a state was not admitted; and how files were used.
 -- Which states may be kept, and why one is not, where that is known, it does not change.
 pub record Outside : Type 0 where
   pub output : Place
@@ -120,7 +119,6 @@ pub record Outside : Type 0 where
   pub files : FileUse
   pub admits : Text → Files → Option Bool
   pub unkept : Text → Option Reason
-  pub found : Option Found
 
 abbrev pub outside : {W E K : Type 0} → OfSink W → OfSink E → OfKeeper K → FileUse → Outlets W E K → Outside
 outside w e k files outlets = record {
@@ -132,7 +130,6 @@ outside w e k files outlets = record {
   files = files;
   admits = k.admits;
   unkept = k.unkept;
-  found = outlets.found;
 }
 
 -- ---- the files of a command
@@ -172,18 +169,18 @@ IsReadable w None = Unit {0}
 IsReadable w (Some name) = IfSome (w.file name) (λ bytes. length bytes ≤ longest_file)
 
 -- why a file is not read whole: it is too large, it is not opened, or a read of it failed
-abbrev pub IsUnreadFile : World → Option Text → Fault → Fault → FileUse → FileUse → Fault → Type 0
-IsUnreadFile w name too_large unread before after fault =
+abbrev pub IsUnreadFile : World → Option Text → Reading → Fault → FileUse → FileUse → Fault → Type 0
+IsUnreadFile w name read too_large before after fault =
     ((fault ≡ too_large) × IsTooLarge w name × (after.failed ≡ before.failed) × Opens before after (name ∷ []))
-    ⊎ IsUnopened name unread before after fault
+    ⊎ IsUnopened name read before after fault
 
 -- it is read whole and closed, where one is named, or not, for these faults
-pub record ReadsFile {T : Type 0} (w : World) (name : Option Text) (too_large unread : Fault) (before after : FileUse)
-    (result : Result T Fault) : Type 0 where
+pub record ReadsFile {T : Type 0} (w : World) (name : Option Text) (read : Reading) (too_large : Fault)
+    (before after : FileUse) (result : Result T Fault) : Type 0 where
   pub called : HasCalled before.reads after.reads 0
   pub answer : MatchResult result
       (λ read. IsReadable w name × (after.failed ≡ before.failed) × Opens before after (if_named name))
-      (λ fault. IsSome name × IsUnreadFile w name too_large unread before after fault)
+      (λ fault. IsSome name × IsUnreadFile w name read too_large before after fault)
 
 -- the files that are opened before one is read, and with it
 abbrev pub files_before : Files → Reading → List (Option Text)
@@ -197,7 +194,7 @@ files_with files reading.State = files_before_log files
 files_with files reading.Log = all_files files
 
 -- The fault of a file that is read, and the files that were opened until then: the table's, the state's, the log's.
--- Memory may be refused before it is looked for.
+-- Memory may be refused before it is looked for. No line of a log is taken that can't be opened.
 abbrev pub IsUnread : World → Files → Reading → FileUse → FileUse → Fault → Type 0
 IsUnread w files read before after TableSize =
     IsTooLarge w files.table × (after.failed ≡ before.failed) × Opens before after (if_named files.table)
@@ -208,11 +205,11 @@ IsUnread w files read before after StateSize =
     × Opens before after (files_before_log files)
 IsUnread w files read before after StateFile =
     IsReadable w files.table × IsUnreadable files.state before after × Opens before after (files_before_log files)
-IsUnread w files read before after Read =
-    IsReadable w files.table × IsReadable w files.state × IsUnreadable files.log before after
+IsUnread w files read before after (Read lines) =
+    (lines ≡ 0) × IsReadable w files.table × IsReadable w files.state × IsUnreadable files.log before after
     × Opens before after (all_files files)
-IsUnread w files read before after Memory =
-    (after.failed ≡ before.failed)
+IsUnread w files read before after (Memory wanting) =
+    (wanting ≡ Some read) × (after.failed ≡ before.failed)
     × (Opens before after (files_before files read) ⊎ Opens before after (files_with files read))
 IsUnread w files read before after _ = ⊥
 
@@ -240,7 +237,7 @@ pub record IsPerformedOver (task : Task) (table : List ℕ) (handed left : Optio
       (with_log log.left log.calls log.failed after)
       (shelf (save_name task) before.kept before.failed_keeps)
       (shelf (save_name task) after.kept after.failed_keeps) result
-  pub finds : Finds task table handed left log.left result after.found
+  pub told : IfErr result (Tells task table handed left log.left)
 
 -- the state may be kept under the name that the command has for it, if any, by a run of its files
 abbrev pub IsStateAdmitted : (Text → Files → Option Bool) → Command → Type 0
@@ -272,13 +269,12 @@ pub record IsNotAdmitted (command : Command) (before after : Outside) (fault : F
   pub failed : HasFailed before.failed_admissions after.failed_admissions
   pub else_same : after ≡ record before { failed_admissions = after.failed_admissions }
 
--- It is not begun, though its state is admitted, since a file is not read, which is noted where memory was refused; and
--- nothing is printed or kept.
+-- It is not begun, though its state is admitted, since a file is not read; and nothing is printed or kept.
 pub record IsNotBegun (w : World) (command : Command) (before after : Outside) (fault : Fault) : Type 0 where
   pub read : Reading
   pub admitted : IsStateAdmitted before.admits command
   pub unread : IsUnread w command.files read before.files after.files fault
-  pub else_same : after ≡ record before { files = after.files; found = noted fault read before.found }
+  pub else_same : after ≡ record before { files = after.files }
 
 -- it is performed; or not begun; or its state is not admitted
 abbrev pub RunsCommand : World → Command → Outside → Outside → Result Ending Fault → Type 0
@@ -325,7 +321,7 @@ command_of _ = None
 abbrev pub reason_of : World → (Text → Option Reason) → Option Command → Fault → Option Reason
 reason_of w unkept command TableFile = option_and_then (λ c. w.unread c.files.table) command
 reason_of w unkept command StateFile = option_and_then (λ c. w.unread c.files.state) command
-reason_of w unkept command Read = option_and_then (λ c. w.unread c.files.log) command
+reason_of w unkept command (Read lines) = option_and_then (λ c. w.unread c.files.log) command
 reason_of w unkept command Write = w.unwritten
 reason_of w unkept command Save = option_and_then unkept (save_of command)
 reason_of w unkept command _ = None
@@ -335,31 +331,31 @@ abbrev pub HasReason : World → (Text → Option Reason) → Option Command →
 HasReason w unkept command fault reason =
     IsAsKnown (reason_of w unkept command fault) reason × (has_reason fault ≡ false → reason ≡ None)
 
--- the sentence of a fault, by the names that were typed, for its reason and with what was found out
-abbrev pub IsSentenceOf : World → (Text → Option Reason) → Option Command → Option Found → Fault → List ℕ → Type 0
-IsSentenceOf w unkept command found fault text =
+-- the sentence of a fault, by the names that were typed, for its reason
+abbrev pub IsSentenceOf : World → (Text → Option Reason) → Option Command → Fault → List ℕ → Type 0
+IsSentenceOf w unkept command fault text =
     (reason : Option Reason) × HasReason w unkept command fault reason
-    × (text ≡ fault_sentence command fault reason found)
+    × IsSentence command fault reason text
 
 -- what is said of a fault: the lines that are said of refused words, else its sentence
-abbrev pub IsToldOf : World → (Text → Option Reason) → Request → Option Found → Fault → List ℕ → Type 0
-IsToldOf w unkept (to.Refused refused (Some lines)) found fault text = text ≡ lines.items
-IsToldOf w unkept request found fault text = IsSentenceOf w unkept (command_of request) found fault text
+abbrev pub IsToldOf : World → (Text → Option Reason) → Request → Fault → List ℕ → Type 0
+IsToldOf w unkept (to.Refused refused (Some lines)) fault text = text ≡ lines.items
+IsToldOf w unkept request fault text = IsSentenceOf w unkept (command_of request) fault text
 
 -- This may stand before the line of a fault: on a terminal what is said of it; off it nothing.
-abbrev pub StandsBefore : World → (Text → Option Reason) → Request → Option Found → Fault → List ℕ → Type 0
-StandsBefore w unkept request found fault text =
+abbrev pub StandsBefore : World → (Text → Option Reason) → Request → Fault → List ℕ → Type 0
+StandsBefore w unkept request fault text =
     (is_terminal : Bool) × IsTerminal w is_terminal
-    × ((text ≡ []) ⊎ ((is_terminal ≡ true) × IsToldOf w unkept request found fault text))
+    × ((text ≡ []) ⊎ ((is_terminal ≡ true) × IsToldOf w unkept request fault text))
 
 -- what is said of a fault is written behind this text, whole unless the place fails
 abbrev pub WritesFault : List ℕ → Fault → Place → Place → Type 0
 WritesFault stood fault before after =
     (text : List ℕ) × IsFaultMessage stood fault text × IsWrittenUnlessFailed before after text
 
-abbrev pub ReportsFault : World → (Text → Option Reason) → Request → Option Found → Fault → Place → Place → Type 0
-ReportsFault w unkept request found fault before after =
-    (stood : List ℕ) × StandsBefore w unkept request found fault stood × WritesFault stood fault before after
+abbrev pub ReportsFault : World → (Text → Option Reason) → Request → Fault → Place → Place → Type 0
+ReportsFault w unkept request fault before after =
+    (stood : List ℕ) × StandsBefore w unkept request fault stood × WritesFault stood fault before after
 
 -- On a terminal it is said behind all that a log has another form, unless the place fails; off it nothing is.
 abbrev pub HintsOn : Bool → Place → Place → Type 0
@@ -380,7 +376,7 @@ Concludes w request (Ok ending) before after status =
     (status ≡ ending.status) × Hints w ending.has_other_form before.errors after.errors
     × (after ≡ record before { errors = after.errors })
 Concludes w request (Err fault) before after status =
-    (status ≡ status_of fault) × ReportsFault w before.unkept request before.found fault before.errors after.errors
+    (status ≡ status_of fault) × ReportsFault w before.unkept request fault before.errors after.errors
     × (after ≡ record before { errors = after.errors })
 
 -- what is asked for is done, and the status is that of it

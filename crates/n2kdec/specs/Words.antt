@@ -100,7 +100,7 @@ abbrev pub Names : Result Command Fault → Result Command Fault → Type 0
 Names asked (Ok command) = asked ≡ Ok command
 Names asked (Err Words) = asked ≡ Err Words
 Names asked (Err Interface) = asked ≡ Err Interface
-Names asked (Err Memory) = Unit {0}
+Names asked (Err (Memory read)) = read ≡ None
 Names asked (Err _) = ⊥
 
 -- the same of what was typed

@@ -212,11 +212,11 @@ fn lines_of<T: Display>(alloc: Global, shown: &T) -> Result<Vec<u8>, AllocError>
 
 /// A text that is asked for.
 fn help(text: Result<Word, AllocError>) -> Request
-    ensures { MatchResult text (λ text. result ≡ Help text) (λ _. result ≡ Refused Memory None) }
+    ensures { MatchResult text (λ text. result ≡ Help text) (λ _. result ≡ Refused (Memory None) None) }
 {
     match text {
         Ok(text) => Request::Help(text),
-        Err(_) => Request::Refused(Fault::Memory, None),
+        Err(_) => Request::Refused(Fault::Memory(None), None),
     }
 }
 
@@ -224,12 +224,12 @@ fn help(text: Result<Word, AllocError>) -> Request
 /// is shown, or for the version is no fault.
 fn help_of<T: Display>(alloc: Global, kind: ErrorKind, shown: &T) -> Request
     ensures answers { AnswersKind kind (T.output shown.now) result }
-    ensures memory { kind ≡ ErrorKind.OutOfMemory → result ≡ Refused Memory None }
+    ensures memory { kind ≡ ErrorKind.OutOfMemory → result ≡ Refused (Memory None) None }
 {
     match kind {
         ErrorKind::DisplayHelp => help(shown_text(alloc, shown)),
         ErrorKind::DisplayVersion => help(version(alloc)),
-        ErrorKind::OutOfMemory => Request::Refused(Fault::Memory, None),
+        ErrorKind::OutOfMemory => Request::Refused(Fault::Memory(None), None),
         _ => Request::Refused(Fault::Words, lines_of(alloc, shown).ok()),
     }
 }

@@ -3,13 +3,12 @@ ghost use Rattle.std.specs.Prelude.{◌≡◌, ◌≤◌, IfErr, IfOk, IfSome, N
 ghost use Rattle.n2k_run.specs.Runs.{seen};
 ghost use Rattle.n2kdec.specs.Asked.{save_name};
 ghost use Rattle.n2kdec.specs.Commands.{HasStatus, IsRefusal, Performs, place, shelf};
-ghost use Rattle.n2kdec.specs.Found.{Finds};
+ghost use Rattle.n2kdec.specs.Told.{Tells};
 ghost use Rattle.n2kdec.specs.Inner.Closing.{Closes, ClosesPart, SumsUp};
 
 use crate::asked::Task;
 use crate::ending::{Ending, ending_of};
 use crate::fault::Fault;
-use crate::found::found_in;
 use crate::keeper::Keeper;
 use crate::machine::Outlets;
 use crate::work::{Stop, work};
@@ -73,7 +72,7 @@ fn close<K: Keeper, E: Sink>(
         Err(stop) => {
             match (&stop.part, stop.fault) {
                 (None, _) => {}
-                (Some(part), Fault::Read) => {
+                (Some(part), Fault::Read(_)) => {
                     let _ = save_and_sum_up(task, part, keeper, errors);
                 }
                 (Some(part), _) => {
@@ -95,8 +94,7 @@ fn close<K: Keeper, E: Sink>(
 /// fault, and after each fault of `plain` and `frames`, there is no summary, but for a part of it where the errors
 /// fail in it.
 ///
-/// A table or a state with a fault is refused before the log is read, and leaves each device as it was. What is found out
-/// about a fault goes to the outlets, too.
+/// A table or a state with a fault is refused before the log is read, and leaves each device as it was.
 pub fn run_command<R: Source, W: Sink, E: Sink, K: Keeper>(
     alloc: Global,
     task: &Task,
@@ -111,8 +109,8 @@ pub fn run_command<R: Source, W: Sink, E: Sink, K: Keeper>(
         (shelf (save_name task.now) (K.kept outlets.old.keeper) (K.failed_keeps outlets.old.keeper))
         (shelf (save_name task.now) (K.kept outlets.new.keeper) (K.failed_keeps outlets.new.keeper)) result }
     ensures admissions { K.failed_admissions outlets.new.keeper ≡ K.failed_admissions outlets.old.keeper }
-    ensures found { Finds task.now table.now (option_map (λ bytes. bytes.now) state.entry) (R.remaining log.old)
-        (R.remaining log.new) result outlets.new.found }
+    ensures told { IfErr result (Tells task.now table.now (option_map (λ bytes. bytes.now) state.entry)
+        (R.remaining log.old) (R.remaining log.new)) }
     ensures status { IfOk result (λ ending. IfSome (R.remaining log.old)
         (λ all. HasStatus task.now table.now (option_map (λ bytes. bytes.now) state.entry) all ending.status)) }
     ensures at_most_one { IfOk result (λ ending. ending.status ≤ 1) }
@@ -129,6 +127,5 @@ pub fn run_command<R: Source, W: Sink, E: Sink, K: Keeper>(
         &mut outlets.output,
         &mut outlets.errors,
     );
-    outlets.found = found_in(alloc, task, table, state, &ended);
     close(task, ended, &mut outlets.keeper, &mut outlets.errors)
 }

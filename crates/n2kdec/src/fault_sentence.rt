@@ -1,15 +1,13 @@
 //! What is said of a fault on a terminal, in one line: the file or the stream that it is of, what is wrong, what to do.
 ghost use Rattle.std.specs.Prelude.{◌≡◌, ◌++◌, IfOk, OnOk, decimal, option_map};
-ghost use Rattle.n2kdec.specs.FaultSentence.{advice_of, fault_sentence, fault_words};
-ghost use Rattle.n2kdec.specs.FaultSentence.{line_of, named, save_advice, state_advice, state_words, subject_of};
-ghost use Rattle.n2kdec.specs.FaultSentence.{log_of, save_of, state_of, table_of, wanting};
-ghost use Rattle.n2kdec.specs.FaultSentence.{found_text, lines_text, some_lines_text, table_advice, table_words};
-ghost use Rattle.n2kdec.specs.FaultSentence.{tables_text, told_of, windows_text, words_of};
+ghost use Rattle.n2kdec.specs.FaultSentence.{AreWords, IsSentence, cause_text, line_of, lines_text, log_of, named, save_of};
+ghost use Rattle.n2kdec.specs.FaultSentence.{some_lines_text, state_of, subject_of, table_of, tables_text, told_of};
+ghost use Rattle.n2kdec.specs.FaultSentence.{windows_text};
 
 use crate::asked::{Command, Task};
+use crate::difference::Difference;
 use crate::escape::push_escaped;
-use crate::fault::Fault;
-use crate::found::{Found, Reading};
+use crate::fault::{Fault, Reading};
 use crate::reason::Reason;
 use crate::words::Word;
 use n2k_join::StateFault;
@@ -17,9 +15,7 @@ use n2k_table::TableFault;
 use std::alloc::{AllocError, Global};
 
 /// What a fault of a table means.
-fn table_words(fault: TableFault) -> &'static str
-    ensures { result.now ≡ table_words fault }
-{
+fn table_words(fault: TableFault) -> &'static str {
     match fault {
         TableFault::NotToml => "it is no TOML, and so no table",
         TableFault::Format => "its format is missing, or none of 1, 2 and 3",
@@ -37,9 +33,7 @@ fn table_words(fault: TableFault) -> &'static str
 }
 
 /// What a fault of a state means.
-fn state_words(fault: StateFault) -> &'static str
-    ensures { result.now ≡ state_words fault }
-{
+fn state_words(fault: StateFault) -> &'static str {
     match fault {
         StateFault::NotJson => "it is no JSON, and so no state",
         StateFault::Format => "it is no state that this program saved",
@@ -52,19 +46,17 @@ fn state_words(fault: StateFault) -> &'static str
 }
 
 /// What a fault means, where the system has no words for it.
-fn fault_words(fault: Fault) -> &'static str
-    ensures { result.now ≡ fault_words fault }
-{
+fn fault_words(fault: Fault) -> &'static str {
     match fault {
         Fault::Words => "the words are refused",
         Fault::Interface => "an interface has a name of 1 to 15 of the characters from ! to ~",
         Fault::TableSize => "it has more than the 16777216 bytes of the longest table",
         Fault::StateSize => "it has more than the 16777216 bytes of the longest state",
         Fault::Table(fault) => table_words(fault),
-        Fault::State(fault) => state_words(fault),
-        Fault::TableFile | Fault::StateFile | Fault::Read => "it can't be read",
+        Fault::State(fault, _) => state_words(fault),
+        Fault::TableFile | Fault::StateFile | Fault::Read(_) => "it can't be read",
         Fault::Write | Fault::Report => "it can't be written",
-        Fault::Memory => "there is no memory for it",
+        Fault::Memory(_) => "there is no memory for it",
         Fault::Lines => "it has more lines than are counted",
         Fault::Save => "the state can't be saved",
     }
@@ -72,7 +64,7 @@ fn fault_words(fault: Fault) -> &'static str
 
 /// What is wrong: the words of the system, where it has any, else what the fault means.
 fn words_of<'a>(fault: Fault, reason: &'a Option<Reason>) -> &'a str
-    ensures { result.now ≡ words_of fault reason.now }
+    ensures { AreWords reason.now result.now }
 {
     match reason {
         None => fault_words(fault),
@@ -90,15 +82,15 @@ fn push_number(number: u64, text: &mut Vec<u8>) -> Result<(), AllocError>
 }
 
 /// Appends the tables of a state that is another's: what it was saved under, and what the table of this name is.
-fn push_tables(saved: &str, name: &str, id: &str, text: &mut Vec<u8>) -> Result<(), AllocError>
+fn push_tables(saved: &[u8], name: &str, id: &[u8], text: &mut Vec<u8>) -> Result<(), AllocError>
     ensures { OnOk result (text.new.items ≡ text.old.items ++ tables_text saved.now name.now id.now) }
 {
     text.extend_from_slice(b" (SHA-256 ")?;
-    text.extend_from_slice(saved.as_bytes())?;
+    text.extend_from_slice(saved)?;
     text.extend_from_slice(b"; that of ")?;
     text.extend_from_slice(named(name).as_bytes())?;
     text.extend_from_slice(b" is ")?;
-    text.extend_from_slice(id.as_bytes())?;
+    text.extend_from_slice(id)?;
     text.extend_from_slice(b")")
 }
 
@@ -133,33 +125,25 @@ fn push_lines(lines: u64, text: &mut Vec<u8>) -> Result<(), AllocError>
     }
 }
 
-/// Appends what was found out about a fault.
-fn push_found(
-    command: Option<&Command>,
-    found: &Option<Found>,
-    text: &mut Vec<u8>,
-) -> Result<(), AllocError>
+/// Appends what is known of a fault: of a state that is another's what it is of, of a failed read how far it came.
+fn push_cause(command: Option<&Command>, fault: Fault, text: &mut Vec<u8>) -> Result<(), AllocError>
     ensures { OnOk result (text.new.items ≡ text.old.items
-        ++ found_text (option_map (λ c. c.now) command.entry) found.now) }
+        ++ cause_text (option_map (λ c. c.now) command.entry) fault) }
 {
-    match found {
-        None => Ok(()),
-        Some(Found::Tables(saved, table)) => push_tables(
-            saved.as_str(),
-            table_of(command).unwrap_or(""),
-            table.as_str(),
-            text,
-        ),
-        Some(Found::Windows(saved, window)) => push_windows(*saved, *window, text),
-        Some(Found::Lines(lines)) => push_lines(*lines, text),
-        Some(Found::Memory(_)) => Ok(()),
+    match fault {
+        Fault::State(_, Some(Difference::Tables(saved, id))) => {
+            push_tables(&saved, table_of(command).unwrap_or(""), &id, text)
+        }
+        Fault::State(_, Some(Difference::Windows(saved, window))) => {
+            push_windows(saved, window, text)
+        }
+        Fault::Read(lines) => push_lines(lines, text),
+        _ => Ok(()),
     }
 }
 
 /// What to do about a table that is refused.
-fn table_advice(fault: TableFault) -> &'static str
-    ensures { result.now ≡ table_advice fault }
-{
+fn table_advice(fault: TableFault) -> &'static str {
     match fault {
         TableFault::Memory => "",
         _ => "; n2kdec-table-check says in which line",
@@ -167,9 +151,7 @@ fn table_advice(fault: TableFault) -> &'static str
 }
 
 /// What to do about a state that is refused.
-fn state_advice(fault: StateFault) -> &'static str
-    ensures { result.now ≡ state_advice fault }
-{
+fn state_advice(fault: StateFault) -> &'static str {
     match fault {
         StateFault::Memory => "",
         StateFault::TableDiffers | StateFault::WindowDiffers => {
@@ -180,9 +162,7 @@ fn state_advice(fault: StateFault) -> &'static str
 }
 
 /// What became of a log whose state can't be saved.
-fn save_advice(reason: &Option<Reason>) -> &'static str
-    ensures { result.now ≡ save_advice reason.now }
-{
+fn save_advice(reason: &Option<Reason>) -> &'static str {
     match reason {
         None => "",
         Some(Reason::System(_)) =>
@@ -193,15 +173,13 @@ fn save_advice(reason: &Option<Reason>) -> &'static str
 }
 
 /// What to do.
-fn advice_of(fault: Fault, reason: &Option<Reason>) -> &'static str
-    ensures { result.now ≡ advice_of fault reason.now }
-{
+fn advice_of(fault: Fault, reason: &Option<Reason>) -> &'static str {
     match fault {
         Fault::Table(fault) => table_advice(fault),
-        Fault::State(fault) => state_advice(fault),
+        Fault::State(fault, _) => state_advice(fault),
         Fault::Save => save_advice(reason),
         Fault::Write => "; the rest is not printed",
-        Fault::Memory => "; nothing was saved",
+        Fault::Memory(_) => "; nothing was saved",
         _ => "",
     }
 }
@@ -244,35 +222,24 @@ fn save_of(command: Option<&Command>) -> Option<&str>
     }
 }
 
-/// What was read when memory was refused, and else the words that were typed.
-fn wanting<'a>(command: Option<&'a Command>, found: &Option<Found>) -> Option<&'a str>
-    ensures { option_map (λ text. text.now) result ≡ wanting (option_map (λ c. c.now) command.entry) found.now }
-{
-    match found {
-        Some(Found::Memory(Reading::Table)) => table_of(command),
-        Some(Found::Memory(Reading::State)) => state_of(command),
-        Some(Found::Memory(Reading::Log)) => log_of(command),
-        _ => Some("the command line"),
-    }
-}
-
 /// What a fault is of: the name that was typed, or that of a stream.
-fn subject_of<'a>(
-    command: Option<&'a Command>,
-    fault: Fault,
-    found: &Option<Found>,
-) -> Option<&'a str>
-    ensures { option_map (λ text. text.now) result
-        ≡ subject_of (option_map (λ c. c.now) command.entry) fault found.now }
+fn subject_of(command: Option<&Command>, fault: Fault) -> Option<&str>
+    ensures { option_map (λ text. text.now) result ≡ subject_of (option_map (λ c. c.now) command.entry) fault }
 {
     match fault {
         Fault::Words | Fault::Report => None,
         Fault::Interface => Some("--candump"),
-        Fault::TableSize | Fault::Table(_) | Fault::TableFile => table_of(command),
-        Fault::StateSize | Fault::State(_) | Fault::StateFile => state_of(command),
-        Fault::Read | Fault::Lines => log_of(command),
+        Fault::Memory(None) => Some("the command line"),
+        Fault::TableSize
+        | Fault::Table(_)
+        | Fault::TableFile
+        | Fault::Memory(Some(Reading::Table)) => table_of(command),
+        Fault::StateSize
+        | Fault::State(..)
+        | Fault::StateFile
+        | Fault::Memory(Some(Reading::State)) => state_of(command),
+        Fault::Read(_) | Fault::Lines | Fault::Memory(Some(Reading::Log)) => log_of(command),
         Fault::Write => Some("standard output"),
-        Fault::Memory => wanting(command, found),
         Fault::Save => save_of(command),
     }
 }
@@ -294,42 +261,44 @@ fn line_of(alloc: Global, text: &[u8]) -> Result<Vec<u8>, AllocError>
     Ok(line)
 }
 
-/// What is said of a subject: what is wrong with it, what was found out, and what to do.
+/// What is said of a subject: what is wrong with it, what is known of that, and what to do.
 fn told_of(
     alloc: Global,
     command: Option<&Command>,
     subject: &str,
+    words: &str,
     fault: Fault,
-    reason: &Option<Reason>,
-    found: &Option<Found>,
+    advice: &str,
 ) -> Result<Vec<u8>, AllocError>
-    ensures { IfOk result (λ text. text.items ≡ told_of (option_map (λ c. c.now) command.entry) subject.now fault reason.now found.now) }
+    ensures { IfOk result (λ text. text.items
+        ≡ told_of (option_map (λ c. c.now) command.entry) subject.now words.now fault advice.now) }
 {
     let mut text = named(subject).as_bytes().to_vec(alloc)?;
     text.extend_from_slice(b": ")?;
-    text.extend_from_slice(words_of(fault, reason).as_bytes())?;
-    push_found(command, found, &mut text)?;
-    text.extend_from_slice(advice_of(fault, reason).as_bytes())?;
+    text.extend_from_slice(words.as_bytes())?;
+    push_cause(command, fault, &mut text)?;
+    text.extend_from_slice(advice.as_bytes())?;
     Ok(text)
 }
 
-/// What is said of a fault of a command, or of none, for this reason and with what was found out: one line with
-/// its LF, in which control characters are escaped; nothing where it is of no file and no stream.
+/// What is said of a fault of a command, or of none, for this reason: one line with its LF, in which control characters
+/// are escaped; nothing where it is of no file and no stream.
 pub fn fault_sentence(
     alloc: Global,
     command: Option<&Command>,
     fault: Fault,
     reason: &Option<Reason>,
-    found: &Option<Found>,
 ) -> Result<Vec<u8>, AllocError>
     ensures { IfOk result (λ text.
-        text.items ≡ fault_sentence (option_map (λ c. c.now) command.entry) fault reason.now found.now) }
+        IsSentence (option_map (λ c. c.now) command.entry) fault reason.now text.items) }
 {
-    match subject_of(command, fault, found) {
-        Some(subject) => line_of(
-            alloc,
-            &told_of(alloc, command, subject, fault, reason, found)?,
-        ),
-        None => Ok(Vec::new(alloc)),
-    }
+    let Some(subject) = subject_of(command, fault) else {
+        return Ok(Vec::new(alloc));
+    };
+    let words = words_of(fault, reason);
+    let advice = advice_of(fault, reason);
+    line_of(
+        alloc,
+        &told_of(alloc, command, subject, words, fault, advice)?,
+    )
 }

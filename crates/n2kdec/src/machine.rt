@@ -3,15 +3,13 @@ ghost use Rattle.std.specs.Prelude.{◌≡◌, ◌⊎◌, None, Some, IfErr, IfO
 ghost use Rattle.n2kdec.specs.FaultSentence.{IsAsKnown};
 ghost use Rattle.n2kdec.specs.Machine.{ClosesFile, FileUse, IsTerminal, OpensFile, World, bytes_named};
 
-use crate::fault::Fault;
-use crate::found::Found;
+use crate::fault::{Fault, Reading};
 use crate::reason::Reason;
 use crate::words::Word;
 use n2k_run::{Sink, Source};
 use std::alloc::Global;
 
-/// Where the program's texts go, each to a type of its own, so that one can't stand for the other; and what is found out
-/// about a fault.
+/// Where the program's texts go, each to a type of its own, so that one can't stand for the other.
 #[derive(Drop)]
 pub struct Outlets<W, E, K> {
     /// Standard output.
@@ -20,8 +18,6 @@ pub struct Outlets<W, E, K> {
     pub errors: E,
     /// What keeps a state.
     pub keeper: K,
-    /// What is found out about the fault that ended a command.
-    pub found: Option<Found>,
 }
 
 /// What the program meets.
@@ -45,16 +41,17 @@ pub trait Machine {
     fn typed(&self, alloc: Global) -> Result<Vec<String>, Fault>
         ensures words { IfOk result (λ words. IfSome (world self.now).typed
             (λ typed. map string_bytes words.items ≡ typed)) }
-        ensures fault { IfErr result (λ fault. (fault ≡ Fault.Words) ⊎ (fault ≡ Fault.Memory)) }
+        ensures fault { IfErr result (λ fault. (fault ≡ Fault.Words) ⊎ (fault ≡ Fault.Memory None)) }
         ensures texts { IsErrOf result Fault.Words → (world self.now).typed ≡ None };
 
-    /// Opens the file of this name. `refused` where there is none of the name, or it may not be read.
-    fn open(&mut self, name: &Word, refused: Fault) -> Result<Self::File, Fault>
+    /// Opens the file of this name, which is read for this. It is unread where there is none of the name, or it may not be
+    /// read.
+    fn open(&mut self, name: &Word, reading: Reading) -> Result<Self::File, Fault>
         ensures same { world self.new ≡ world self.old }
         ensures bytes { IfOk result (λ file. Self.File.remaining file ≡ bytes_named (world self.old) (Some name.now)) }
         ensures none_called { IfOk result (λ file. Self.File.calls file ≡ 0) }
         ensures none_failed { IfOk result (λ file. Self.File.failed_calls file ≡ 0) }
-        ensures files { OpensFile (Some name.now) refused (files self.old) (files self.new) result };
+        ensures files { OpensFile (Some name.now) reading (files self.old) (files self.new) result };
 
     /// Standard input, which is always there.
     fn input(&mut self) -> Result<Self::File, Fault>
@@ -62,7 +59,7 @@ pub trait Machine {
         ensures bytes { IfOk result (λ file. Self.File.remaining file ≡ bytes_named (world self.old) None) }
         ensures none_called { IfOk result (λ file. Self.File.calls file ≡ 0) }
         ensures none_failed { IfOk result (λ file. Self.File.failed_calls file ≡ 0) }
-        ensures files { OpensFile None Fault.Read (files self.old) (files self.new) result };
+        ensures files { OpensFile None Reading.Log (files self.old) (files self.new) result };
 
     /// Closes a file, and counts the calls of it, and those that failed.
     fn close(&mut self, file: Self::File)

@@ -4,7 +4,7 @@ ghost use Rattle.clap.specs.Walk.{texts};
 ghost use Rattle.n2kdec.specs.MemoryMachine.{bytes_under, kept_text};
 
 use crate::asked::Files;
-use crate::fault::Fault;
+use crate::fault::{Fault, Reading, unread};
 use crate::keeper::Keeper;
 use crate::machine::Machine;
 use crate::reason::Reason;
@@ -148,21 +148,28 @@ impl<'a> Machine for MemoryMachine<'a> {
     }
 
     #[tactic(auto, using(crate::proofs::MachineLemmas::still_opened))]
-    fn open(&mut self, name: &Word, refused: Fault) -> Result<MemoryFile<'a>, Fault> {
-        let own = Word::new(*self.opened.allocator(), name.as_str())?;
-        note(&mut self.opened, Some(own))?;
+    fn open(&mut self, name: &Word, reading: Reading) -> Result<MemoryFile<'a>, Fault> {
+        let memory = Fault::Memory(Some(reading));
+        let Ok(own) = Word::new(*self.opened.allocator(), name.as_str()) else {
+            return Err(memory);
+        };
+        if note(&mut self.opened, Some(own)).is_err() {
+            return Err(memory);
+        }
         match text_under(self.files, name.as_str()) {
             Some(text) => Ok(MemoryFile::new(text.as_bytes(), self.fails_at)),
             None => {
                 self.failed_reads = self.failed_reads.saturating_add(1);
-                Err(refused)
+                Err(unread(reading))
             }
         }
     }
 
     #[tactic(auto, using(crate::proofs::MachineLemmas::still_opened))]
     fn input(&mut self) -> Result<MemoryFile<'a>, Fault> {
-        note(&mut self.opened, None)?;
+        if note(&mut self.opened, None).is_err() {
+            return Err(Fault::Memory(Some(Reading::Log)));
+        }
         Ok(MemoryFile::new(self.input.as_bytes(), self.fails_at))
     }
 

@@ -14,10 +14,9 @@ use crate::asked::{Command, Request, Task};
 use crate::command_line::request;
 use crate::commands::run_command;
 use crate::ending::{Ending, hint};
-use crate::fault::{Fault, status};
+use crate::fault::{Fault, Reading, status, unread};
 use crate::fault_message::{write_fault, write_text};
 use crate::fault_sentence::fault_sentence;
-use crate::found::{Reading, note_memory};
 use crate::keeper::Keeper;
 use crate::machine::{Machine, Outlets};
 use crate::parser::Parser;
@@ -47,7 +46,7 @@ fn typed_request<P: Parser, M: Machine>(alloc: Global, parser: &P, machine: &M) 
     match machine.typed(alloc) {
         Ok(typed) => match texts_of(alloc, &typed) {
             Ok(texts) => request(alloc, parser, &texts),
-            Err(_) => Request::Refused(Fault::Memory, None),
+            Err(_) => Request::Refused(Fault::Memory(None), None),
         },
         Err(fault) => Request::Refused(fault, None),
     }
@@ -59,26 +58,26 @@ fn read_file<M: Machine>(
     alloc: Global,
     machine: &mut M,
     name: &Option<Word>,
+    reading: Reading,
     too_large: Fault,
-    unread: Fault,
 ) -> Result<Option<Vec<u8>>, Fault>
     ensures same { M.world machine.new ≡ M.world machine.old }
     ensures bytes { IfOk result (λ read. IsOfFile (M.world machine.old) name.now
         (option_map (λ bytes. bytes.items) read)) }
-    ensures reads { ReadsFile (M.world machine.old) name.now too_large unread (M.files machine.old)
+    ensures reads { ReadsFile (M.world machine.old) name.now reading too_large (M.files machine.old)
         (M.files machine.new) result }
 {
     let Some(path) = name else {
         return Ok(None);
     };
-    let mut file = machine.open(path, unread)?;
+    let mut file = machine.open(path, reading)?;
     let read = read_bytes(alloc, &mut file, LONGEST_FILE);
     machine.close(file);
     match read {
         Ok(bytes) => Ok(Some(bytes)),
         Err(BytesFault::TooLong) => Err(too_large),
-        Err(BytesFault::Read) => Err(unread),
-        Err(BytesFault::Memory) => Err(Fault::Memory),
+        Err(BytesFault::Read) => Err(unread(reading)),
+        Err(BytesFault::Memory) => Err(Fault::Memory(Some(reading))),
     }
 }
 
@@ -88,10 +87,10 @@ fn open_log<M: Machine>(machine: &mut M, name: &Option<Word>) -> Result<M::File,
     ensures bytes { IfOk result (λ file. M.File.remaining file ≡ bytes_named (M.world machine.old) name.now) }
     ensures none_called { IfOk result (λ file. M.File.calls file ≡ 0) }
     ensures none_failed { IfOk result (λ file. M.File.failed_calls file ≡ 0) }
-    ensures files { OpensFile name.now Fault.Read (M.files machine.old) (M.files machine.new) result }
+    ensures files { OpensFile name.now Reading.Log (M.files machine.old) (M.files machine.new) result }
 {
     match name {
-        Some(path) => machine.open(path, Fault::Read),
+        Some(path) => machine.open(path, Reading::Log),
         None => machine.input(),
     }
 }
@@ -110,39 +109,22 @@ fn run_on_files<M: Machine, K: Keeper>(
         (outside M.Output.Sink M.Errors.Sink K.Keeper (M.files machine.old) outlets.old)
         (outside M.Output.Sink M.Errors.Sink K.Keeper (M.files machine.new) outlets.new) result }
 {
-    let table = match read_file(
+    let files = &command.files;
+    let table = read_file(
         alloc,
         machine,
-        &command.files.table,
+        &files.table,
+        Reading::Table,
         Fault::TableSize,
-        Fault::TableFile,
-    ) {
-        Ok(table) => table,
-        Err(fault) => {
-            note_memory(fault, Reading::Table, &mut outlets.found);
-            return Err(fault);
-        }
-    };
-    let state = match read_file(
+    )?;
+    let state = read_file(
         alloc,
         machine,
-        &command.files.state,
+        &files.state,
+        Reading::State,
         Fault::StateSize,
-        Fault::StateFile,
-    ) {
-        Ok(state) => state,
-        Err(fault) => {
-            note_memory(fault, Reading::State, &mut outlets.found);
-            return Err(fault);
-        }
-    };
-    let mut log = match open_log(machine, &command.files.log) {
-        Ok(log) => log,
-        Err(fault) => {
-            note_memory(fault, Reading::Log, &mut outlets.found);
-            return Err(fault);
-        }
-    };
+    )?;
+    let mut log = open_log(machine, &files.log)?;
     let table = table.unwrap_or(Vec::new(alloc));
     let state = state.as_ref().map(|bytes| bytes.as_slice());
     let answer = run_command(alloc, &command.task, &table, state, &mut log, outlets);
@@ -245,7 +227,7 @@ fn reason_of<M: Machine, K: Keeper>(
     match fault {
         Fault::TableFile => machine.why_unread(alloc, &command?.files.table),
         Fault::StateFile => machine.why_unread(alloc, &command?.files.state),
-        Fault::Read => machine.why_unread(alloc, &command?.files.log),
+        Fault::Read(_) => machine.why_unread(alloc, &command?.files.log),
         Fault::Write => machine.why_unwritten(alloc, &outlets.output),
         Fault::Save => why_unkept(alloc, command?, &outlets.keeper),
         _ => None,
@@ -261,10 +243,10 @@ fn sentence_of<M: Machine, K: Keeper>(
     fault: Fault,
 ) -> Result<Vec<u8>, AllocError>
     ensures { IfOk result (λ text. IsSentenceOf (M.world machine.now) K.unkept
-        (option_map (λ c. c.now) command.entry) outlets.now.found fault text.items) }
+        (option_map (λ c. c.now) command.entry) fault text.items) }
 {
     let reason = reason_of(alloc, machine, command, outlets, fault);
-    fault_sentence(alloc, command, fault, &reason, &outlets.found)
+    fault_sentence(alloc, command, fault, &reason)
 }
 
 /// What is said on a terminal of a fault: of refused words what their parser shows, else the sentence of the fault.
@@ -276,7 +258,7 @@ fn told_of<M: Machine, K: Keeper>(
     fault: Fault,
 ) -> Result<Vec<u8>, AllocError>
     ensures { IfOk result (λ text.
-        IsToldOf (M.world machine.now) K.unkept request.now outlets.now.found fault text.items) }
+        IsToldOf (M.world machine.now) K.unkept request.now fault text.items) }
 {
     match request {
         Request::Refused(_, Some(lines)) => lines.clone(),
@@ -294,7 +276,7 @@ fn text_before<M: Machine, K: Keeper>(
     outlets: &Outlets<M::Output, M::Errors, K>,
     fault: Fault,
 ) -> Vec<u8>
-    ensures { StandsBefore (M.world machine.now) K.unkept request.now outlets.now.found fault result.items }
+    ensures { StandsBefore (M.world machine.now) K.unkept request.now fault result.items }
 {
     if !machine.is_terminal() {
         return Vec::new(alloc);
@@ -356,7 +338,6 @@ pub fn run<P: Parser, M: Machine, K: Keeper>(
     machine: &mut M,
     outlets: &mut Outlets<M::Output, M::Errors, K>,
 ) -> ExitCode
-    requires { outlets.old.found ≡ None }
     ensures { RunsTyped (P.shown parser.now) (M.world machine.old)
         (outside M.Output.Sink M.Errors.Sink K.Keeper (M.files machine.old) outlets.old)
         (outside M.Output.Sink M.Errors.Sink K.Keeper (M.files machine.new) outlets.new) (exit_status result) }

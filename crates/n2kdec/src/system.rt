@@ -2,7 +2,7 @@
 //! becomes of those that are written, no contract says.
 ghost use Rattle.n2kdec.specs.Machine.{unknown_world};
 
-use crate::fault::Fault;
+use crate::fault::{Fault, Reading, unread};
 use crate::machine::Machine;
 use crate::reader::{Origin, Reader};
 use crate::reason::{Reason, words_for};
@@ -50,19 +50,21 @@ impl<'a> Machine for System<'a> {
     fn typed(&self, alloc: Global) -> Result<Vec<String>, Fault> {
         match env::args(self.rt) {
             Ok(given) => Ok(given.collect(alloc)?),
-            Err(error) if error.kind() == ErrorKind::OutOfMemory => Err(Fault::Memory),
+            Err(error) if error.kind() == ErrorKind::OutOfMemory => Err(Fault::Memory(None)),
             Err(_) => Err(Fault::Words),
         }
     }
 
-    fn open(&mut self, name: &Word, refused: Fault) -> Result<Self::File, Fault> {
+    fn open(&mut self, name: &Word, reading: Reading) -> Result<Self::File, Fault> {
         match fs::open(self.rt, name.as_str()) {
             Ok(file) => Ok(Reader::new(Origin::File(StdSource::new(file)))),
-            Err(error) if error.kind() == ErrorKind::OutOfMemory => Err(Fault::Memory),
+            Err(error) if error.kind() == ErrorKind::OutOfMemory => {
+                Err(Fault::Memory(Some(reading)))
+            }
             Err(error) => {
                 self.failed_reads = self.failed_reads.saturating_add(1);
                 self.failure = Some(error);
-                Err(refused)
+                Err(unread(reading))
             }
         }
     }

@@ -59,42 +59,46 @@ const FAULTS: [(Fault, &str, u8); 29] = [
     ),
     (Fault::Table(TableFault::Memory), "n2kdec: memory\n", 3),
     (
-        Fault::State(StateFault::NotJson),
+        Fault::State(StateFault::NotJson, None),
         "n2kdec: state 1 NotJson\n",
         2,
     ),
     (
-        Fault::State(StateFault::Format),
+        Fault::State(StateFault::Format, None),
         "n2kdec: state 2 Format\n",
         2,
     ),
     (
-        Fault::State(StateFault::Shape),
+        Fault::State(StateFault::Shape, None),
         "n2kdec: state 3 Shape\n",
         2,
     ),
     (
-        Fault::State(StateFault::TableDiffers),
+        Fault::State(StateFault::TableDiffers, None),
         "n2kdec: state 4 TableDiffers\n",
         2,
     ),
     (
-        Fault::State(StateFault::Invalid),
+        Fault::State(StateFault::Invalid, None),
         "n2kdec: state 5 Invalid\n",
         2,
     ),
     (
-        Fault::State(StateFault::WindowDiffers),
+        Fault::State(StateFault::WindowDiffers, None),
         "n2kdec: state 7 WindowDiffers\n",
         2,
     ),
-    (Fault::State(StateFault::Memory), "n2kdec: memory\n", 3),
+    (
+        Fault::State(StateFault::Memory, None),
+        "n2kdec: memory\n",
+        3,
+    ),
     (Fault::TableFile, "n2kdec: table file\n", 3),
     (Fault::StateFile, "n2kdec: state file\n", 3),
-    (Fault::Read, "n2kdec: read\n", 3),
+    (Fault::Read(0), "n2kdec: read\n", 3),
     (Fault::Write, "n2kdec: write\n", 3),
     (Fault::Report, "n2kdec: report\n", 3),
-    (Fault::Memory, "n2kdec: memory\n", 3),
+    (Fault::Memory(None), "n2kdec: memory\n", 3),
     (Fault::Lines, "n2kdec: lines\n", 3),
     (Fault::Save, "n2kdec: save\n", 3),
 ];
@@ -503,7 +507,6 @@ fn what_was_typed_is_run(rt: HostRuntime) -> Result<(), Fail> {
         output: MemorySink::new(alloc, 100, 0),
         errors: MemorySink::new(alloc, 100, 0),
         keeper: MemoryKeeper::new(alloc),
-        found: None,
     };
     assert_eq!(rt;
         run(alloc, &ClapParser, &mut machine, &mut outlets),

@@ -28,7 +28,7 @@ Closes keeper kept errors summed text counts result =
 -- are summed up; at the limit of lines they are summed up alone.
 abbrev pub FollowsStop : Shelf → Shelf → Place → Place → Option Part → Fault → Type 0
 FollowsStop keeper kept errors summed None fault = (kept ≡ keeper) × (summed ≡ errors)
-FollowsStop keeper kept errors summed (Some part) Read =
+FollowsStop keeper kept errors summed (Some part) (Read lines) =
     (result : Result Ending Fault) × Closes keeper kept errors summed part.state.items part.counts result
 FollowsStop keeper kept errors summed (Some part) _ =
     (kept ≡ keeper) × IsWrittenUnlessFailed errors summed (summary_text part.counts)

@@ -18,5 +18,5 @@ AnswersKind kind shown (Command command) = ⊥
 AnswersKind kind shown (Refused fault.Words lines) =
     (kind ≢ DisplayHelp) × (kind ≢ DisplayVersion) × (kind ≢ OutOfMemory)
     × IfSome lines (λ lines. AreLinesOf shown lines.items)
-AnswersKind kind shown (Refused fault.Memory lines) = lines ≡ None
+AnswersKind kind shown (Refused (fault.Memory read) lines) = (read ≡ None) × (lines ≡ None)
 AnswersKind kind shown (Refused _ lines) = ⊥
