@@ -2,6 +2,7 @@
 ghost use Rattle.std.specs.Prelude.{◌≡◌, ◌⊎◌, [], OnOk};
 ghost use Rattle.n2k_run.specs.Blocks.{CallsAre, HasFeed};
 ghost use Rattle.n2k_run.specs.Fold.{Fold, after_all};
+ghost use Rattle.n2k_table.specs.LineBuffer.{text_of};
 ghost use Rattle.n2k_wire.specs.Entry.{IsShort};
 ghost use Rattle.n2k_run.specs.Reading.{ReadsBytes, idle_calls};
 ghost use Rattle.n2k_run.specs.Runs.{Runs, output_from, seen};
@@ -13,6 +14,7 @@ use crate::blocks::{Blocks, Next};
 use crate::device::{Failed, Sink, Source};
 use crate::fault::RunFault;
 use crate::writing::write_all;
+use n2k_table::LineBuffer;
 use n2k_wire::{BadCause, Entry, LineReader, Packing};
 use std::alloc::Global;
 
@@ -40,31 +42,31 @@ pub(crate) trait EntryHandler {
         alloc: Global,
         state: &mut Self::State,
         entry: &mut Entry,
-        text: &mut Vec<u8>,
+        text: &mut LineBuffer,
         report: &mut Vec<u8>,
     ) -> Result<(), RunFault>
         requires short { IsShort entry.old }
         requires ready { is_ready self.now state.old }
-        ensures taken { TakesEntry (fold self.now) (known state.old) (known state.new) entry.old text.old.items
-            text.new.items report.old.items report.new.items result }
+        ensures taken { TakesEntry (fold self.now) (known state.old) (known state.new) entry.old (text_of text.old)
+            (text_of text.new) report.old.items report.new.items result }
         ensures ready { OnOk result (is_ready self.now state.new) };
 }
 
 /// The texts and reports that a run has made and not written yet.
 #[derive(Drop)]
 pub(crate) struct Pending {
-    pub(crate) text: Vec<u8>,
+    pub(crate) text: LineBuffer,
     pub(crate) report: Vec<u8>,
 }
 
 impl Pending {
     /// Nothing is pending.
     pub(crate) fn new(alloc: Global) -> Self
-        ensures text { result.text.items ≡ [] }
+        ensures text { text_of result.text ≡ [] }
         ensures report { result.report.items ≡ [] }
     {
         Pending {
-            text: Vec::new(alloc),
+            text: LineBuffer::new(alloc),
             report: Vec::new(alloc),
         }
     }
@@ -75,16 +77,16 @@ impl Pending {
         writer: &mut W,
         reporter: &mut E,
     ) -> Result<(), RunFault>
-        ensures written { WritesPending self.old.text.items self.old.report.items (W.contents writer.old)
+        ensures written { WritesPending (text_of self.old.text) self.old.report.items (W.contents writer.old)
             (W.contents writer.new) (E.contents reporter.old) (E.contents reporter.new) result }
         ensures device { FailsPending (W.failed_calls writer.old) (W.failed_calls writer.new)
             (E.failed_calls reporter.old) (E.failed_calls reporter.new) result }
-        ensures none_pending { OnOk result ((self.new.text.items ≡ []) × (self.new.report.items ≡ [])) }
+        ensures none_pending { OnOk result ((text_of self.new.text ≡ []) × (self.new.report.items ≡ [])) }
     {
         write_all(reporter, &self.report).map_err(|_| RunFault::Report)?;
         self.report.clear();
-        write_all(writer, &self.text).map_err(|_| RunFault::Write)?;
-        self.text.clear();
+        write_all(writer, self.text.as_slice()).map_err(|_| RunFault::Write)?;
+        self.text.end = 0;
         Ok(())
     }
 }
@@ -105,7 +107,7 @@ fn take_long<H: EntryHandler>(
 ) -> Result<(), RunFault>
     requires { H.is_ready engine.now.handler.now state.old }
     ensures taken { TakesEntry (H.fold engine.now.handler.now) (H.known state.old) (H.known state.new) (Bad Long)
-        pending.old.text.items pending.new.text.items pending.old.report.items pending.new.report.items result }
+        (text_of pending.old.text) (text_of pending.new.text) pending.old.report.items pending.new.report.items result }
     ensures ready { OnOk result (H.is_ready engine.now.handler.now state.new) }
 {
     let mut entry = Entry::Bad(BadCause::Long);
@@ -126,10 +128,10 @@ fn take_next<H: EntryHandler, R: Source>(
     pending: &mut Pending,
 ) -> Result<(), RunFault>
     requires ready { H.is_ready engine.now.handler.now state.old }
-    requires written { HasFeed blocks.old.kept ⊎ ((pending.old.text.items ≡ []) × (pending.old.report.items ≡ [])) }
+    requires written { HasFeed blocks.old.kept ⊎ ((text_of pending.old.text ≡ []) × (pending.old.report.items ≡ [])) }
     ensures taken { TakesNext (H.fold engine.now.handler.now) engine.now.packing (H.known state.old) (H.known state.new)
         blocks.old blocks.new (R.remaining reader.old) (R.remaining reader.new)
-        pending.old.text.items pending.new.text.items pending.old.report.items pending.new.report.items result }
+        (text_of pending.old.text) (text_of pending.new.text) pending.old.report.items pending.new.report.items result }
     ensures ready { OnOk result (H.is_ready engine.now.handler.now state.new) }
     ensures device { ReadsNext blocks.new (R.failed_calls reader.old) (R.failed_calls reader.new) result }
     ensures reads { ReadsBytes (idle_calls blocks.new.has_ended result) (R.remaining reader.old)

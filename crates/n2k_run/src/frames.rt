@@ -16,7 +16,7 @@ use crate::engine::{EntryHandler, run_entries};
 use crate::fault::RunFault;
 use crate::texts::bad_text;
 use n2k_join::{Counts, MOST_LINES, SplitFault, Splitter, laws};
-use n2k_table::Table;
+use n2k_table::{LineBuffer, Table};
 use n2k_wire::{BadCause, CandumpLines, Entry, Id, Packet, Packing, WireFault, plain_text};
 use std::alloc::{AllocError, Global};
 
@@ -181,14 +181,17 @@ impl<'a> EntryHandler for FrameLines<'a> {
         alloc: Global,
         state: &mut Sending<'a>,
         entry: &mut Entry,
-        text: &mut Vec<u8>,
+        text: &mut LineBuffer,
         report: &mut Vec<u8>,
     ) -> Result<(), RunFault> {
         if state.counts.lines == MOST_LINES {
             return Err(RunFault::TooManyLines);
         }
         state.counts.lines += 1;
-        match self.outcome(alloc, &mut state.sender, entry, text)? {
+        text.bytes.truncate(text.end);
+        let outcome = self.outcome(alloc, &mut state.sender, entry, &mut text.bytes)?;
+        text.end = text.bytes.len();
+        match outcome {
             Outcome::Skipped => {}
             Outcome::Written => state.counts.messages += 1,
             Outcome::Bad(cause) => {

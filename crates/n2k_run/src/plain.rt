@@ -9,6 +9,7 @@ use crate::engine::{EntryHandler, run_entries};
 use crate::fault::RunFault;
 use crate::texts::bad_text;
 use n2k_join::{Counts, MOST_LINES};
+use n2k_table::LineBuffer;
 use n2k_wire::{Entry, Packing, plain_text};
 use std::alloc::Global;
 
@@ -37,7 +38,7 @@ impl EntryHandler for PlainLines {
         alloc: Global,
         counts: &mut Counts,
         entry: &mut Entry,
-        text: &mut Vec<u8>,
+        text: &mut LineBuffer,
         report: &mut Vec<u8>,
     ) -> Result<(), RunFault> {
         if counts.lines == MOST_LINES {
@@ -51,7 +52,9 @@ impl EntryHandler for PlainLines {
                 counts.bad += 1;
             }
             Entry::Frame(packet) | Entry::Whole(packet) => {
-                plain_text(alloc, packet, text)?;
+                text.bytes.truncate(text.end);
+                plain_text(alloc, packet, &mut text.bytes)?;
+                text.end = text.bytes.len();
                 counts.messages += 1;
             }
         }

@@ -4,6 +4,7 @@ use Rattle.std.specs.Prelude.{decimal}
 use Rattle.std.specs.List.{list_all, find, join_with_byte}
 use Rattle.std.proofs.lemmas.Bool.{cases_Bool, eqb-true, and_parts, leb-true, le-leb, ne_eqb}
 use Rattle.std.proofs.lemmas.Fmt.{decimal_digit}
+use Rattle.std.proofs.lemmas.List.{take-take, take-append-drop}
 use Rattle.itoa.proofs.Decimal.{decimal_two, decimal_pair}
 use Rattle.std.specs.Str.{bytes_eq}
 use Rattle.std.proofs.lemmas.Slice.Eq.{bytes_eq-Decides}
@@ -121,11 +122,6 @@ found_number pgn payload (d ∷ ds) =
 pub choice_number : (t : TableParts) (pgn : ℕ) (payload : List ℕ) → IfSome (choice t pgn payload) (λ (d : DefinitionParts). d.pgn ≡ pgn)
 choice_number t pgn payload = found_number pgn payload t.definitions
 
--- a stamp that stands for itself, between its quotes
-pub plain_time : (line stamp l1 l2 l3 : List ℕ) → list_all is_plain stamp ≡ true → l1 ≡ line ++ codes "{\"timestamp\":\"" → l2 ≡ l1 ++ stamp → l3 ≡ l2 ++ 34 ∷ []
-    → l3 ≡ line ++ (codes "{\"timestamp\":" ++ text_json stamp)
-plain_time line stamp l1 l2 l3 plain p1 p2 p3 = rw (p3, p2, p1, text_json-plain stamp plain) (simp append_assoc)
-
 pub two_parts : (line a b l1 l2 : List ℕ) → l1 ≡ line ++ a → l2 ≡ l1 ++ b → l2 ≡ line ++ (a ++ b)
 two_parts line a b l1 l2 p1 p2 = rw (p2, p1) (append_assoc line a b)
 
@@ -151,10 +147,15 @@ all_usual_plain (x ∷ xs) all =
     let both = and_parts (is_usual x) (list_all is_usual xs) all in
     rw (usual_is_plain x both.0) (all_usual_plain xs both.1)
 
--- a stamp of usual bytes stands for itself
-pub usual_stamp : (stamp first last : List ℕ) (k : ℕ) → k ≤ 16 → first ≡ take 16 stamp → last ≡ drop k stamp
-    → (list_all is_usual first && list_all is_usual last) ≡ true → list_all is_plain stamp ≡ true
-usual_stamp stamp first last k few is_first is_last all =
+-- a stamp of usual bytes stands for itself, between its quotes: its first sixteen bytes and its last are all of it
+pub usual_time : (stamp first last : List ℕ) (k : ℕ) → k ≤ 16 → first ≡ take 16 stamp → last ≡ drop k stamp
+    → (list_all is_usual first && list_all is_usual last) ≡ true → ((codes "{\"timestamp\":\"" ++ take k first) ++ last) ++ 34 ∷ [] ≡ codes "{\"timestamp\":" ++ text_json stamp
+usual_time stamp first last k few is_first is_last all =
     let both = and_parts (list_all is_usual first) (list_all is_usual last) all in
-    all_usual_plain stamp (all_overlap is_usual k 16 stamp few
-    (ap (list_all is_usual) (sym is_first) ∙ both.0) (ap (list_all is_usual) (sym is_last) ∙ both.1))
+    let plain = all_usual_plain stamp (all_overlap is_usual k 16 stamp few
+    (ap (list_all is_usual) (sym is_first) ∙ both.0) (ap (list_all is_usual) (sym is_last) ∙ both.1)) in
+    let front : take k first ≡ take k stamp = ap (take k) is_first ∙ take-take k 16 stamp few in
+    let whole : take k first ++ last ≡ stamp = rw (front, is_last) (take-append-drop k stamp) in
+    let begin = codes "{\"timestamp\":\"" in
+    rw (text_json-plain stamp plain)
+    (ap (λ (t : List ℕ). t ++ 34 ∷ []) (append_assoc begin (take k first) last ∙ ap (λ (t : List ℕ). begin ++ t) whole) ∙ append_assoc begin stamp (34 ∷ []))

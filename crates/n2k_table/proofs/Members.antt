@@ -1,5 +1,5 @@
 -- The members of an object, one after the other.
-use Rattle.std.proofs.Common.{◌≡◌, ℕ, zero, suc, ◌+◌, Bool, true, false, ◌||◌, List, [], ◌∷◌, ◌++◌, length, Option, Some, None, is_some, map, refl, sym, ap, ◌∙◌, append_assoc, arith, Result, Ok, Err, OnOk, codes}
+use Rattle.std.proofs.Common.{◌≡◌, ℕ, zero, suc, ◌+◌, Bool, true, false, ◌||◌, List, [], ◌∷◌, ◌++◌, length, take, Option, Some, None, is_some, map, refl, sym, ap, ◌∙◌, append_assoc, arith, Result, Ok, Err, IfOk, codes}
 use Rattle.std.specs.Prelude.{nat_lt, if◌then◌else◌}
 use Rattle.std.specs.List.{filter_map, cons_option, join_with_byte, range_with_len}
 use Rattle.std.proofs.lemmas.Bool.{lt-ltb, le-ltb}
@@ -98,10 +98,10 @@ pub flag_is_done : (empty later total : Bool) (rest : List FieldParts) (payload 
 flag_is_done empty later total [] payload none so_far = sym (flag_end later) ∙ so_far
 flag_is_done empty later total (f ∷ fs) payload none so_far = absurd (omega arith)
 
--- what holds of an answer
-pub on_ok : {T E : Type 0} {P Q : Type 0} (r : Result T E) → (P → Q) → OnOk r P → OnOk r Q
-on_ok (Ok x) f p = f p
-on_ok (Err e) f p = p
+-- what stands before the place that is answered, said otherwise
+pub as_if : {E : Type 0} (answer : Result ℕ E) (new text other : List ℕ) → text ≡ other → IfOk answer (λ end. take end new ≡ text) → IfOk answer (λ end. take end new ≡ other)
+as_if (Ok end) new text other same is = is ∙ same
+as_if (Err e) new text other same is = is
 
 -- the sets as a last member, in three parts
 pub last_parts : (line sets l1 l2 l3 : List ℕ) (later : Bool) → l1 ≡ line ++ (if later then codes ",\"list\":[" else codes "\"list\":[") → l2 ≡ l1 ++ sets → l3 ≡ l2 ++ codes "]"

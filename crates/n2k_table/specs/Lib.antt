@@ -6,6 +6,7 @@ pub mod Field
 pub mod Fields
 pub mod Inner
 pub mod Json
+pub mod LineBuffer
 pub mod Lookup
 pub mod OneLine
 pub mod Reading

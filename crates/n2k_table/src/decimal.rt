@@ -1,121 +1,116 @@
 //! The decimal text of a whole number over a power of ten.
-ghost use Rattle.std.specs.Prelude.{◌≡◌, ◌∷◌, [], ◌++◌, ◌≤◌, ◌&&◌, nat_lt, ℕ, List, if◌then◌else◌, length, decimal, OnOk, OnErr};
+ghost use Rattle.std.specs.Prelude.{◌≡◌, ◌∷◌, [], ◌++◌, ◌+◌, ◌≤◌, ℕ, List, if◌then◌else◌, take, length, OnOk, OnErr};
 ghost use Rattle.n2k_table.specs.Decimal.{IsDecimal, dec, dotted, minus, padded_digits};
 ghost use Rattle.n2k_table.specs.Inner.Digits.{zero_filled};
+ghost use Rattle.n2k_table.specs.Inner.LineBuffer.{Adds};
 ghost use Rattle.n2k_table.specs.Inner.Number.{value_of};
 
-use crate::decimal_fast::{MOST_DECIMALS, push_short};
-use crate::line_buffer::LineBuffer;
+use crate::decimal_fast::{MOST_DECIMALS, put_short};
+use crate::line_buffer::{LineBuffer, push, push_bytes, put, room_at};
 use crate::number::Number;
+use crate::padded_text::NUMBER_ROOM;
 use itoa::Buffer;
 use std::alloc::{AllocError, Global};
 
-/// Appends digits with the dot before the last `decimals` of them.
-fn push_dotted(digits: &[u8], decimals: usize, line: &mut LineBuffer) -> Result<(), AllocError>
+/// Writes digits with the dot before the last `decimals` of them.
+fn push_dotted(
+    digits: &[u8],
+    decimals: usize,
+    at: usize,
+    out: &mut Vec<u8>,
+) -> Result<usize, AllocError>
     requires { decimals ≤ length digits.now }
-    ensures { OnOk result (line.new.items ≡ line.old.items ++ dotted decimals digits.now) }
+    ensures { Adds result at out.old.items out.new.items (dotted decimals digits.now) }
 {
     let (whole, fraction) = digits.split_at(digits.len() - decimals);
-    line.extend_from_slice(whole)?;
-    if !fraction.is_empty() {
-        line.push(b'.')?;
-        line.extend_from_slice(fraction)?;
+    let end = push_bytes(whole, at, out)?;
+    if fraction.is_empty() {
+        return Ok(end);
     }
-    Ok(())
+    let dot = push(b'.', end, out)?;
+    push_bytes(fraction, dot, out)
 }
 
-/// Appends digits that all stand after the dot, behind a zero before it and zeros to fill the decimals.
-fn push_filled(digits: &[u8], decimals: usize, line: &mut LineBuffer) -> Result<(), AllocError>
+/// Writes digits that all stand after the dot, behind a zero before it and zeros to fill the decimals.
+fn push_filled(
+    digits: &[u8],
+    decimals: usize,
+    at: usize,
+    out: &mut Vec<u8>,
+) -> Result<usize, AllocError>
     requires { length digits.now ≤ decimals }
-    ensures { OnOk result (line.new.items ≡ line.old.items ++ zero_filled decimals digits.now) }
+    ensures { Adds result at out.old.items out.new.items (zero_filled decimals digits.now) }
 {
-    line.extend_from_slice(b"0.")?;
+    let mut end = push_bytes(b"0.", at, out)?;
     for _ in 0..decimals - digits.len() {
-        line.push(b'0')?;
+        end = push(b'0', end, out)?;
     }
-    line.extend_from_slice(digits)?;
-    Ok(())
+    push_bytes(digits, end, out)
 }
 
-/// Appends a minus sign, or nothing.
+/// Writes a minus sign, or nothing.
 #[inline(always)]
-fn push_minus(negative: bool, line: &mut LineBuffer) -> Result<(), AllocError>
-    ensures { OnOk result (line.new.items ≡ line.old.items ++ (if negative then minus ∷ [] else [])) }
+fn put_minus(negative: bool, text: &mut [u8], at: usize) -> usize
+    requires { at + 1 ≤ length text.old }
+    ensures text { take result text.new ≡ take at text.old ++ (if negative then minus ∷ [] else []) }
+    ensures end { result ≤ at + 1 }
+    ensures len { length text.new ≡ length text.old }
 {
-    if negative {
-        line.push(b'-')?;
-    }
-    Ok(())
+    put(text, at, [b'-'], usize::from(negative))
 }
 
-/// Appends the sign of a number of that size below zero. Zero has none. It is not inlined, so that the size of a
-/// number above zero is not asked.
-#[inline(never)]
-fn push_sign_below(size: u128, line: &mut LineBuffer) -> Result<(), AllocError>
-    ensures { OnOk result (line.new.items ≡ line.old.items ++ (if nat_lt 0 size then minus ∷ [] else [])) }
-{
-    push_minus(size > 0, line)
-}
-
-/// Appends the sign of a number of that size, or nothing.
-#[inline(always)]
-fn push_sign(negative: bool, size: u128, line: &mut LineBuffer) -> Result<(), AllocError>
-    ensures { OnOk result (line.new.items
-        ≡ line.old.items ++ (if negative && nat_lt 0 size then minus ∷ [] else [])) }
-{
-    if negative {
-        push_sign_below(size, line)
-    } else {
-        Ok(())
-    }
-}
-
-/// Appends the decimal text of `size / 10^decimals`, of any number of digits. It is not inlined: few have so many.
+/// Writes the decimal text of `size / 10^decimals`, of any number of digits. It is not inlined: few have so many.
 #[cold]
 #[inline(never)]
-fn push_long(size: u128, decimals: usize, line: &mut LineBuffer) -> Result<(), AllocError>
-    ensures { OnOk result (line.new.items ≡ line.old.items ++ dotted decimals (padded_digits size decimals)) }
+fn push_long(size: u128, decimals: usize, at: usize, out: &mut Vec<u8>) -> Result<usize, AllocError>
+    ensures { Adds result at out.old.items out.new.items (dotted decimals (padded_digits size decimals)) }
 {
     let mut buffer = Buffer::new();
     let digits = buffer.format(size).as_bytes();
     if decimals < digits.len() {
-        push_dotted(digits, decimals, line)
+        push_dotted(digits, decimals, at, out)
     } else {
-        push_filled(digits, decimals, line)
+        push_filled(digits, decimals, at, out)
     }
 }
 
-/// Appends the decimal text of `size / 10^decimals`.
+/// Writes the decimal text of `size / 10^decimals`.
 #[inline(always)]
-fn push_size(size: u128, decimals: usize, line: &mut LineBuffer) -> Result<(), AllocError>
-    ensures { OnOk result (line.new.items ≡ line.old.items ++ dotted decimals (padded_digits size decimals)) }
+fn push_size(size: u128, decimals: usize, at: usize, out: &mut Vec<u8>) -> Result<usize, AllocError>
+    requires { at + 48 ≤ length out.old.items }
+    ensures { Adds result at out.old.items out.new.items (dotted decimals (padded_digits size decimals)) }
 {
     match u64::try_from(size) {
-        Ok(short) if decimals <= MOST_DECIMALS => push_short(short, decimals, line),
-        _ => push_long(size, decimals, line),
+        Ok(short) if decimals <= MOST_DECIMALS => {
+            Ok(put_short(short, decimals, out.as_mut_slice(), at))
+        }
+        _ => push_long(size, decimals, at, out),
     }
 }
 
-/// Appends the decimal text of a number.
+/// Writes the decimal text of a number, where it has room. Zero has no sign.
 #[inline(always)]
-pub(crate) fn push_number(number: Number, line: &mut LineBuffer) -> Result<(), AllocError>
-    ensures { OnOk result (line.new.items ≡ line.old.items ++ dec (value_of number) number.resolution.decimals) }
+pub(crate) fn push_number(number: Number, at: usize, out: &mut Vec<u8>) -> Result<usize, AllocError>
+    requires { at + 64 ≤ length out.old.items }
+    ensures { Adds result at out.old.items out.new.items (dec (value_of number) number.resolution.decimals) }
 {
     let size = u128::from(number.size) * u128::from(number.resolution.mantissa);
-    push_sign(number.negative, size, line)?;
-    push_size(size, usize::from(number.resolution.decimals), line)
+    let end = put_minus(number.negative && size > 0, out.as_mut_slice(), at);
+    push_size(size, usize::from(number.resolution.decimals), end, out)
 }
 
-/// Appends the decimal text of `value / 10^decimals`.
+/// Writes the decimal text of `value / 10^decimals`, where it has room.
 pub(crate) fn push_decimal(
     value: i128,
     decimals: u8,
-    line: &mut LineBuffer,
-) -> Result<(), AllocError>
-    ensures { OnOk result (line.new.items ≡ line.old.items ++ dec value decimals) }
+    at: usize,
+    out: &mut Vec<u8>,
+) -> Result<usize, AllocError>
+    requires { at + 64 ≤ length out.old.items }
+    ensures { Adds result at out.old.items out.new.items (dec value decimals) }
 {
-    push_minus(value < 0, line)?;
-    push_size(value.unsigned_abs(), usize::from(decimals), line)
+    let end = put_minus(value < 0, out.as_mut_slice(), at);
+    push_size(value.unsigned_abs(), usize::from(decimals), end, out)
 }
 
 /// Appends the decimal text of `value / 10^decimals`, with exactly that many digits after the dot: a minus
@@ -143,8 +138,8 @@ pub fn decimal_text(
     ensures decimal { IsDecimal value decimals (dec value decimals) }
     ensures only { (text : List ℕ) → IsDecimal value decimals text → text ≡ dec value decimals }
 {
-    let mut line = LineBuffer::new(alloc);
-    line.begin(alloc);
-    let written = push_decimal(value, decimals, &mut line);
-    line.end(written, out)
+    let mut text = LineBuffer::new(alloc);
+    let start = room_at(0, NUMBER_ROOM, &mut text.bytes)?;
+    text.end = push_decimal(value, decimals, start, &mut text.bytes)?;
+    out.extend_from_slice(text.as_slice())
 }

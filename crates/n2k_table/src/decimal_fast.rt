@@ -1,13 +1,12 @@
 //! A fast path for a number of 64 bits with at most 18 decimals. Most have at most eight digits, which are put together
-//! in one word and stored from there; those of the others stand in an array. `decimal.rt` appends any number; that is
+//! in one word and stored from there; those of the others stand in an array. `decimal.rt` writes any number; that is
 //! the file to read first.
-ghost use Rattle.std.specs.Prelude.{◌≡◌, ◌++◌, ◌+◌, ◌-◌, ◌≤◌, ◌<◌, ◌*◌, ◌/◌, ◌%◌, ◌^◌, take, drop, OnOk};
-ghost use Rattle.n2k_table.specs.Decimal.{dotted, padded_digits};
+ghost use Rattle.std.specs.Prelude.{◌≡◌, ◌++◌, ◌+◌, ◌-◌, ◌≤◌, ◌<◌, ◌*◌, ◌/◌, ◌%◌, ◌^◌, take, drop, length};
+ghost use Rattle.n2k_table.specs.Decimal.{after_dot, dotted, padded_digits};
 ghost use Rattle.n2k_table.specs.Inner.Digits.{pairs_word, values_word};
 
-use crate::line_buffer::LineBuffer;
+use crate::line_buffer::put;
 use itoa::write_digits;
-use std::alloc::AllocError;
 
 /// The most decimals of a resolution, and of a short number.
 pub(crate) const MOST_DECIMALS: usize = 18;
@@ -30,41 +29,63 @@ const LEAST_LONG: u64 = 100_000_000;
 /// Eight bytes `0`.
 const NOUGHTS: u64 = 0x3030_3030_3030_3030;
 
-/// Appends bytes that stand in an array of digits.
+/// Writes bytes that stand in an array of digits.
 #[inline(always)]
-fn push_digits(
-    digits: &[u8; ROOM],
-    from: usize,
-    to: usize,
-    line: &mut LineBuffer,
-) -> Result<(), AllocError>
+fn put_digits(digits: &[u8; ROOM], from: usize, to: usize, text: &mut [u8], at: usize) -> usize
     requires order { from ≤ to }
     requires few { to ≤ from + 24 }
-    requires room { from ≤ 40 }
-    ensures { OnOk result (line.new.items ≡ line.old.items ++ take (to - from) (take 24 (drop from digits.now))) }
+    requires inside { from ≤ 40 }
+    requires room { at + 24 ≤ length text.old }
+    ensures bytes { take result text.new ≡ take at text.old ++ take (to - from) (take 24 (drop from digits.now)) }
+    ensures end { result ≤ at + 24 }
+    ensures len { length text.new ≡ length text.old }
 {
     match digits[from..].first_chunk::<WIDE>() {
-        Some(wide) => line.put(wide, to - from),
-        None => Ok(()),
+        Some(wide) => put(text, at, *wide, to - from),
+        None => at,
     }
 }
 
-/// Appends the decimal text of `size / 10^decimals`, whose digits are written to an array.
+/// Writes the decimal text of `size / 10^decimals`, whose digits are written to an array.
 #[inline(never)]
-fn push_long(size: u64, decimals: usize, line: &mut LineBuffer) -> Result<(), AllocError>
-    requires { decimals ≤ 18 }
-    ensures { OnOk result (line.new.items ≡ line.old.items ++ dotted decimals (padded_digits size decimals)) }
+fn put_long(size: u64, decimals: usize, text: &mut [u8], at: usize) -> usize
+    requires few { decimals ≤ 18 }
+    requires room { at + 48 ≤ length text.old }
+    ensures { take result text.new ≡ take at text.old ++ dotted decimals (padded_digits size decimals) }
 {
     let mut digits = [b'0'; ROOM];
     let first = write_digits(size, &mut digits, END);
     let dot = END - decimals;
     let from = first.min(dot - 1);
-    push_digits(&digits, from, dot, line)?;
-    if decimals > 0 {
-        digits[dot - 1] = b'.';
-        push_digits(&digits, dot - 1, END, line)?;
+    let end = put_digits(&digits, from, dot, text, at);
+    if decimals == 0 {
+        return end;
     }
-    Ok(())
+    digits[dot - 1] = b'.';
+    put_digits(&digits, dot - 1, END, text, end)
+}
+
+/// Writes the first bytes of some, and a dot and the first bytes of others, unless those are none.
+#[inline(always)]
+fn put_dotted(
+    front: [u8; 8],
+    whole: usize,
+    back: [u8; 8],
+    decimals: usize,
+    text: &mut [u8],
+    at: usize,
+) -> usize
+    requires whole { whole ≤ 8 }
+    requires decimals { decimals ≤ 8 }
+    requires room { at + 17 ≤ length text.old }
+    ensures { take result text.new ≡ take at text.old ++ (take whole front ++ after_dot (take decimals back)) }
+{
+    let end = put(text, at, front, whole);
+    if decimals == 0 {
+        return end;
+    }
+    let dot = put(text, end, [b'.'], 1);
+    put(text, dot, back, decimals)
 }
 
 /// The four pairs of digits of a number below 10^8 as values, the first in the lowest bytes. Both halves of four digits
@@ -91,16 +112,13 @@ fn eight_values(number: u64) -> u64
     tens + (pairs - tens * 10 << 8)
 }
 
-/// Appends the decimal text of `size / 10^decimals`. To store the digits of a short number from a word costs less than
+/// Writes the decimal text of `size / 10^decimals`. To store the digits of a short number from a word costs less than
 /// to write them to an array and to copy more bytes of it at once, which waits for those that were just written.
 #[inline(always)]
-pub(crate) fn push_short(
-    size: u64,
-    decimals: usize,
-    line: &mut LineBuffer,
-) -> Result<(), AllocError>
-    requires { decimals ≤ 18 }
-    ensures { OnOk result (line.new.items ≡ line.old.items ++ dotted decimals (padded_digits size decimals)) }
+pub(crate) fn put_short(size: u64, decimals: usize, text: &mut [u8], at: usize) -> usize
+    requires few { decimals ≤ 18 }
+    requires room { at + 48 ≤ length text.old }
+    ensures { take result text.new ≡ take at text.old ++ dotted decimals (padded_digits size decimals) }
 {
     if size < LEAST_LONG && decimals < DIGITS {
         let values = eight_values(size);
@@ -109,8 +127,15 @@ pub(crate) fn push_short(
         let whole = DIGITS - decimals - skipped;
         let front = (values + NOUGHTS) >> (8 * skipped);
         let back = front >> (8 * (whole - 1)) >> 8;
-        line.put_number(front.to_le_bytes(), whole, back.to_le_bytes(), decimals)
+        put_dotted(
+            front.to_le_bytes(),
+            whole,
+            back.to_le_bytes(),
+            decimals,
+            text,
+            at,
+        )
     } else {
-        push_long(size, decimals, line)
+        put_long(size, decimals, text, at)
     }
 }

@@ -4,7 +4,6 @@ ghost use Rattle.std.specs.Prelude.{◌≡◌, ◌≤◌, ◌+◌, ◌*◌, ◌/
 use crate::bits::{raw, raw_with_mask};
 use crate::field_value::{FieldValue, digits_value, name_value, text_value};
 use crate::flags::flags_value;
-use crate::line_buffer::LineBuffer;
 use crate::lookup::Lookup;
 use crate::number::{Scale, Shift};
 use crate::padded_text::PaddedText;
@@ -76,7 +75,8 @@ impl Model for Field {
 }
 
 impl Field {
-    ghost use Rattle.std.specs.Prelude.{◌++◌, is_some, OnOk};
+    ghost use Rattle.std.specs.Prelude.{is_some, IfOk};
+    ghost use Rattle.n2k_table.specs.Inner.LineBuffer.{Adds};
     ghost use Rattle.n2k_table.specs.Inner.Line.{key_json};
     ghost use Rattle.n2k_table.specs.Inner.FieldValue.{value_parts, stands_inside};
     ghost use Rattle.n2k_table.specs.Shown.{lies_inside, field_bytes, begins_inside, shown_part, shown_from, shown, shown_parts};
@@ -92,13 +92,19 @@ impl Field {
         self.name.as_str()
     }
 
-    /// Appends what stands before the value in a line, with a comma where a member stands before.
+    /// Writes what stands before the value in a line, with a comma where a member stands before, and with room behind it.
     #[inline(always)]
-    pub(crate) fn push_key(&self, later: bool, line: &mut LineBuffer) -> Result<(), AllocError>
-        ensures { OnOk result (line.new.items ≡ line.old.items ++ key_json later self.now.name) }
+    pub(crate) fn push_key(
+        &self,
+        later: bool,
+        at: usize,
+        out: &mut Vec<u8>,
+    ) -> Result<usize, AllocError>
+        ensures text { Adds result at out.old.items out.new.items (key_json later self.now.name) }
+        ensures room { IfOk result (λ end. end + 64 ≤ length out.new.items) }
     {
         let from = if later { 0 } else { 1 };
-        self.key.push_from(from, line)
+        self.key.push(from, at, out)
     }
 
     /// Whether it is a string.

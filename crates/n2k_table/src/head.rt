@@ -1,16 +1,23 @@
 //! What stands in a line before the PGN: when a message was seen, and who sent it to whom.
-ghost use Rattle.std.specs.Prelude.{◌≡◌, ◌++◌, ◌≤◌, true, codes, decimal, take, OnOk};
+ghost use Rattle.std.specs.Prelude.{◌≡◌, ◌++◌, ◌+◌, ◌-◌, ◌≤◌, true, codes, decimal, take, drop, length, IfOk};
 ghost use Rattle.std.specs.List.{list_all};
 ghost use Rattle.n2k_table.specs.Text.{text_json};
-ghost use Rattle.n2k_table.specs.Inner.Line.{is_plain, is_usual, sender_json, before_pgn_json};
+ghost use Rattle.n2k_table.specs.Inner.Line.{is_usual, sender_json, before_pgn_json};
+ghost use Rattle.n2k_table.specs.Inner.LineBuffer.{Adds};
 
-use crate::line_buffer::LineBuffer;
+use crate::line_buffer::{push_bytes, put, room_at};
 use crate::text::push_text;
-use n2k_wire::{Id, Packet, UTC_LEN};
+use n2k_wire::{Id, Packet};
 use std::alloc::AllocError;
 
-/// How many bytes of a stamp are tested at once.
+/// How many bytes of a stamp are tested and written at once.
 const AT_ONCE: usize = 16;
+
+/// Room for who sent what to whom, and for what is written behind it.
+const SENDER_ROOM: usize = 32;
+
+/// Room for the time before that, of a stamp whose bytes stand for themselves.
+const TIME_ROOM: usize = 48;
 
 /// The decimal text of each byte, filled up, and behind it how many of its bytes count. To look a source or a
 /// destination up costs a third of working its digits out.
@@ -56,69 +63,51 @@ fn number_text(number: u8) -> ([u8; 4], usize)
     (text, (text[3] - b'0') as usize)
 }
 
-/// Appends a label, and the decimal text of a byte behind it.
+/// Writes a label, and the decimal text of a byte behind it.
 #[inline(always)]
-fn push_part<const N: usize>(
-    label: &[u8; N],
-    number: u8,
-    line: &mut LineBuffer,
-) -> Result<(), AllocError>
-    requires { N ≤ 16 }
-    ensures { OnOk result (line.new.items ≡ line.old.items ++ (label.now ++ decimal number)) }
+fn put_part<const N: usize>(label: &[u8; N], number: u8, text: &mut [u8], at: usize) -> usize
+    requires { at + N + 4 ≤ length text.old }
+    ensures bytes { take result text.new ≡ take at text.old ++ (label.now ++ decimal number) }
+    ensures end { result ≤ at + N + 3 }
+    ensures len { length text.new ≡ length text.old }
 {
-    let (text, count) = number_text(number);
-    line.put_behind(label, &text, count)
+    let behind = put(text, at, *label, N);
+    let (digits, count) = number_text(number);
+    put(text, behind, digits, count)
 }
 
-/// Appends a priority, which has one digit, and a source, each behind its label.
+/// Writes a priority, which has one digit, and a source, each behind its label.
 #[inline(always)]
-fn push_source(id: Id, line: &mut LineBuffer) -> Result<(), AllocError>
-    requires { id.prio ≤ 7 }
-    ensures { OnOk result (line.new.items
-        ≡ line.old.items ++ (codes ",\"prio\":" ++ decimal id.prio ++ codes ",\"src\":" ++ decimal id.src)) }
+fn put_source(id: Id, text: &mut [u8], at: usize) -> usize
+    requires prio { id.prio ≤ 7 }
+    requires room { at + 20 ≤ length text.old }
+    ensures bytes { take result text.new
+        ≡ take at text.old ++ (codes ",\"prio\":" ++ decimal id.prio ++ codes ",\"src\":" ++ decimal id.src) }
+    ensures end { result ≤ at + 19 }
+    ensures len { length text.new ≡ length text.old }
 {
     let prio = b'0' + id.prio;
-    push_part(
+    put_part(
         &[
             b',', b'"', b'p', b'r', b'i', b'o', b'"', b':', prio, b',', b'"', b's', b'r', b'c',
             b'"', b':',
         ],
         id.src,
-        line,
+        text,
+        at,
     )
 }
 
-/// Appends who sent what to whom, up to the PGN.
+/// Writes who sent what to whom, up to the PGN.
 #[tactic(auto, using(std::proofs::Common::append_assoc), unfolding(crate::specs::Inner::Line::sender_json))]
 #[inline(always)]
-fn push_sender(id: Id, line: &mut LineBuffer) -> Result<(), AllocError>
-    requires { id.prio ≤ 7 }
-    ensures { OnOk result (line.new.items ≡ line.old.items ++ sender_json id) }
+fn put_sender(id: Id, text: &mut [u8], at: usize) -> usize
+    requires prio { id.prio ≤ 7 }
+    requires room { at + 32 ≤ length text.old }
+    ensures { take result text.new ≡ take at text.old ++ sender_json id }
 {
-    push_source(id, line)?;
-    push_part(b",\"dst\":", id.dst, line)
-}
-
-/// Appends a stamp's bytes, those of a candump line's at once.
-#[inline(always)]
-fn push_stamp(stamp: &[u8], line: &mut LineBuffer) -> Result<(), AllocError>
-    ensures { OnOk result (line.new.items ≡ line.old.items ++ stamp.now) }
-{
-    match stamp.as_array::<UTC_LEN>() {
-        Some(utc) => line.put(utc, UTC_LEN),
-        None => line.extend_from_slice(stamp),
-    }
-}
-
-/// Appends a stamp as a text, where each byte of it stands for itself.
-#[inline(always)]
-fn push_usual_stamp(stamp: &[u8], line: &mut LineBuffer) -> Result<(), AllocError>
-    requires { list_all is_plain stamp.now ≡ true }
-    ensures { OnOk result (line.new.items ≡ line.old.items ++ (codes "{\"timestamp\":" ++ text_json stamp.now)) }
-{
-    line.put(b"{\"timestamp\":\"", 14)?;
-    push_stamp(stamp, line)?;
-    line.push(b'"')
+    let end = put_source(id, text, at);
+    put_part(b",\"dst\":", id.dst, text, end)
 }
 
 /// A digit, an upper letter or one of few other bytes. Each stands for itself, and one range is tested faster than all
@@ -141,47 +130,67 @@ fn are_usual(bytes: &[u8; AT_ONCE]) -> bool
     all
 }
 
-/// Whether a stamp has such bytes alone, sixteen to thirty-two of them: its first sixteen and its last sixteen are all
-/// of it.
+/// Writes a stamp as a text, where each byte of it stands for itself: its first sixteen bytes and its last sixteen are
+/// all of it.
 #[inline(always)]
-fn is_usual_stamp(stamp: &[u8]) -> bool
-    ensures { result ≡ true → list_all is_plain stamp.now ≡ true }
+fn put_usual_stamp(
+    first: &[u8; AT_ONCE],
+    last: &[u8; AT_ONCE],
+    len: usize,
+    text: &mut [u8],
+    at: usize,
+) -> usize
+    requires some { 16 ≤ len }
+    requires few { len ≤ 32 }
+    requires room { at + 48 ≤ length text.old }
+    ensures bytes { take result text.new
+        ≡ take at text.old ++ (codes "{\"timestamp\":\"" ++ take (len - 16) first.now ++ last.now ++ codes "\"") }
+    ensures end { result ≤ at + 47 }
+    ensures len { length text.new ≡ length text.old }
+{
+    let begin = put(text, at, *b"{\"timestamp\":\"", 14);
+    let middle = put(text, begin, *first, len - AT_ONCE);
+    let end = put(text, middle, *last, AT_ONCE);
+    put(text, end, [b'"'], 1)
+}
+
+/// Writes any stamp as a text.
+#[inline(never)]
+fn push_other_stamp(stamp: &[u8], at: usize, out: &mut Vec<u8>) -> Result<usize, AllocError>
+    ensures { Adds result at out.old.items out.new.items (codes "{\"timestamp\":" ++ text_json stamp.now) }
+{
+    let begin = push_bytes(b"{\"timestamp\":", at, out)?;
+    push_text(stamp, begin, out)
+}
+
+/// Writes when a message was seen, with room behind it. Of most stamps a comparison takes sixteen bytes.
+#[inline(always)]
+fn push_time(stamp: &[u8], at: usize, out: &mut Vec<u8>) -> Result<usize, AllocError>
+    ensures text { Adds result at out.old.items out.new.items (codes "{\"timestamp\":" ++ text_json stamp.now) }
+    ensures room { IfOk result (λ end. end + 32 ≤ length out.new.items) }
 {
     match (
         stamp.first_chunk::<AT_ONCE>(),
         stamp.last_chunk::<AT_ONCE>(),
     ) {
-        (Some(first), Some(last)) if stamp.len() <= 2 * AT_ONCE => are_usual(first)
-            & are_usual(last),
-        _ => false,
+        (Some(first), Some(last))
+            if stamp.len() <= 2 * AT_ONCE && are_usual(first) & are_usual(last) => {
+            let begin = room_at(at, TIME_ROOM + SENDER_ROOM, out)?;
+            Ok(put_usual_stamp(first, last, stamp.len(), out.as_mut_slice(), begin))
+        }
+        _ => {
+            let end = push_other_stamp(stamp, at, out)?;
+            room_at(end, SENDER_ROOM, out)
+        }
     }
 }
 
-/// Appends any stamp as a text.
-#[inline(never)]
-fn push_other_stamp(stamp: &[u8], line: &mut LineBuffer) -> Result<(), AllocError>
-    ensures { OnOk result (line.new.items ≡ line.old.items ++ (codes "{\"timestamp\":" ++ text_json stamp.now)) }
-{
-    line.extend_from_slice(b"{\"timestamp\":")?;
-    push_text(stamp, line)
-}
-
-/// Appends when a message was seen. Of most stamps a comparison takes sixteen bytes.
-fn push_time(stamp: &[u8], line: &mut LineBuffer) -> Result<(), AllocError>
-    ensures { OnOk result (line.new.items ≡ line.old.items ++ (codes "{\"timestamp\":" ++ text_json stamp.now)) }
-{
-    if is_usual_stamp(stamp) {
-        push_usual_stamp(stamp, line)
-    } else {
-        push_other_stamp(stamp, line)
-    }
-}
-
-/// Appends what stands before the PGN.
+/// Writes what stands before the PGN.
 #[tactic(auto, using(std::proofs::Common::append_assoc), unfolding(crate::specs::Inner::Line::before_pgn_json))]
-pub(crate) fn push_head(packet: &Packet, line: &mut LineBuffer) -> Result<(), AllocError>
-    ensures { OnOk result (line.new.items ≡ line.old.items ++ before_pgn_json packet.now) }
+#[inline(always)]
+pub(crate) fn push_head(packet: &Packet, at: usize, out: &mut Vec<u8>) -> Result<usize, AllocError>
+    ensures { Adds result at out.old.items out.new.items (before_pgn_json packet.now) }
 {
-    push_time(packet.stamp(), line)?;
-    push_sender(packet.id(), line)
+    let end = push_time(packet.stamp(), at, out)?;
+    Ok(put_sender(packet.id(), out.as_mut_slice(), end))
 }

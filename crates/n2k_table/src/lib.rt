@@ -68,7 +68,7 @@ pub use definition::{Definition, Kind};
 pub use fault::TableFault;
 pub use flags::{Flag, Flags};
 pub use known_pgn::KnownPgn;
-pub use line::{json_line, json_line_in, json_line_of};
+pub use line::{add_json_line, json_line, json_line_in};
 pub use line_buffer::LineBuffer;
 pub use repeat::Sets;
 pub use shown::{Fields, Shown};

@@ -1,6 +1,6 @@
 //! The JSON line of a message.
-ghost use Rattle.std.specs.Prelude.{◌≡◌, ◌++◌, ◌+◌, ◌*◌, ◌≤◌, ◌||◌, true, is_some, nat_lt, codes, if◌then◌else◌};
-ghost use Rattle.std.specs.Prelude.{decimal, length, map, IfOk, IfSome, OnOk, OnErr, Some};
+ghost use Rattle.std.specs.Prelude.{◌≡◌, ◌∷◌, [], ◌++◌, ◌||◌, is_some, codes, if◌then◌else◌};
+ghost use Rattle.std.specs.Prelude.{decimal, take, map, IfOk, IfSome, OnOk, OnErr, Some};
 ghost use Rattle.n2k_table.specs.Shown.{shown, all_shown, flags_left};
 ghost use Rattle.std.specs.List.{flat_map, join_with_byte};
 ghost use Rattle.n2k_table.specs.Repeat.{all_sets};
@@ -9,6 +9,8 @@ ghost use Rattle.n2k_table.specs.Json.{array, flag_json};
 ghost use Rattle.n2k_table.specs.Json.{comma, member_json, members, set_json, list_json, message_members};
 ghost use Rattle.n2k_table.specs.Json.{unmatched_json, chosen_json, json};
 ghost use Rattle.n2k_table.specs.Inner.Line.{are_null, has_members, key_json, member_text};
+ghost use Rattle.n2k_table.specs.LineBuffer.{text_of};
+ghost use Rattle.n2k_table.specs.Inner.LineBuffer.{Adds};
 ghost use Rattle.n2k_table.specs.Text.{text_json, character, hex_pairs, two_digits};
 
 use crate::decimal::{push_decimal, push_number};
@@ -18,7 +20,7 @@ use crate::field_value::FieldValue;
 use crate::flags::{Flags, NamedBit};
 use crate::head::push_head;
 use crate::known_pgn::KnownPgn;
-use crate::line_buffer::LineBuffer;
+use crate::line_buffer::{LineBuffer, push, push_bytes, put, room_at};
 use crate::repeat::Repeat;
 use crate::shown::Shown;
 use crate::table::Table;
@@ -50,23 +52,23 @@ impl AbsentFields {
     }
 }
 
-/// Appends the PGN of a packet that no definition matches.
-fn push_pgn(pgn: u32, line: &mut LineBuffer) -> Result<(), AllocError>
-    ensures { OnOk result (line.new.items ≡ line.old.items ++ codes ",\"pgn\":" ++ decimal pgn) }
+/// Writes the PGN of a packet that no definition matches.
+fn push_pgn(pgn: u32, at: usize, out: &mut Vec<u8>) -> Result<usize, AllocError>
+    ensures { Adds result at out.old.items out.new.items (codes ",\"pgn\":" ++ decimal pgn) }
 {
     let mut buffer = Buffer::new();
-    line.extend_from_slice(b",\"pgn\":")?;
-    line.extend_from_slice(buffer.format(pgn).as_bytes())
+    let end = push_bytes(b",\"pgn\":", at, out)?;
+    push_bytes(buffer.format(pgn).as_bytes(), end, out)
 }
 
-/// Appends the value of a member that is there, behind its key: `null`, a text, bytes, flags, or digits. They are
+/// Writes the value of a member that is there, behind its key: `null`, a text, bytes, flags, or digits. They are
 /// not inlined: most fields are numbers and names.
 #[inline(never)]
-fn push_null(field: &Field, later: bool, line: &mut LineBuffer) -> Result<(), AllocError>
-    ensures { OnOk result (line.new.items ≡ line.old.items ++ (key_json later field.now.name ++ codes "null")) }
+fn push_null(field: &Field, later: bool, at: usize, out: &mut Vec<u8>) -> Result<usize, AllocError>
+    ensures { Adds result at out.old.items out.new.items (key_json later field.now.name ++ codes "null") }
 {
-    field.push_key(later, line)?;
-    line.extend_from_slice(b"null")
+    let end = field.push_key(later, at, out)?;
+    push_bytes(b"null", end, out)
 }
 
 #[inline(never)]
@@ -74,27 +76,29 @@ fn push_text(
     field: &Field,
     text: &[u8],
     later: bool,
-    line: &mut LineBuffer,
-) -> Result<(), AllocError>
-    ensures { OnOk result (line.new.items
-        ≡ line.old.items ++ (key_json later field.now.name ++ text_json (flat_map character text.now))) }
+    at: usize,
+    out: &mut Vec<u8>,
+) -> Result<usize, AllocError>
+    ensures { Adds result at out.old.items out.new.items
+        (key_json later field.now.name ++ text_json (flat_map character text.now)) }
 {
-    field.push_key(later, line)?;
-    push_characters(text, line)
+    let end = field.push_key(later, at, out)?;
+    push_characters(text, end, out)
 }
 
 #[inline(never)]
-fn push_bytes(
+fn push_pairs_of(
     field: &Field,
     bytes: &[u8],
     later: bool,
-    line: &mut LineBuffer,
-) -> Result<(), AllocError>
-    ensures { OnOk result (line.new.items
-        ≡ line.old.items ++ (key_json later field.now.name ++ text_json (hex_pairs bytes.now))) }
+    at: usize,
+    out: &mut Vec<u8>,
+) -> Result<usize, AllocError>
+    ensures { Adds result at out.old.items out.new.items
+        (key_json later field.now.name ++ text_json (hex_pairs bytes.now)) }
 {
-    field.push_key(later, line)?;
-    push_pairs(bytes, line)
+    let end = field.push_key(later, at, out)?;
+    push_pairs(bytes, end, out)
 }
 
 #[inline(never)]
@@ -102,43 +106,55 @@ fn push_number_text(
     field: &Field,
     bytes: &[u8],
     later: bool,
-    line: &mut LineBuffer,
-) -> Result<(), AllocError>
-    ensures { OnOk result (line.new.items
-        ≡ line.old.items ++ (key_json later field.now.name ++ text_json (flat_map two_digits bytes.now))) }
+    at: usize,
+    out: &mut Vec<u8>,
+) -> Result<usize, AllocError>
+    ensures { Adds result at out.old.items out.new.items
+        (key_json later field.now.name ++ text_json (flat_map two_digits bytes.now)) }
 {
-    field.push_key(later, line)?;
-    push_digits(bytes, line)
+    let end = field.push_key(later, at, out)?;
+    push_digits(bytes, end, out)
 }
 
-/// Appends a bit by its name or its number, after a comma where one stands before.
-fn push_bit(bit: NamedBit<'_>, later: bool, line: &mut LineBuffer) -> Result<(), AllocError>
-    ensures { OnOk result (line.new.items ≡ line.old.items ++ member_text later (Some (flag_json (named_bit bit.entry)))) }
+/// Writes a comma where something stands before.
+fn push_comma(later: bool, at: usize, out: &mut Vec<u8>) -> Result<usize, AllocError>
+    ensures { Adds result at out.old.items out.new.items (if later then comma ∷ [] else []) }
 {
-    if later {
-        line.push(b',')?;
-    }
+    if later { push(b',', at, out) } else { Ok(at) }
+}
+
+/// Writes a bit by its name or its number, after a comma where one stands before.
+fn push_bit(
+    bit: NamedBit<'_>,
+    later: bool,
+    at: usize,
+    out: &mut Vec<u8>,
+) -> Result<usize, AllocError>
+    ensures { Adds result at out.old.items out.new.items (member_text later (Some (flag_json (named_bit bit.entry)))) }
+{
+    let end = push_comma(later, at, out)?;
     match bit {
-        NamedBit::Name(name) => name.push_json(line),
+        NamedBit::Name(name) => name.push_json(end, out),
         NamedBit::Bit(number) => {
             let mut buffer = Buffer::new();
-            line.extend_from_slice(buffer.format(number).as_bytes())
+            push_bytes(buffer.format(number).as_bytes(), end, out)
         }
     }
 }
 
-/// Appends the bits that are left, a comma between each.
-fn push_bits(flags: Flags<'_>, line: &mut LineBuffer) -> Result<(), AllocError>
-    ensures { OnOk result (line.new.items
-        ≡ line.old.items ++ join_with_byte comma (map flag_json (flags_left flags.entry))) }
+/// Writes the bits that are left, a comma between each.
+fn push_bits(flags: Flags<'_>, at: usize, out: &mut Vec<u8>) -> Result<usize, AllocError>
+    ensures { Adds result at out.old.items out.new.items
+        (join_with_byte comma (map flag_json (flags_left flags.entry))) }
 {
+    let mut end = at;
     let mut rest = flags;
     let mut later = false;
     while let Some(bit) = rest.next_named() {
-        push_bit(bit, later, line)?;
+        end = push_bit(bit, later, end, out)?;
         later = true;
     }
-    Ok(())
+    Ok(end)
 }
 
 #[inline(never)]
@@ -146,18 +162,19 @@ fn push_flags(
     field: &Field,
     flags: Flags<'_>,
     later: bool,
-    line: &mut LineBuffer,
-) -> Result<(), AllocError>
-    ensures { OnOk result (line.new.items
-        ≡ line.old.items ++ (key_json later field.now.name ++ array (map flag_json (flags_left flags.entry)))) }
+    at: usize,
+    out: &mut Vec<u8>,
+) -> Result<usize, AllocError>
+    ensures { Adds result at out.old.items out.new.items
+        (key_json later field.now.name ++ array (map flag_json (flags_left flags.entry))) }
 {
-    field.push_key(later, line)?;
-    line.push(b'[')?;
-    push_bits(flags, line)?;
-    line.push(b']')
+    let key = field.push_key(later, at, out)?;
+    let begin = push(b'[', key, out)?;
+    let end = push_bits(flags, begin, out)?;
+    push(b']', end, out)
 }
 
-/// Appends a field of any kind as a member, as `push_member` does. It is not inlined: few fields come here.
+/// Writes what a field of any kind shows, behind its key. It is not inlined: few fields come here.
 #[cold]
 #[inline(never)]
 fn push_seldom(
@@ -165,42 +182,43 @@ fn push_seldom(
     data: &[u8],
     absent: AbsentFields,
     later: bool,
-    line: &mut LineBuffer,
-) -> Result<bool, AllocError>
+    at: usize,
+    out: &mut Vec<u8>,
+) -> Result<(usize, bool), AllocError>
     ensures { let member = member_json (are_null absent) (field.now.name, shown field.now «data».now) in
-        IfOk result (λ more. (line.new.items ≡ line.old.items ++ member_text later member)
-        × (more ≡ (later || is_some member))) }
+        IfOk result (λ r. (take r.0 out.new.items ≡ take at out.old.items ++ member_text later member)
+        × (r.1 ≡ (later || is_some member))) }
 {
-    match field.shown(data) {
+    let end = match field.shown(data) {
         Shown::Absent => match absent {
-            AbsentFields::LeftOut => return Ok(later),
-            AbsentFields::Null => push_null(field, later, line)?,
+            AbsentFields::LeftOut => return Ok((at, later)),
+            AbsentFields::Null => push_null(field, later, at, out)?,
         },
         Shown::Number { value, decimals } => {
-            field.push_key(later, line)?;
-            push_decimal(value, decimals, line)?;
+            let key = field.push_key(later, at, out)?;
+            push_decimal(value, decimals, key, out)?
         }
         Shown::Name(name) => {
-            field.push_key(later, line)?;
-            text::push_text(name.as_bytes(), line)?;
+            let key = field.push_key(later, at, out)?;
+            text::push_text(name.as_bytes(), key, out)?
         }
-        Shown::Text(text) => push_text(field, text, later, line)?,
+        Shown::Text(text) => push_text(field, text, later, at, out)?,
         Shown::Utf8(text) => {
-            field.push_key(later, line)?;
-            text::push_text(text.as_bytes(), line)?;
+            let key = field.push_key(later, at, out)?;
+            text::push_text(text.as_bytes(), key, out)?
         }
         Shown::Wide(bytes) => {
-            field.push_key(later, line)?;
-            push_wide(bytes, line)?;
+            let key = field.push_key(later, at, out)?;
+            push_wide(bytes, key, out)?
         }
-        Shown::Bytes(bytes) => push_bytes(field, bytes, later, line)?,
-        Shown::Flags(flags) => push_flags(field, flags, later, line)?,
-        Shown::Digits(bytes) => push_number_text(field, bytes, later, line)?,
-    }
-    Ok(true)
+        Shown::Bytes(bytes) => push_pairs_of(field, bytes, later, at, out)?,
+        Shown::Flags(flags) => push_flags(field, flags, later, at, out)?,
+        Shown::Digits(bytes) => push_number_text(field, bytes, later, at, out)?,
+    };
+    Ok((end, true))
 }
 
-/// Appends a field as a member of an object, after a comma where a member stands before, and answers whether one stands
+/// Writes a field as a member of an object, after a comma where a member stands before, and answers whether one stands
 /// before the next. What it shows goes from branch to branch, and is never put together in memory.
 #[inline(always)]
 fn push_member(
@@ -208,87 +226,96 @@ fn push_member(
     data: &[u8],
     absent: AbsentFields,
     later: bool,
-    line: &mut LineBuffer,
-) -> Result<bool, AllocError>
+    at: usize,
+    out: &mut Vec<u8>,
+) -> Result<(usize, bool), AllocError>
     ensures { let member = member_json (are_null absent) (field.now.name, shown field.now «data».now) in
-        IfOk result (λ more. (line.new.items ≡ line.old.items ++ member_text later member)
-        × (more ≡ (later || is_some member))) }
+        IfOk result (λ r. (take r.0 out.new.items ≡ take at out.old.items ++ member_text later member)
+        × (r.1 ≡ (later || is_some member))) }
 {
-    match field.value(data) {
+    let end = match field.value(data) {
         FieldValue::Absent => match absent {
-            AbsentFields::LeftOut => return Ok(later),
-            AbsentFields::Null => push_null(field, later, line)?,
+            AbsentFields::LeftOut => return Ok((at, later)),
+            AbsentFields::Null => push_null(field, later, at, out)?,
         },
         FieldValue::Number(number) => {
-            field.push_key(later, line)?;
-            push_number(number, line)?;
+            let key = field.push_key(later, at, out)?;
+            push_number(number, key, out)?
         }
         FieldValue::Name(name) => {
-            field.push_key(later, line)?;
-            name.push_json(line)?;
+            let key = field.push_key(later, at, out)?;
+            name.push_json(key, out)?
         }
-        FieldValue::Text(text) => push_text(field, text, later, line)?,
-        FieldValue::Bytes(bytes) => push_bytes(field, bytes, later, line)?,
-        FieldValue::Seldom => return push_seldom(field, data, absent, later, line),
-    }
-    Ok(true)
+        FieldValue::Text(text) => push_text(field, text, later, at, out)?,
+        FieldValue::Bytes(bytes) => push_pairs_of(field, bytes, later, at, out)?,
+        FieldValue::Seldom => return push_seldom(field, data, absent, later, at, out),
+    };
+    Ok((end, true))
 }
 
-/// Appends the fields as the members of an object, of a message or of a set, and answers whether one stands
+/// Writes the fields as the members of an object, of a message or of a set, and answers whether one stands
 /// before the next. It is inlined for the message and for sets, since a call for each line costs more.
 #[inline(always)]
 fn push_members(
     fields: &[Field],
     data: &[u8],
     absent: AbsentFields,
-    line: &mut LineBuffer,
-) -> Result<bool, AllocError>
+    at: usize,
+    out: &mut Vec<u8>,
+) -> Result<(usize, bool), AllocError>
     ensures { let ms = members (are_null absent) (all_shown fields.now «data».now) in
-        IfOk result (λ later. (line.new.items ≡ line.old.items ++ join_with_byte comma ms) × (later ≡ has_members ms)) }
+        IfOk result (λ r. (take r.0 out.new.items ≡ take at out.old.items ++ join_with_byte comma ms)
+        × (r.1 ≡ has_members ms)) }
 {
+    let mut end = at;
     let mut later = false;
     let mut rest = fields;
     while let Some((field, others)) = rest.split_first() {
-        later = push_member(field, data, absent, later, line)?;
+        let (next, more) = push_member(field, data, absent, later, end, out)?;
+        end = next;
+        later = more;
         rest = others;
     }
-    Ok(later)
+    Ok((end, later))
 }
 
-/// Appends a set as an object, after a comma where a set stands before.
+/// Writes a set as an object, after a comma where a set stands before.
 fn push_set(
     fields: &[Field],
     set: &[u8],
     later: bool,
     absent: AbsentFields,
-    line: &mut LineBuffer,
-) -> Result<(), AllocError>
+    at: usize,
+    out: &mut Vec<u8>,
+) -> Result<usize, AllocError>
     ensures { let object = set_json (are_null absent) (all_shown fields.now set.now) in
-        OnOk result (line.new.items ≡ line.old.items ++ member_text later (Some object)) }
+        Adds result at out.old.items out.new.items (member_text later (Some object)) }
 {
-    line.extend_from_slice(if later { b",{" } else { b"{" })?;
-    push_members(fields, set, absent, line)?;
-    line.push(b'}')
+    let begin = push_bytes(if later { b",{" } else { b"{" }, at, out)?;
+    let (end, _) = push_members(fields, set, absent, begin, out)?;
+    push(b'}', end, out)
 }
 
-/// Appends the sets, a comma between each.
+/// Writes the sets, a comma between each.
 fn push_sets(
     repeat: &Repeat,
     data: &[u8],
     absent: AbsentFields,
-    line: &mut LineBuffer,
-) -> Result<(), AllocError>
+    at: usize,
+    out: &mut Vec<u8>,
+) -> Result<usize, AllocError>
     ensures { let sets = map (set_json (are_null absent)) (all_sets repeat.now «data».now) in
-        OnOk result (line.new.items ≡ line.old.items ++ join_with_byte comma sets) }
+        Adds result at out.old.items out.new.items (join_with_byte comma sets) }
 {
+    let mut end = at;
     let mut later = false;
     let mut rest = repeat.from_first(data);
     while let Some((set, behind)) = repeat.split_set(rest) {
-        push_set(repeat.fields(), set, later, absent, line)?;
+        end = push_set(repeat.fields(), set, later, absent, end, out)?;
         later = true;
         rest = behind;
     }
-    Ok(())
+    Ok(end)
 }
 
 /// What stands before the sets, with a comma where a member stands before.
@@ -298,100 +325,106 @@ fn list_key(later: bool) -> &'static [u8]
     if later { b",\"list\":[" } else { b"\"list\":[" }
 }
 
-/// Appends the sets as a member, after a comma where a member stands before. Most messages have none.
+/// Writes the sets as a member, after a comma where a member stands before. Most messages have none.
 #[inline(never)]
 fn push_list(
     repeat: &Repeat,
     data: &[u8],
     absent: AbsentFields,
     later: bool,
-    line: &mut LineBuffer,
-) -> Result<(), AllocError>
+    at: usize,
+    out: &mut Vec<u8>,
+) -> Result<usize, AllocError>
     ensures { let list = list_json (are_null absent) (all_sets repeat.now «data».now) in
-        OnOk result (line.new.items ≡ line.old.items ++ member_text later (Some list)) }
+        Adds result at out.old.items out.new.items (member_text later (Some list)) }
 {
-    line.extend_from_slice(list_key(later))?;
-    push_sets(repeat, data, absent, line)?;
-    line.push(b']')
+    let begin = push_bytes(list_key(later), at, out)?;
+    let end = push_sets(repeat, data, absent, begin, out)?;
+    push(b']', end, out)
 }
 
-/// Appends the members of a message: the fields, and last what repeats behind them.
+/// Writes the members of a message: the fields, and last what repeats behind them.
+#[inline(always)]
 fn push_fields(
     definition: &Definition<'_>,
     data: &[u8],
     absent: AbsentFields,
-    line: &mut LineBuffer,
-) -> Result<(), AllocError>
+    at: usize,
+    out: &mut Vec<u8>,
+) -> Result<usize, AllocError>
     ensures { let ms = message_members (are_null absent) definition.now «data».now in
-        OnOk result (line.new.items ≡ line.old.items ++ join_with_byte comma ms) }
+        Adds result at out.old.items out.new.items (join_with_byte comma ms) }
 {
-    let later = push_members(definition.stored_fields(), data, absent, line)?;
+    let (end, later) = push_members(definition.stored_fields(), data, absent, at, out)?;
     match definition.stored_repeat() {
-        None => Ok(()),
-        Some(repeat) => push_list(repeat, data, absent, later, line),
+        None => Ok(end),
+        Some(repeat) => push_list(repeat, data, absent, later, end, out),
     }
 }
 
-/// Appends the line of a message under a definition of its PGN.
+/// Writes the end of a line.
+#[inline(always)]
+fn push_end(at: usize, out: &mut Vec<u8>) -> Result<usize, AllocError>
+    ensures { Adds result at out.old.items out.new.items (codes "}}\n") }
+{
+    let end = room_at(at, 4, out)?;
+    Ok(put(out.as_mut_slice(), end, *b"}}\n ", 3))
+}
+
+/// Writes the line of a message under a definition of its PGN.
+#[inline(always)]
 fn push_matched(
     definition: &Definition<'_>,
     packet: &Packet,
     absent: AbsentFields,
-    line: &mut LineBuffer,
-) -> Result<(), AllocError>
+    at: usize,
+    out: &mut Vec<u8>,
+) -> Result<usize, AllocError>
     requires { definition.now.pgn ≡ packet.now.id.pgn }
-    ensures { OnOk result (line.new.items
-        ≡ line.old.items ++ chosen_json (Some definition.now) packet.now (are_null absent)) }
+    ensures { Adds result at out.old.items out.new.items
+        (chosen_json (Some definition.now) packet.now (are_null absent)) }
 {
-    push_head(packet, line)?;
-    line.extend_from_slice(definition.label())?;
-    push_fields(definition, packet.data(), absent, line)?;
-    line.put(b"}}\n", 3)
+    let head = push_head(packet, at, out)?;
+    let label = push_bytes(definition.label(), head, out)?;
+    let fields = push_fields(definition, packet.data(), absent, label, out)?;
+    push_end(fields, out)
 }
 
-/// Appends the line of a message that no definition matches: its data as they are.
-fn push_unmatched(packet: &Packet, line: &mut LineBuffer) -> Result<(), AllocError>
-    ensures { OnOk result (line.new.items ≡ line.old.items ++ unmatched_json packet.now) }
+/// Writes the line of a message that no definition matches: its data as they are. It is not inlined: few are so.
+#[inline(never)]
+fn push_unmatched(packet: &Packet, at: usize, out: &mut Vec<u8>) -> Result<usize, AllocError>
+    ensures { Adds result at out.old.items out.new.items (unmatched_json packet.now) }
 {
-    push_head(packet, line)?;
-    push_pgn(packet.id().pgn, line)?;
-    line.extend_from_slice(b",\"description\":\"Unmatched\",\"fields\":{\"Data\":")?;
-    push_pairs(packet.data(), line)?;
-    line.put(b"}}\n", 3)
+    let head = push_head(packet, at, out)?;
+    let pgn = push_pgn(packet.id().pgn, head, out)?;
+    let label = push_bytes(
+        b",\"description\":\"Unmatched\",\"fields\":{\"Data\":",
+        pgn,
+        out,
+    )?;
+    let fields = push_pairs(packet.data(), label, out)?;
+    push_end(fields, out)
 }
 
-fn push_line(
-    definition: Option<Definition<'_>>,
-    packet: &Packet,
-    absent: AbsentFields,
-    line: &mut LineBuffer,
-) -> Result<(), AllocError>
-    requires { IfSome definition (λ d. d.pgn ≡ packet.now.id.pgn) }
-    ensures { OnOk result (line.new.items
-        ≡ line.old.items ++ chosen_json definition.entry packet.now (are_null absent)) }
-{
-    match definition {
-        Some(definition) => push_matched(&definition, packet, absent, line),
-        None => push_unmatched(packet, line),
-    }
-}
-
-/// Appends the line of a packet by the definition that describes it, put together in a buffer.
-fn append_line(
-    alloc: Global,
+/// Adds the line of a packet by the definition that describes it.
+#[inline(always)]
+fn add_line(
     definition: Option<Definition<'_>>,
     packet: &Packet,
     empty: bool,
-    line: &mut LineBuffer,
-    out: &mut Vec<u8>,
+    text: &mut LineBuffer,
 ) -> Result<(), AllocError>
     requires { IfSome definition (λ d. d.pgn ≡ packet.now.id.pgn) }
-    ensures appends { OnOk result (out.new.items ≡ out.old.items ++ chosen_json definition.entry packet.now empty) }
-    ensures unchanged { OnErr result (out.new.items ≡ out.old.items) }
+    ensures { OnOk result (text_of text.new ≡ text_of text.old ++ chosen_json definition.entry packet.now empty) }
 {
-    line.begin(alloc);
-    let written = push_line(definition, packet, AbsentFields::new(empty), line);
-    line.end(written, out)
+    let absent = AbsentFields::new(empty);
+    text.end = match definition {
+        Some(definition) => {
+            push_matched(&definition, packet, absent, text.end, &mut text.bytes)?
+        }
+        None => push_unmatched(packet, text.end, &mut text.bytes)?,
+    };
+    Ok(())
 }
 
 /// Appends the JSON line of a packet, with its LF: when it was seen, its priority, source, destination and
@@ -440,7 +473,7 @@ pub fn json_line(
 /// ```
 #[tactic(auto, unfolding(crate::specs::Json::json))]
 pub fn json_line_in(
-    alloc: Global,
+    _alloc: Global,
     table: &Table,
     packet: &Packet,
     empty: bool,
@@ -451,33 +484,33 @@ pub fn json_line_in(
     ensures unchanged { OnErr result (out.new.items ≡ out.old.items) }
 {
     let definition = table.choose(packet.id().pgn, packet.data());
-    append_line(alloc, definition, packet, empty, line, out)
+    line.end = 0;
+    add_line(definition, packet, empty, line)?;
+    out.extend_from_slice(line.as_slice())
 }
 
-/// Appends what `json_line_in` does of a packet whose PGN has been looked up.
+/// Adds to the lines of a buffer what `json_line` appends, of a packet whose PGN has been looked up.
 ///
 /// ```rust
 /// let table = sample_table(alloc)?;
 /// let packet = frame_in("(1.0) can0 09F8027F#0500")?;
 /// let known = table.find(packet.id().pgn).ok_or("a definition")?;
-/// let mut line = LineBuffer::new(alloc);
-/// let mut text = Vec::new(alloc);
-/// json_line_of(alloc, &known, &packet, false, &mut line, &mut text)?;
+/// let mut text = LineBuffer::new(alloc);
+/// add_json_line(alloc, &known, &packet, false, &mut text)?;
 /// let end = "{\"SID\":5,\"COG Reference\":\"True\"}}\n";
-/// assert!(rt; text.ends_with(end.as_bytes()));
+/// assert!(rt; text.as_slice().ends_with(end.as_bytes()));
 /// ```
 #[tactic(auto, unfolding(crate::specs::Json::json))]
-pub fn json_line_of(
-    alloc: Global,
+#[inline(never)]
+pub fn add_json_line(
+    _alloc: Global,
     known: &KnownPgn<'_>,
     packet: &Packet,
     empty: bool,
-    line: &mut LineBuffer,
-    out: &mut Vec<u8>,
+    text: &mut LineBuffer,
 ) -> Result<(), AllocError>
     requires { known.now.pgn ≡ packet.now.id.pgn }
-    ensures appends { OnOk result (out.new.items ≡ out.old.items ++ json known.now.table packet.now empty) }
-    ensures unchanged { OnErr result (out.new.items ≡ out.old.items) }
+    ensures { OnOk result (text_of text.new ≡ text_of text.old ++ json known.now.table packet.now empty) }
 {
-    append_line(alloc, known.choose(packet.data()), packet, empty, line, out)
+    add_line(known.choose(packet.data()), packet, empty, text)
 }

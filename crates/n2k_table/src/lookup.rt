@@ -3,7 +3,6 @@ ghost use Rattle.std.specs.Prelude.{◌≡◌, nat_eq, option_map, IfOk, find};
 ghost use Rattle.std.specs.Map.{lookup as value_at};
 ghost use Rattle.std.specs.Str.{bytes_eq};
 
-use crate::line_buffer::LineBuffer;
 use crate::padded_text::PaddedText;
 use crate::text::push_json;
 use indexmap::IndexMap;
@@ -31,8 +30,8 @@ impl Model for Name {
 }
 
 impl Name {
-    ghost use Rattle.std.specs.Prelude.{◌++◌, OnOk};
     ghost use Rattle.n2k_table.specs.Text.{text_json};
+    ghost use Rattle.n2k_table.specs.Inner.LineBuffer.{Adds};
 
     /// A name of that text. Its JSON is put together in a room that serves many.
     pub(crate) fn new(alloc: Global, text: &str, room: &mut Vec<u8>) -> Result<Name, AllocError>
@@ -53,12 +52,12 @@ impl Name {
         self.text.as_str()
     }
 
-    /// Appends the text as JSON.
+    /// Writes the text as JSON.
     #[inline(always)]
-    pub(crate) fn push_json(&self, line: &mut LineBuffer) -> Result<(), AllocError>
-        ensures { OnOk result (line.new.items ≡ line.old.items ++ text_json self.now) }
+    pub(crate) fn push_json(&self, at: usize, out: &mut Vec<u8>) -> Result<usize, AllocError>
+        ensures { Adds result at out.old.items out.new.items (text_json self.now) }
     {
-        self.json.push(line)
+        self.json.push(0, at, out)
     }
 }
 

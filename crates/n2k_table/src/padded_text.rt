@@ -1,8 +1,8 @@
 //! A fast path: a text that many lines hold, with its front at a constant length as well. A copy of a constant length
-//! is a few instructions; one of a length that varies is a call. `LineBuffer::extend_from_slice` appends any bytes.
+//! is a few instructions; one of a length that varies is a call. `push_bytes` writes any bytes.
 ghost use Rattle.std.specs.Prelude.{◌≡◌};
 
-use crate::line_buffer::LineBuffer;
+use crate::line_buffer::{push_bytes, put, room_at};
 use std::alloc::{AllocError, Global};
 use std::marker::Model;
 
@@ -12,7 +12,10 @@ const WIDE: usize = 32;
 /// How many bytes a front has: one more, since a text may be appended without its first byte.
 const FRONT: usize = WIDE + 1;
 
-/// A text that is appended to many lines. One that is copied at once takes no memory of its own.
+/// How many bytes have room behind a text that was written: the digits of a number, and what is written behind them.
+pub(crate) const NUMBER_ROOM: usize = 64;
+
+/// A text that is written to many lines. One that is copied at once takes no memory of its own.
 #[derive(Drop)]
 pub(crate) struct PaddedText {
     /// How many bytes it has.
@@ -35,7 +38,8 @@ impl Model for PaddedText {
 }
 
 impl PaddedText {
-    ghost use Rattle.std.specs.Prelude.{◌++◌, ◌<◌, ◌≤◌, drop, length, IfOk, OnOk};
+    ghost use Rattle.std.specs.Prelude.{◌+◌, ◌<◌, ◌≤◌, drop, length, IfOk};
+    ghost use Rattle.n2k_table.specs.Inner.LineBuffer.{Adds};
 
     /// That text, padded.
     pub(crate) fn new(alloc: Global, text: &[u8]) -> Result<PaddedText, AllocError>
@@ -57,28 +61,28 @@ impl PaddedText {
         })
     }
 
-    /// Appends the text.
+    /// Writes the text from its first byte on, or from its second, with room behind it.
     #[inline(always)]
-    pub(crate) fn push(&self, line: &mut LineBuffer) -> Result<(), AllocError>
-        ensures { OnOk result (line.new.items ≡ line.old.items ++ self.now) }
-    {
-        self.push_from(0, line)
-    }
-
-    /// Appends the text from its first byte on, or from its second.
-    #[inline(always)]
-    pub(crate) fn push_from(&self, from: usize, line: &mut LineBuffer) -> Result<(), AllocError>
+    pub(crate) fn push(
+        &self,
+        from: usize,
+        at: usize,
+        out: &mut Vec<u8>,
+    ) -> Result<usize, AllocError>
         requires few { from < 2 }
         requires inside { from ≤ length self.now }
-        ensures { OnOk result (line.new.items ≡ line.old.items ++ drop from self.now) }
+        ensures text { Adds result at out.old.items out.new.items (drop from self.now) }
+        ensures room { IfOk result (λ end. end + 64 ≤ length out.new.items) }
     {
         let count = self.len - from;
         if count > WIDE {
-            return line.extend_from_slice(&self.long[from..]);
+            let end = push_bytes(&self.long[from..], at, out)?;
+            return room_at(end, NUMBER_ROOM, out);
         }
+        let at = room_at(at, WIDE + NUMBER_ROOM, out)?;
         match self.front[from..].first_chunk::<WIDE>() {
-            Some(wide) => line.put(wide, count),
-            None => Ok(()),
+            Some(wide) => Ok(put(out.as_mut_slice(), at, *wide, count)),
+            None => Ok(at),
         }
     }
 }

@@ -6,8 +6,9 @@ ghost use Rattle.std.specs.Option.{IfSome};
 ghost use Rattle.json.specs.Print.{escape_letter, escape_byte};
 ghost use Rattle.n2k_table.specs.Text.{text_json, hex_pair, hex_pairs, two_digits, character};
 ghost use Rattle.n2k_table.specs.Inner.Line.{is_plain, is_plain_character};
+ghost use Rattle.n2k_table.specs.Inner.LineBuffer.{Adds};
 
-use crate::line_buffer::LineBuffer;
+use crate::line_buffer::{push, push_bytes};
 use serde_json::Value;
 use std::alloc::{AllocError, Global};
 
@@ -87,59 +88,64 @@ fn escape_digit(byte: u8) -> u8
     }
 }
 
-/// Appends what stands in a text for a byte.
+/// Writes what stands in a text for a byte.
 #[tactic(auto, unfolding(json::specs::Print::escape_byte))]
-fn push_escaped(byte: u8, line: &mut LineBuffer) -> Result<(), AllocError>
-    ensures { OnOk result (line.new.items ≡ line.old.items ++ escape_byte byte) }
+fn push_escaped(byte: u8, at: usize, out: &mut Vec<u8>) -> Result<usize, AllocError>
+    ensures { Adds result at out.old.items out.new.items (escape_byte byte) }
 {
     match escape_letter(byte) {
-        Some(letter) => line.extend_from_slice(&[b'\\', letter]),
+        Some(letter) => push_bytes(&[b'\\', letter], at, out),
         None if byte < b' ' => {
             let high = b'0' + byte / 16;
-            line.extend_from_slice(&[b'\\', b'u', b'0', b'0', high, escape_digit(byte)])
+            push_bytes(
+                &[b'\\', b'u', b'0', b'0', high, escape_digit(byte)],
+                at,
+                out,
+            )
         }
-        None => line.push(byte),
+        None => push(byte, at, out),
     }
 }
 
-pub(crate) fn push_each(text: &[u8], line: &mut LineBuffer) -> Result<(), AllocError>
-    ensures { OnOk result (line.new.items ≡ line.old.items ++ flat_map escape_byte text.now) }
+pub(crate) fn push_each(text: &[u8], at: usize, out: &mut Vec<u8>) -> Result<usize, AllocError>
+    ensures { Adds result at out.old.items out.new.items (flat_map escape_byte text.now) }
 {
+    let mut end = at;
     for byte in text {
-        push_escaped(*byte, line)?;
+        end = push_escaped(*byte, end, out)?;
     }
-    Ok(())
+    Ok(end)
 }
 
-/// Appends what stands between the quotes of a text.
-fn push_inner(text: &[u8], line: &mut LineBuffer) -> Result<(), AllocError>
-    ensures { OnOk result (line.new.items ≡ line.old.items ++ flat_map escape_byte text.now) }
+/// Writes what stands between the quotes of a text.
+fn push_inner(text: &[u8], at: usize, out: &mut Vec<u8>) -> Result<usize, AllocError>
+    ensures { Adds result at out.old.items out.new.items (flat_map escape_byte text.now) }
 {
     if are_plain(text) {
-        line.extend_from_slice(text)
+        push_bytes(text, at, out)
     } else {
-        push_each(text, line)
+        push_each(text, at, out)
     }
 }
 
-/// Appends a text.
+/// Writes a text.
 #[tactic(auto, using(std::proofs::Common::append_assoc), unfolding(crate::specs::Text::text_json))]
-pub(crate) fn push_text(text: &[u8], line: &mut LineBuffer) -> Result<(), AllocError>
-    ensures { OnOk result (line.new.items ≡ line.old.items ++ text_json text.now) }
+pub(crate) fn push_text(text: &[u8], at: usize, out: &mut Vec<u8>) -> Result<usize, AllocError>
+    ensures { Adds result at out.old.items out.new.items (text_json text.now) }
 {
-    line.push(b'"')?;
-    push_inner(text, line)?;
-    line.push(b'"')
+    let begin = push(b'"', at, out)?;
+    let end = push_inner(text, begin, out)?;
+    push(b'"', end, out)
 }
 
-/// Appends what stands in a text for the character of a number.
-fn push_character(byte: u8, line: &mut LineBuffer) -> Result<(), AllocError>
-    ensures { OnOk result (line.new.items ≡ line.old.items ++ flat_map escape_byte (character byte)) }
+/// Writes what stands in a text for the character of a number.
+fn push_character(byte: u8, at: usize, out: &mut Vec<u8>) -> Result<usize, AllocError>
+    ensures { Adds result at out.old.items out.new.items (flat_map escape_byte (character byte)) }
 {
     if byte < 0x80 {
-        push_escaped(byte, line)
+        push_escaped(byte, at, out)
     } else {
-        line.extend_from_slice(&[0xc0 + byte / 64, 0x80 + byte % 64])
+        push_bytes(&[0xc0 + byte / 64, 0x80 + byte % 64], at, out)
     }
 }
 
@@ -161,85 +167,91 @@ fn are_plain_characters(numbers: &[u8]) -> bool
     all
 }
 
-fn push_each_character(numbers: &[u8], line: &mut LineBuffer) -> Result<(), AllocError>
-    ensures { OnOk result (line.new.items ≡ line.old.items ++ flat_map escape_byte (flat_map character numbers.now)) }
+fn push_each_character(numbers: &[u8], at: usize, out: &mut Vec<u8>) -> Result<usize, AllocError>
+    ensures { Adds result at out.old.items out.new.items (flat_map escape_byte (flat_map character numbers.now)) }
 {
+    let mut end = at;
     for number in numbers {
-        push_character(*number, line)?;
+        end = push_character(*number, end, out)?;
     }
-    Ok(())
+    Ok(end)
 }
 
-/// Appends what stands between the quotes of a text of characters. Most have plain ones alone, which are copied at
+/// Writes what stands between the quotes of a text of characters. Most have plain ones alone, which are copied at
 /// once.
-fn push_inner_characters(numbers: &[u8], line: &mut LineBuffer) -> Result<(), AllocError>
-    ensures { OnOk result (line.new.items ≡ line.old.items ++ flat_map escape_byte (flat_map character numbers.now)) }
+fn push_inner_characters(numbers: &[u8], at: usize, out: &mut Vec<u8>) -> Result<usize, AllocError>
+    ensures { Adds result at out.old.items out.new.items (flat_map escape_byte (flat_map character numbers.now)) }
 {
     if are_plain_characters(numbers) {
-        line.extend_from_slice(numbers)
+        push_bytes(numbers, at, out)
     } else {
-        push_each_character(numbers, line)
+        push_each_character(numbers, at, out)
     }
 }
 
-/// Appends the text of the characters that have these numbers.
+/// Writes the text of the characters that have these numbers.
 #[tactic(auto, using(std::proofs::Common::append_assoc), unfolding(crate::specs::Text::text_json))]
-pub(crate) fn push_characters(numbers: &[u8], line: &mut LineBuffer) -> Result<(), AllocError>
-    ensures { OnOk result (line.new.items ≡ line.old.items ++ text_json (flat_map character numbers.now)) }
+pub(crate) fn push_characters(
+    numbers: &[u8],
+    at: usize,
+    out: &mut Vec<u8>,
+) -> Result<usize, AllocError>
+    ensures { Adds result at out.old.items out.new.items (text_json (flat_map character numbers.now)) }
 {
-    line.push(b'"')?;
-    push_inner_characters(numbers, line)?;
-    line.push(b'"')
+    let begin = push(b'"', at, out)?;
+    let end = push_inner_characters(numbers, begin, out)?;
+    push(b'"', end, out)
 }
 
-/// Appends a byte as two digits.
-fn push_pair(byte: u8, line: &mut LineBuffer) -> Result<(), AllocError>
-    ensures { OnOk result (line.new.items ≡ line.old.items ++ hex_pair byte) }
+/// Writes a byte as two digits.
+fn push_pair(byte: u8, at: usize, out: &mut Vec<u8>) -> Result<usize, AllocError>
+    ensures { Adds result at out.old.items out.new.items (hex_pair byte) }
 {
     let high = DIGITS[usize::from(byte / 16)];
     let low = DIGITS[usize::from(byte % 16)];
-    line.extend_from_slice(&[high, low])
+    push_bytes(&[high, low], at, out)
 }
 
-fn push_inner_pairs(bytes: &[u8], line: &mut LineBuffer) -> Result<(), AllocError>
-    ensures { OnOk result (line.new.items ≡ line.old.items ++ hex_pairs bytes.now) }
+fn push_inner_pairs(bytes: &[u8], at: usize, out: &mut Vec<u8>) -> Result<usize, AllocError>
+    ensures { Adds result at out.old.items out.new.items (hex_pairs bytes.now) }
 {
     let Some((first, rest)) = bytes.split_first() else {
-        return Ok(());
+        return Ok(at);
     };
-    push_pair(*first, line)?;
+    let mut end = push_pair(*first, at, out)?;
     for byte in rest {
-        line.push(b' ')?;
-        push_pair(*byte, line)?;
+        let next = push(b' ', end, out)?;
+        end = push_pair(*byte, next, out)?;
     }
-    Ok(())
+    Ok(end)
 }
 
-/// Appends the text of bytes: two digits each, and a space between.
+/// Writes the text of bytes: two digits each, and a space between.
 #[tactic(auto, using(std::proofs::Common::append_assoc))]
-pub(crate) fn push_pairs(bytes: &[u8], line: &mut LineBuffer) -> Result<(), AllocError>
-    ensures { OnOk result (line.new.items ≡ line.old.items ++ text_json (hex_pairs bytes.now)) }
+pub(crate) fn push_pairs(bytes: &[u8], at: usize, out: &mut Vec<u8>) -> Result<usize, AllocError>
+    ensures { Adds result at out.old.items out.new.items (text_json (hex_pairs bytes.now)) }
 {
-    line.push(b'"')?;
-    push_inner_pairs(bytes, line)?;
-    line.push(b'"')
+    let begin = push(b'"', at, out)?;
+    let end = push_inner_pairs(bytes, begin, out)?;
+    push(b'"', end, out)
 }
 
-fn push_inner_digits(bytes: &[u8], line: &mut LineBuffer) -> Result<(), AllocError>
-    ensures { OnOk result (line.new.items ≡ line.old.items ++ flat_map two_digits bytes.now) }
+fn push_inner_digits(bytes: &[u8], at: usize, out: &mut Vec<u8>) -> Result<usize, AllocError>
+    ensures { Adds result at out.old.items out.new.items (flat_map two_digits bytes.now) }
 {
+    let mut end = at;
     for byte in bytes {
-        line.extend_from_slice(&[b'0' + *byte / 10, b'0' + *byte % 10])?;
+        end = push_bytes(&[b'0' + *byte / 10, b'0' + *byte % 10], end, out)?;
     }
-    Ok(())
+    Ok(end)
 }
 
-/// Appends the text of bytes that are two decimal digits each.
+/// Writes the text of bytes that are two decimal digits each.
 #[tactic(auto, using(std::proofs::Common::append_assoc))]
-pub(crate) fn push_digits(bytes: &[u8], line: &mut LineBuffer) -> Result<(), AllocError>
-    ensures { OnOk result (line.new.items ≡ line.old.items ++ text_json (flat_map two_digits bytes.now)) }
+pub(crate) fn push_digits(bytes: &[u8], at: usize, out: &mut Vec<u8>) -> Result<usize, AllocError>
+    ensures { Adds result at out.old.items out.new.items (text_json (flat_map two_digits bytes.now)) }
 {
-    line.push(b'"')?;
-    push_inner_digits(bytes, line)?;
-    line.push(b'"')
+    let begin = push(b'"', at, out)?;
+    let end = push_inner_digits(bytes, begin, out)?;
+    push(b'"', end, out)
 }

@@ -1,11 +1,12 @@
 //! Texts of UTF-16 in JSON.
-ghost use Rattle.std.specs.Prelude.{◌≡◌, ◌<◌, ◌+◌, ◌++◌, ◌∷◌, [], ◌&&◌, true, false, length, flat_map, unwrap_or, MatchOption, OnOk};
+ghost use Rattle.std.specs.Prelude.{◌≡◌, ◌<◌, ◌+◌, ◌∷◌, [], ◌&&◌, true, false, length, flat_map, unwrap_or, MatchOption};
 ghost use Rattle.std.specs.Char.Utf16.{is_high_surrogate, is_low_surrogate, surrogate_pair_char, lone_unit_char, utf16_lossy_chars};
 ghost use Rattle.json.specs.Print.{escape_byte};
 ghost use Rattle.n2k_table.specs.Strings.{units, wide_text};
 ghost use Rattle.n2k_table.specs.Text.{text_json, character};
+ghost use Rattle.n2k_table.specs.Inner.LineBuffer.{Adds};
 
-use crate::line_buffer::LineBuffer;
+use crate::line_buffer::push;
 use crate::text::push_each;
 use std::alloc::AllocError;
 
@@ -52,32 +53,33 @@ fn split_character(bytes: &[u8]) -> Option<(char, &[u8])>
     Some((lone_character(unit), behind))
 }
 
-/// Appends what stands in a text for a character.
-fn push_char(letter: char, line: &mut LineBuffer) -> Result<(), AllocError>
-    ensures { OnOk result (line.new.items ≡ line.old.items ++ flat_map escape_byte (character letter)) }
+/// Writes what stands in a text for a character.
+fn push_char(letter: char, at: usize, out: &mut Vec<u8>) -> Result<usize, AllocError>
+    ensures { Adds result at out.old.items out.new.items (flat_map escape_byte (character letter)) }
 {
     let mut room = [0; 4];
-    push_each(letter.encode_utf8(&mut room).as_bytes(), line)
+    push_each(letter.encode_utf8(&mut room).as_bytes(), at, out)
 }
 
-/// Appends what stands between the quotes of a text.
-fn push_inner_wide(bytes: &[u8], line: &mut LineBuffer) -> Result<(), AllocError>
-    ensures { OnOk result (line.new.items ≡ line.old.items ++ flat_map escape_byte (wide_text bytes.now)) }
+/// Writes what stands between the quotes of a text.
+fn push_inner_wide(bytes: &[u8], at: usize, out: &mut Vec<u8>) -> Result<usize, AllocError>
+    ensures { Adds result at out.old.items out.new.items (flat_map escape_byte (wide_text bytes.now)) }
 {
+    let mut end = at;
     let mut rest = bytes;
     while let Some((letter, behind)) = split_character(rest) {
-        push_char(letter, line)?;
+        end = push_char(letter, end, out)?;
         rest = behind;
     }
-    Ok(())
+    Ok(end)
 }
 
-/// Appends the text of UTF-16, low byte first.
+/// Writes the text of UTF-16, low byte first.
 #[tactic(auto, using(std::proofs::Common::append_assoc), unfolding(crate::specs::Text::text_json))]
-pub(crate) fn push_wide(bytes: &[u8], line: &mut LineBuffer) -> Result<(), AllocError>
-    ensures { OnOk result (line.new.items ≡ line.old.items ++ text_json (wide_text bytes.now)) }
+pub(crate) fn push_wide(bytes: &[u8], at: usize, out: &mut Vec<u8>) -> Result<usize, AllocError>
+    ensures { Adds result at out.old.items out.new.items (text_json (wide_text bytes.now)) }
 {
-    line.push(b'"')?;
-    push_inner_wide(bytes, line)?;
-    line.push(b'"')
+    let begin = push(b'"', at, out)?;
+    let end = push_inner_wide(bytes, begin, out)?;
+    push(b'"', end, out)
 }

@@ -3,7 +3,7 @@ use super::frame_in;
 use crate::samples::sample as sample_table;
 use crate::table::tables::pairs_table;
 use n2k_table::{
-    Kind, LineBuffer, Shown, Table, TableFault, decimal_text, json_line, json_line_in, json_line_of,
+    Kind, LineBuffer, Shown, Table, TableFault, add_json_line, decimal_text, json_line, json_line_in,
 };
 use std::test::Fail;
 
@@ -71,11 +71,10 @@ fn json_lines_of_a_known_pgn(rt: HostRuntime) -> Result<(), Fail> {
     let table = sample_table(alloc)?;
     let packet = frame_in("(1.0) can0 09F8027F#0500")?;
     let known = table.find(packet.id().pgn).ok_or("a definition")?;
-    let mut line = LineBuffer::new(alloc);
-    let mut text = Vec::new(alloc);
-    json_line_of(alloc, &known, &packet, false, &mut line, &mut text)?;
+    let mut text = LineBuffer::new(alloc);
+    add_json_line(alloc, &known, &packet, false, &mut text)?;
     let end = "{\"SID\":5,\"COG Reference\":\"True\"}}\n";
-    assert!(rt; text.ends_with(end.as_bytes()));
+    assert!(rt; text.as_slice().ends_with(end.as_bytes()));
     Ok(())
 }
 

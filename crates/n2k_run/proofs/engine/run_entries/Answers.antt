@@ -1,5 +1,6 @@
 use Rattle.std.proofs.Common.{sym, ◌∙◌}
 use Rattle.std.proofs.lemmas.Result.{err_from_is_err_and}
+use Rattle.n2k_table.specs.LineBuffer.{text_of}
 use Rattle.n2k_run.specs.Runs.{Devices, seen}
 use Rattle.n2k_run.specs.Inner.Engine.{BetweenLines}
 use Rattle.n2k_run.proofs.Running.{begins, writes, takes, none_read, sink_end, memory_end, last_end, still_made, fault_end, lead_of, calls_here, calls_next}
@@ -11,7 +12,7 @@ abbrev devices : (g : Over) → g.row.R.Denot → g.row.W.Denot → g.row.E.Deno
 devices g = seen g.R.Source g.W.Sink g.E.Sink
 
 -- where the next line is taken
-stood : (g : Over) (c : After-take_next g) → BetweenLines (g.H.EntryHandler.fold c.args.handler.now) c.args.packing (g.H.EntryHandler.known c.args.state.now) (g.H.EntryHandler.known c.lines.state) c.lines.blocks c.if-not-has_line.pending.text.items c.if-not-has_line.pending.report.items (devices g c.args.reader.now c.args.writer.now c.args.reporter.now) (devices g c.lines.reader c.if-not-has_line.writer c.if-not-has_line.reporter)
+stood : (g : Over) (c : After-take_next g) → BetweenLines (g.H.EntryHandler.fold c.args.handler.now) c.args.packing (g.H.EntryHandler.known c.args.state.now) (g.H.EntryHandler.known c.lines.state) c.lines.blocks (text_of c.if-not-has_line.pending.text) c.if-not-has_line.pending.report.items (devices g c.args.reader.now c.args.writer.now c.args.reporter.now) (devices g c.lines.reader c.if-not-has_line.writer c.if-not-has_line.reporter)
 stood g c = elim c.if-not-has_line.branch [
   | then-not-has_line+in_ok-write w ↦
       let e = w.in_ok-write.ensures in

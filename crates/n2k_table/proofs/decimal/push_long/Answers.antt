@@ -1,7 +1,7 @@
-use Rattle.std.proofs.Common.{◌≡◌, ◌++◌, ◌<◌, ◌^◌, ℕ, List, length, ap, ◌∙◌, arith}
+use Rattle.std.proofs.Common.{◌≡◌, ◌++◌, ◌<◌, ◌^◌, ℕ, List, length, take, ap, ◌∙◌, arith}
 use Rattle.std.specs.Prelude.{decimal}
 use Rattle.n2k_table.specs.Inner.Digits.{zero_filled}
-use Rattle.n2k_table.proofs.Members.{on_ok}
+use Rattle.n2k_table.proofs.Members.{as_if}
 use Rattle.n2k_table.proofs.Decimals.{zero_filled_padded}
 use Rattle.n2k_table.proofs.decimal.push_long.Goals as goal
 
@@ -10,4 +10,4 @@ returns-else-decimals-digits c =
     let is : c.as_bytes-digits.result.now ≡ decimal c.args.size = c.as_bytes-digits.ensures.value ∙ c.format.ensures.text in
     let small : c.args.size < 10 ^ 64 = omega (arith, c.ranges.size.fits) in
     let text = ap (zero_filled c.args.decimals) is ∙ zero_filled_padded c.args.size c.args.decimals small (omega (arith, ap length is, c.if-decimals-digits.false)) in
-    on_ok c.push_filled.result (λ pushed. pushed ∙ ap (λ (t : List ℕ). c.args.line.now.items ++ t) text) c.push_filled.ensures
+    as_if c.push_filled.result _ _ _ (ap (λ (t : List ℕ). take c.args.at c.args.out.now.items ++ t) text) c.push_filled.ensures

@@ -1,5 +1,5 @@
 -- The bits so far, and those that are left.
-use Rattle.std.proofs.Common.{◌≡◌, ◌++◌, map, length}
+use Rattle.std.proofs.Common.{◌≡◌, ◌++◌, map, length, take}
 use Rattle.std.specs.List.{join_with_byte}
 use Rattle.n2k_table.specs.Json.{flag_json}
 use Rattle.n2k_table.specs.Shown.{flags_left}
@@ -8,8 +8,8 @@ use Rattle.n2k_table.proofs.line.push_bits.Given as goal
 
 abbrev pub invariant-loop-bit : goal.invariant-loop-bit
 invariant-loop-bit l =
-    l.line.items ++ members_from l.later (map flag_json (flags_left l.rest))
-    ≡ l.fn.line.items ++ join_with_byte 44 (map flag_json (flags_left l.flags))
+    take l.end l.out.items ++ members_from l.later (map flag_json (flags_left l.rest))
+    ≡ take l.fn.at l.fn.out.items ++ join_with_byte 44 (map flag_json (flags_left l.flags))
 
 abbrev pub decreases-loop-bit : goal.decreases-loop-bit
 decreases-loop-bit l = length (flags_left l.rest)

@@ -1,4 +1,4 @@
-use Rattle.std.proofs.Common.{ℕ, List, ◌++◌, ap, ◌∙◌}
+use Rattle.std.proofs.Common.{ℕ, List, ◌++◌, ap, ◌∙◌, take}
 use Rattle.std.specs.List.{filter_map}
 use Rattle.n2k_table.specs.Shown.{all_shown}
 use Rattle.n2k_table.specs.Json.{member_json}
@@ -9,13 +9,13 @@ use Rattle.n2k_table.proofs.line.push_members.Goals as goal
 pub returns : goal.returns
 returns c =
     let members = filter_map (member_json (are_null c.args.absent)) (all_shown c.args.fields.now c.args.«data».now) in (
-      is_done (are_null c.args.absent) c.loop-field.later c.loop-field.rest.now c.args.«data».now c.loop-field.line.items _ c.in_default.ensures.cases c.loop-field.invariant.0
-          ∙ ap (λ (ms : List ℕ). c.args.line.now.items ++ ms) (members_from-joined members),
+      is_done (are_null c.args.absent) c.loop-field.later c.loop-field.rest.now c.args.«data».now (take c.loop-field.end c.loop-field.out.items) _ c.in_default.ensures.cases c.loop-field.invariant.0
+          ∙ ap (λ (ms : List ℕ). take c.args.at c.args.out.now.items ++ ms) (members_from-joined members),
       flag_is_done (are_null c.args.absent) c.loop-field.later _ c.loop-field.rest.now c.args.«data».now c.in_default.ensures.cases c.loop-field.invariant.1,
     )
 
 pub loop-field-preserved : goal.loop-field-preserved
 loop-field-preserved c = (
-  rw c.in_ok-later.ensures.1 (rw c.in_ok-later.ensures.0 (goes_on (are_null c.args.absent) c.loop-field.later c.loop-field.rest.now c.in-Some.others.now c.args.«data».now c.in-Some.field.now c.loop-field.line.items _ c.in-Some.ensures.cases.0 c.loop-field.invariant.0)),
-  rw c.in_ok-later.ensures.1 (flag_goes_on (are_null c.args.absent) c.loop-field.later _ c.loop-field.rest.now c.in-Some.others.now c.args.«data».now c.in-Some.field.now c.in-Some.ensures.cases.0 c.loop-field.invariant.1),
+  rw c.in_ok-push_member.ensures.1 (rw c.in_ok-push_member.ensures.0 (goes_on (are_null c.args.absent) c.loop-field.later c.loop-field.rest.now c.in-Some.others.now c.args.«data».now c.in-Some.field.now (take c.loop-field.end c.loop-field.out.items) _ c.in-Some.ensures.cases.0 c.loop-field.invariant.0)),
+  rw c.in_ok-push_member.ensures.1 (flag_goes_on (are_null c.args.absent) c.loop-field.later _ c.loop-field.rest.now c.in-Some.others.now c.args.«data».now c.in-Some.field.now c.in-Some.ensures.cases.0 c.loop-field.invariant.1),
 )

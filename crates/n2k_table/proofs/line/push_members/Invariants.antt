@@ -1,5 +1,5 @@
 -- The members so far, and those of the fields that are left.
-use Rattle.std.proofs.Common.{◌≡◌, ◌++◌, ◌||◌, false, length}
+use Rattle.std.proofs.Common.{◌≡◌, ◌++◌, ◌||◌, false, length, take}
 use Rattle.std.specs.List.{filter_map}
 use Rattle.n2k_table.specs.Json.{member_json}
 use Rattle.n2k_table.specs.Shown.{all_shown}
@@ -9,8 +9,8 @@ use Rattle.n2k_table.proofs.line.push_members.Given as goal
 
 abbrev pub invariant-loop-field : goal.invariant-loop-field
 invariant-loop-field l =
-    (l.line.items ++ members_from l.later (filter_map (member_json (are_null l.absent)) (all_shown l.rest l.«data»))
-    ≡ l.fn.line.items ++ members_from false (filter_map (member_json (are_null l.absent)) (all_shown l.fields l.«data»)))
+    (take l.end l.out.items ++ members_from l.later (filter_map (member_json (are_null l.absent)) (all_shown l.rest l.«data»))
+    ≡ take l.fn.at l.fn.out.items ++ members_from false (filter_map (member_json (are_null l.absent)) (all_shown l.fields l.«data»)))
     × ((l.later || has_members (filter_map (member_json (are_null l.absent)) (all_shown l.rest l.«data»))) ≡ has_members (filter_map (member_json (are_null l.absent)) (all_shown l.fields l.«data»)))
 
 abbrev pub decreases-loop-field : goal.decreases-loop-field

@@ -1,5 +1,5 @@
 -- The sets so far, and those that are left.
-use Rattle.std.proofs.Common.{◌≡◌, ◌++◌, map, length}
+use Rattle.std.proofs.Common.{◌≡◌, ◌++◌, map, length, take}
 use Rattle.std.specs.List.{join_with_byte}
 use Rattle.n2k_table.specs.Json.{set_json}
 use Rattle.n2k_table.specs.Repeat.{sets_in, all_sets}
@@ -10,8 +10,8 @@ use Rattle.n2k_table.proofs.line.push_sets.Given as goal
 
 abbrev pub invariant-loop-set : goal.invariant-loop-set
 invariant-loop-set l =
-    l.line.items ++ members_from l.later (map (set_json (are_null l.absent)) (map (all_shown l.repeat.fields) (sets_in l.repeat l.rest)))
-    ≡ l.fn.line.items ++ join_with_byte 44 (map (set_json (are_null l.absent)) (all_sets l.repeat l.«data»))
+    take l.end l.out.items ++ members_from l.later (map (set_json (are_null l.absent)) (map (all_shown l.repeat.fields) (sets_in l.repeat l.rest)))
+    ≡ take l.fn.at l.fn.out.items ++ join_with_byte 44 (map (set_json (are_null l.absent)) (all_sets l.repeat l.«data»))
 
 abbrev pub decreases-loop-set : goal.decreases-loop-set
 decreases-loop-set l = length (sets_in l.repeat l.rest)

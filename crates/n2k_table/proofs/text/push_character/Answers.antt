@@ -4,4 +4,4 @@ use Rattle.n2k_table.proofs.text.push_character.Goals as goal
 
 pub returns-else-byte-lt128 : goal.returns-else-byte-lt128
 returns-else-byte-lt128 c =
-    rw (escape-character c.args.byte c.if-byte-lt128.false (omega arith)) c.extend_from_slice.ensures
+    rw (escape-character c.args.byte c.if-byte-lt128.false (omega arith)) c.push_bytes.ensures

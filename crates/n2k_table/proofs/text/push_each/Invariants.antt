@@ -1,9 +1,9 @@
 -- What stands for the bytes so far is written, and that for the others is left.
-use Rattle.std.proofs.Common.{◌≡◌, ◌++◌, drop}
+use Rattle.std.proofs.Common.{◌≡◌, ◌++◌, drop, take}
 use Rattle.std.specs.List.{flat_map}
 use Rattle.json.specs.Print.{escape_byte}
 use Rattle.n2k_table.proofs.text.push_each.Given as goal
 
 abbrev pub invariant-loop-byte : goal.invariant-loop-byte
 invariant-loop-byte l =
-    l.line.items ++ flat_map escape_byte (drop l.byte-index l.text) ≡ l.fn.line.items ++ flat_map escape_byte l.text
+    take l.end l.out.items ++ flat_map escape_byte (drop l.byte-index l.text) ≡ take l.fn.at l.fn.out.items ++ flat_map escape_byte l.text

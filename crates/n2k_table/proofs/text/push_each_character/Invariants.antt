@@ -1,5 +1,5 @@
 -- The characters so far are written, and the others are left.
-use Rattle.std.proofs.Common.{◌≡◌, ◌++◌, drop}
+use Rattle.std.proofs.Common.{◌≡◌, ◌++◌, drop, take}
 use Rattle.std.specs.List.{flat_map}
 use Rattle.json.specs.Print.{escape_byte}
 use Rattle.n2k_table.specs.Text.{character}
@@ -7,4 +7,4 @@ use Rattle.n2k_table.proofs.text.push_each_character.Given as goal
 
 abbrev pub invariant-loop-number : goal.invariant-loop-number
 invariant-loop-number l =
-    l.line.items ++ flat_map escape_byte (flat_map character (drop l.number-index l.numbers)) ≡ l.fn.line.items ++ flat_map escape_byte (flat_map character l.numbers)
+    take l.end l.out.items ++ flat_map escape_byte (flat_map character (drop l.number-index l.numbers)) ≡ take l.fn.at l.fn.out.items ++ flat_map escape_byte (flat_map character l.numbers)

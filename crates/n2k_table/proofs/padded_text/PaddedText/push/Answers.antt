@@ -1,11 +1,10 @@
 use Rattle.std.proofs.Common.{◌≡◌, ◌++◌, ◌+◌, ◌-◌, ◌≤◌, ℕ, List, length, take, drop, sym, ap, ◌∙◌, arith}
 use Rattle.std.proofs.lemmas.List.{take-take, drop-take}
 use Rattle.n2k_table.specs.Inner.Padded.{padded_text}
-use Rattle.n2k_table.proofs.Members.{on_ok}
-use Rattle.n2k_table.proofs.padded_text.PaddedText.push_from.Goals as goal
+use Rattle.n2k_table.proofs.padded_text.PaddedText.push.Goals as goal
 
-pub returns-in-Some : goal.returns-in-Some
-returns-in-Some c =
+pub returns-in-Some-clause-text : goal.returns-in-Some-clause-text
+returns-in-Some-clause-text c =
     let len = c.self.inside.len in
     let front = c.self.inside.front in
     let from = c.args.from in
@@ -21,4 +20,4 @@ returns-in-Some c =
     ∙ sym (drop-take from count front)
     ∙ ap (λ k. drop from (take k front)) end
     ∙ ap (drop from) (whole ∙ c.self.view_is) in
-    on_ok c.put.result (λ put. put ∙ ap (λ (t : List ℕ). c.args.line.now.items ++ t) text) c.put.ensures
+    c.put.ensures.bytes ∙ ap (λ (t : List ℕ). t ++ take count c.in-Some.wide.now) c.in_ok-at.ensures.text ∙ ap (λ (t : List ℕ). take c.args.at c.args.out.now.items ++ t) text

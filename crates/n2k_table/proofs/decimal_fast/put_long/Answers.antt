@@ -4,20 +4,20 @@ use Rattle.std.proofs.lemmas.Fmt.{length-decimal-le}
 use Rattle.std.proofs.lemmas.List.{length-append, length-drop, take-replicate, drop-drop, drop-set}
 use Rattle.n2k_table.proofs.Placed.{placed, length_padded, onto_whole, onto_parts}
 use Rattle.n2k_table.specs.Decimal.{padded_digits}
-use Rattle.n2k_table.proofs.decimal_fast.push_long.Goals as goal
+use Rattle.n2k_table.proofs.decimal_fast.put_long.Goals as goal
 
 pub write_digits-first-requires : goal.write_digits-first-requires
 write_digits-first-requires c =
     let short : length (decimal c.args.size) ≤ 20 = length-decimal-le 20 c.args.size (omega arith) (omega (arith, c.ranges.size.fits)) (omega (arith, c.ranges.size.fits)) in
     (omega (arith, short), omega arith)
 
-pub push_digits-requires-clause-few : goal.push_digits-requires-clause-few
-push_digits-requires-clause-few c =
+pub put_digits-end-requires-clause-few : goal.put_digits-end-requires-clause-few
+put_digits-end-requires-clause-few c =
     let short : length (decimal c.args.size) ≤ 20 = length-decimal-le 20 c.args.size (omega arith) (omega (arith, c.ranges.size.fits)) (omega (arith, c.ranges.size.fits)) in
     omega (arith, short, c.write_digits-first.ensures.start, c.min-from.ensures, c.requires)
 
-pub returns-in_ok-push_digits-2 : goal.returns-in_ok-push_digits-2
-returns-in_ok-push_digits-2 c =
+pub returns : goal.returns
+returns c =
     let n = c.args.size in
     let e = c.args.decimals in
     let digits = c.write_digits-first.new.buf in
@@ -36,24 +36,24 @@ returns-in_ok-push_digits-2 c =
     let next : 40 - e - 1 + 1 ≡ 40 - e = omega (arith, c.requires) in
     let here : drop (40 - e - 1) (set digits (40 - e - 1) 46) ≡ 46 ∷ drop (40 - e - from) (drop from digits) =
     drop-set digits (40 - e - 1) 46 inside ∙ ap (λ k. 46 ∷ drop k digits) next ∙ ap (λ (ds : List ℕ). 46 ∷ ds) rest in
-    onto_parts (padded_digits n e) (drop 40 (replicate 64 48)) (drop from digits) (drop (40 - e - 1) (set digits (40 - e - 1) 46)) c.args.line.now.items _ _ (40 - e - from) e front
+    onto_parts (padded_digits n e) (drop 40 (replicate 64 48)) (drop from digits) (drop (40 - e - 1) (set digits (40 - e - 1) 46)) (take c.args.at c.args.text.now) _ _ (40 - e - from) e front
     (omega (arith, length_padded n e, c.write_digits-first.ensures.start, c.min-from.ensures, c.requires, short))
-    (omega (arith, short, c.write_digits-first.ensures.start, c.min-from.ensures, c.requires)) (omega (arith, c.if-decimals-gt0.true)) (omega (arith, c.requires))
-    c.in_ok-push_digits.ensures here (rw count at c.in_ok-push_digits-2.ensures)
+    (omega (arith, short, c.write_digits-first.ensures.start, c.min-from.ensures, c.requires)) (omega (arith, c.if-decimals-eq0.false)) (omega (arith, c.requires))
+    c.put_digits-end.ensures.bytes here (rw count at c.put_digits.ensures.bytes)
 
-pub returns-else-decimals-gt0 : goal.returns-else-decimals-gt0
-returns-else-decimals-gt0 c =
+pub returns-then-decimals-eq0 : goal.returns-then-decimals-eq0
+returns-then-decimals-eq0 c =
     let n = c.args.size in
     let e = c.args.decimals in
     let digits = c.write_digits-first.new.buf in
     let first = c.write_digits-first.result in
     let from = c.min-from.result in
-    let none : e ≡ 0 = omega (arith, c.if-decimals-gt0.false) in
+    let none : e ≡ 0 = omega (arith, c.if-decimals-eq0.true) in
     let short : length (decimal n) ≤ 20 = length-decimal-le 20 n (omega arith) (omega (arith, c.ranges.size.fits)) (omega (arith, c.ranges.size.fits)) in
     let zeros : take first digits ≡ replicate first 48 = c.write_digits-first.ensures.before ∙ take-replicate first 64 48 (omega (arith, c.write_digits-first.ensures.start)) in
     let is = placed digits (decimal n) (drop 40 (replicate 64 48)) first from zeros c.write_digits-first.ensures.written (omega (arith, c.min-from.ensures)) in
     let fill : first - from ≡ e + 1 - length (decimal n) = omega (arith, c.write_digits-first.ensures.start, c.min-from.ensures, c.requires, short) in
     let front : drop from digits ≡ padded_digits n e ++ drop 40 (replicate 64 48) = is ∙ ap (λ k. (replicate k 48 ++ decimal n) ++ drop 40 (replicate 64 48)) fill in
-    onto_whole (padded_digits n e) (drop 40 (replicate 64 48)) (drop from digits) c.args.line.now.items _ (40 - e - from) e none front
+    onto_whole (padded_digits n e) (drop 40 (replicate 64 48)) (drop from digits) (take c.args.at c.args.text.now) _ (40 - e - from) e none front
     (omega (arith, none, length_padded n e, c.write_digits-first.ensures.start, c.min-from.ensures, short))
-    (omega (arith, short, c.write_digits-first.ensures.start, c.min-from.ensures, c.requires)) c.in_ok-push_digits.ensures
+    (omega (arith, short, c.write_digits-first.ensures.start, c.min-from.ensures, c.requires)) c.put_digits-end.ensures.bytes
