@@ -8,8 +8,8 @@ from screen.bits import Frames
 
 # Above these the oldest is dropped: lines, messages of other ships, alarms that are over, reports.
 MOST_LINES, MOST_SHIPS, MOST_ALARMS, MOST_REPORTS = 1000, 4000, 200, 1000
-# Above these what is new is left out: messages of own devices, PGNs, their senders, alarms that are set.
-MOST_OWN, MOST_PGNS, MOST_SENDERS, MOST_SET = 4000, 2000, 4000, 1000
+# Above these what is new is left out: messages of own devices, PGNs, their senders, fields of a device with a set alarm.
+MOST_OWN, MOST_PGNS, MOST_SENDERS, MOST_SET = 4000, 2000, 4000, 100
 
 FORGOTTEN = 300  # seconds
 MINUTE = 60.0  # seconds for which something has to come at a regular rate before it can be late, and at least is late
@@ -250,8 +250,8 @@ class Bus:
         # Lines, the last of them, and what was reported of some; by number.
         self.lines, self.ring, self.reports = 0, collections.deque(maxlen=MOST_LINES), collections.OrderedDict()
         self.bad = self.broken = 0
-        # What is set now, with the time since when, and what was set: (from, to, flag, message's key, field).
-        self.set, self.over = {}, collections.deque(maxlen=MOST_ALARMS)
+        # What is set now, with the time since when, in how many fields of each device; what was set: (from, to, flag, message's key, field).
+        self.set, self.alarmed, self.over = {}, collections.Counter(), collections.deque(maxlen=MOST_ALARMS)
         self.at = self.told = None  # the stamps of the last line and of the last message
         self.frames, self.bits, self.each_second = Frames(), Meter(), Meter()
         self.identifiers, self.new = {}, []
@@ -481,18 +481,20 @@ class Bus:
         return message
 
     def flags(self, at, key, name, now):
-        """Which flags of a field are set now."""
-        was = self.set.setdefault((key, name), {})
-        now = [str(flag) for flag in now]
-        for flag in [flag for flag in was if flag not in now]:
-            self.over.append((was.pop(flag), at, flag, key, name))
-        for flag in now:
-            if len(self.set) <= MOST_SET:
-                was.setdefault(flag, at)
-            else:
+        """Which flags of a field are set now. Each device has places of its own for them: one that makes up alarms hides no other's."""
+        where, sender, now = (key, name), key[0], [str(flag) for flag in now]
+        was = self.set.get(where, {})
+        self.over.extend((was[flag], at, flag, key, name) for flag in was if flag not in now)
+        if now and not was:
+            if self.alarmed[sender] >= MOST_SET:
                 self.left_out.add("own")
-        if not was:
-            del self.set[key, name]
+                return
+            self.alarmed[sender] += 1
+        if now:
+            self.set[where] = {flag: was.get(flag, at) for flag in now}
+        elif was:
+            del self.set[where]
+            self.alarmed[sender] -= 1
 
     def device(self, sender):
         """What a device is called: maker, model and installation, as far as it has told them."""
