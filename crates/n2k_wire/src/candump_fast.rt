@@ -173,7 +173,7 @@ fn interface_end(text: &[u8]) -> Option<usize>
 }
 
 /// The 29 bits of an identifier of eight digits.
-#[inline]
+#[inline(always)]
 fn fast_identifier(digits: &[u8; WORD_DIGITS]) -> Option<u32>
     ensures hexadecimal { IfSome result (λ n. list_all is_ascii_hexdigit digits.now ≡ true) }
     ensures value { IfSome result (λ n. identifier digits.now ≡ Ok (Some n)) }

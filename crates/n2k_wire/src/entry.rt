@@ -204,8 +204,9 @@ pub(crate) fn set_frame(out: &mut Entry, stamp: &[u8], id: Id, data: &[u8])
     }
 }
 
-/// `set_frame` of a stamp and data whose lengths are known, so that they are moved and not copied byte by byte.
-#[inline]
+/// `set_frame` of a stamp and data whose lengths are known, so that they are moved and not copied byte by byte. It is
+/// inlined, with `set_parts`: only then are they known there.
+#[inline(always)]
 pub(crate) fn set_frame_fast<const N: usize>(
     out: &mut Entry,
     stamp: &[u8; N],

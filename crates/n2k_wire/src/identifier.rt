@@ -41,25 +41,21 @@ pub fn split_id(identifier: u32) -> Id
 {
     let specific = identifier / 0x100 % 0x100;
     let format = identifier / 0x1_0000 % 0x100;
-    let page = identifier / 0x100_0000 % 4;
-    let group = page * 0x1_0000 + format * 0x100;
-    let prio = (identifier / 0x400_0000 % 8) as u8;
-    let src = (identifier % 0x100) as u8;
-    if format < FIRST_BROADCAST_FORMAT {
-        let dst = specific as u8;
-        Id {
-            prio,
-            pgn: group,
-            src,
-            dst,
-        }
-    } else {
-        Id {
-            prio,
-            pgn: group + specific,
-            src,
-            dst: EVERYONE,
-        }
+    let is_broadcast = format >= FIRST_BROADCAST_FORMAT;
+    let group = identifier / 0x100 % 0x4_0000;
+    Id {
+        prio: (identifier / 0x400_0000 % 8) as u8,
+        pgn: if is_broadcast {
+            group
+        } else {
+            group - specific
+        },
+        src: (identifier % 0x100) as u8,
+        dst: if is_broadcast {
+            EVERYONE
+        } else {
+            specific as u8
+        },
     }
 }
 

@@ -186,8 +186,8 @@ impl Packet {
         self.data_len = FRAME_PAYLOAD;
     }
 
-    /// Makes it the packet of these parts, in its own place.
-    #[inline]
+    /// Makes it the packet of these parts, in its own place. It is inlined, since most callers know the lengths.
+    #[inline(always)]
     pub(crate) fn set_parts(&mut self, stamp: &[u8], id: Id, data: &[u8])
         requires { IsPacket stamp.now id «data».now }
         ensures value { self.new ≡ record { stamp = stamp.now; id = id; payload = «data».now } }
