@@ -37,6 +37,16 @@ behind_placed ds behind k e len some few =
     ∙ take_at (46 ∷ drop k ds) behind (e + 1) (omega (arith, count))
     ∙ sym (after_some (drop k ds) (omega (arith, count)))
 
+-- a whole number has no dot
+pub whole_is : (n : ℕ) → 0 < length (decimal n) → dotted 0 (padded_digits n 0) ≡ decimal n
+whole_is n some =
+    let ds = decimal n in
+    let zeros : 0 + 1 - length ds ≡ 0 = omega (arith, some) in
+    let all : take (length ds - 0) ds ≡ ds = take_all (length ds - 0) ds (omega arith) in
+    let none : drop (length ds - 0) ds ≡ [] = drop_all (length ds - 0) ds (omega arith) in
+    let whole : dotted 0 ds ≡ ds = rw (all, none) (append-nil ds) in
+    ap (λ k. dotted 0 (replicate k 48 ++ ds)) zeros ∙ whole
+
 -- digits without a dot, appended at once
 pub onto_whole : (ds behind front l0 l1 : List ℕ) (k e : ℕ) → e ≡ 0 → front ≡ ds ++ behind → k ≡ length ds → k ≤ 24 → l1 ≡ l0 ++ take k (take 24 front) → l1 ≡ l0 ++ dotted e ds
 onto_whole ds behind front l0 l1 k e zero is len few so_far =

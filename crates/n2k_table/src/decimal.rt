@@ -48,26 +48,13 @@ fn push_minus(negative: bool, line: &mut LineBuffer) -> Result<(), AllocError>
     Ok(())
 }
 
-/// Appends the sign of a number of that size below zero. Zero has none. It is not inlined, so that the size of a
-/// number above zero is not asked.
-#[inline(never)]
-fn push_sign_below(size: u128, line: &mut LineBuffer) -> Result<(), AllocError>
-    ensures { OnOk result (line.new.items ≡ line.old.items ++ (if nat_lt 0 size then minus ∷ [] else [])) }
-{
-    push_minus(size > 0, line)
-}
-
-/// Appends the sign of a number of that size, or nothing.
+/// Appends the sign of a number of that size, or nothing. Zero has none.
 #[inline(always)]
 fn push_sign(negative: bool, size: u128, line: &mut LineBuffer) -> Result<(), AllocError>
     ensures { OnOk result (line.new.items
         ≡ line.old.items ++ (if negative && nat_lt 0 size then minus ∷ [] else [])) }
 {
-    if negative {
-        push_sign_below(size, line)
-    } else {
-        Ok(())
-    }
+    push_minus(negative && size > 0, line)
 }
 
 /// Appends the decimal text of `size / 10^decimals`, of any number of digits. It is not inlined: few have so many.

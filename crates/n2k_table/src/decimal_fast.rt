@@ -5,6 +5,7 @@ ghost use Rattle.std.specs.Prelude.{◌≡◌, ◌++◌, ◌+◌, ◌-◌, ◌�
 ghost use Rattle.n2k_table.specs.Decimal.{dotted, padded_digits};
 ghost use Rattle.n2k_table.specs.Inner.Digits.{pairs_word, values_word};
 
+use crate::head::number_text;
 use crate::line_buffer::LineBuffer;
 use itoa::write_digits;
 use std::alloc::AllocError;
@@ -91,8 +92,9 @@ fn eight_values(number: u64) -> u64
     tens + (pairs - tens * 10 << 8)
 }
 
-/// Appends the decimal text of `size / 10^decimals`. To store the digits of a short number from a word costs less than
-/// to write them to an array and to copy more bytes of it at once, which waits for those that were just written.
+/// Appends the decimal text of `size / 10^decimals`. A byte is looked up. To store the digits of a short number from a
+/// word costs less than to write them to an array and to copy more bytes of it at once, which waits for those that were
+/// just written.
 #[inline(always)]
 pub(crate) fn push_short(
     size: u64,
@@ -102,6 +104,10 @@ pub(crate) fn push_short(
     requires { decimals ≤ 18 }
     ensures { OnOk result (line.new.items ≡ line.old.items ++ dotted decimals (padded_digits size decimals)) }
 {
+    if decimals == 0 && size < 256 {
+        let (text, count) = number_text(size as u8);
+        return line.put(&text, count);
+    }
     if size < LEAST_LONG && decimals < DIGITS {
         let values = eight_values(size);
         let zeros = (values.trailing_zeros() / 8) as usize;

@@ -48,7 +48,7 @@ static NUMBERS: [[u8; 4]; 256] = [
 
 /// The decimal text of a byte, filled up, and how many of its bytes count.
 #[inline(always)]
-fn number_text(number: u8) -> ([u8; 4], usize)
+pub(crate) fn number_text(number: u8) -> ([u8; 4], usize)
     ensures text { take result.1 result.0 ≡ decimal number }
     ensures few { result.1 ≤ 3 }
 {
@@ -167,6 +167,7 @@ fn push_other_stamp(stamp: &[u8], line: &mut LineBuffer) -> Result<(), AllocErro
 }
 
 /// Appends when a message was seen. Of most stamps a comparison takes sixteen bytes.
+#[inline(always)]
 fn push_time(stamp: &[u8], line: &mut LineBuffer) -> Result<(), AllocError>
     ensures { OnOk result (line.new.items ≡ line.old.items ++ (codes "{\"timestamp\":" ++ text_json stamp.now)) }
 {
@@ -177,7 +178,8 @@ fn push_time(stamp: &[u8], line: &mut LineBuffer) -> Result<(), AllocError>
     }
 }
 
-/// Appends what stands before the PGN.
+/// Appends what stands before the PGN. It is inlined: a call takes more.
+#[inline(always)]
 #[tactic(auto, using(std::proofs::Common::append_assoc), unfolding(crate::specs::Inner::Line::before_pgn_json))]
 pub(crate) fn push_head(packet: &Packet, line: &mut LineBuffer) -> Result<(), AllocError>
     ensures { OnOk result (line.new.items ≡ line.old.items ++ before_pgn_json packet.now) }

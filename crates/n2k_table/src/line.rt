@@ -349,7 +349,8 @@ fn push_matched(
     line.put(b"}}\n", 3)
 }
 
-/// Appends the line of a message that no definition matches: its data as they are.
+/// Appends the line of a message that no definition matches: its data as they are. Few lines are such.
+#[inline(never)]
 fn push_unmatched(packet: &Packet, line: &mut LineBuffer) -> Result<(), AllocError>
     ensures { OnOk result (line.new.items ≡ line.old.items ++ unmatched_json packet.now) }
 {

@@ -192,13 +192,14 @@ pub(crate) fn push_characters(numbers: &[u8], line: &mut LineBuffer) -> Result<(
     line.push(b'"')
 }
 
-/// Appends a byte as two digits.
-fn push_pair(byte: u8, line: &mut LineBuffer) -> Result<(), AllocError>
-    ensures { OnOk result (line.new.items ≡ line.old.items ++ hex_pair byte) }
+/// A byte as two digits.
+#[inline(always)]
+fn pair(byte: u8) -> [u8; 2]
+    ensures { result ≡ hex_pair byte }
 {
     let high = DIGITS[usize::from(byte / 16)];
     let low = DIGITS[usize::from(byte % 16)];
-    line.extend_from_slice(&[high, low])
+    [high, low]
 }
 
 fn push_inner_pairs(bytes: &[u8], line: &mut LineBuffer) -> Result<(), AllocError>
@@ -207,10 +208,9 @@ fn push_inner_pairs(bytes: &[u8], line: &mut LineBuffer) -> Result<(), AllocErro
     let Some((first, rest)) = bytes.split_first() else {
         return Ok(());
     };
-    push_pair(*first, line)?;
+    line.put(&pair(*first), 2)?;
     for byte in rest {
-        line.push(b' ')?;
-        push_pair(*byte, line)?;
+        line.put_behind(b" ", &pair(*byte), 2)?;
     }
     Ok(())
 }

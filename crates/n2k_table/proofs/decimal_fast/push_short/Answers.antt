@@ -1,7 +1,19 @@
-use Rattle.std.proofs.Common.{◌++◌, ℕ, List, ap, ◌∙◌}
+use Rattle.std.proofs.Common.{◌≡◌, ◌++◌, ◌<◌, ℕ, List, length, sym, ap, ◌∙◌, arith}
+use Rattle.std.specs.Prelude.{decimal}
+use Rattle.std.proofs.lemmas.Fmt.{decimal_nonempty}
+use Rattle.n2k_table.specs.Decimal.{dotted, padded_digits}
 use Rattle.n2k_table.proofs.Members.{on_ok}
+use Rattle.n2k_table.proofs.Placed.{whole_is}
 use Rattle.n2k_table.proofs.Words.{short_is}
 use Rattle.n2k_table.proofs.decimal_fast.push_short.Goals as goal
+
+pub returns-then-size-lt256 : goal.returns-then-size-lt256
+returns-then-size-lt256 c =
+    let n = c.args.size in
+    let none : c.args.decimals ≡ 0 = omega arith in
+    let some : 0 < length (decimal n) = decimal_nonempty n (omega (arith, c.ranges.size.fits)) in
+    let is = c.number_text-count.ensures.text ∙ sym (whole_is n some) in
+    on_ok c.put.result (λ put. put ∙ ap (λ (t : List ℕ). c.args.line.now.items ++ t) (is ∙ ap (λ e. dotted e (padded_digits n e)) (sym none))) c.put.ensures
 
 pub returns-then-decimals-lt-DIGITS : goal.returns-then-decimals-lt-DIGITS
 returns-then-decimals-lt-DIGITS c =
