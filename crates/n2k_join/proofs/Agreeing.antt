@@ -1,9 +1,7 @@
 -- The step from a log's state is the state of the longer log.
-use Rattle.std.proofs.Common.{◌≡◌, ◌<◌, ◌+◌, ℕ, Bool, true, false, cond, ◌||◌, List, [], ◌∷◌, ◌++◌, length, map, refl, sym, ap, ◌∙◌, subst, arith, Option, Some, None, option_map, option_and_then, option_to_list, filter_map, ◌≤◌}
-use Rattle.std.specs.Prelude.{is_some, IfSome, sum_by, count_by}
+use Rattle.std.proofs.Common.{◌≡◌, ◌<◌, ◌+◌, ℕ, Bool, true, false, cond, ◌||◌, List, [], ◌∷◌, ◌++◌, length, map, refl, sym, ap, ◌∙◌, subst, arith, Option, Some, None, option_map, option_and_then, option_to_list, filter_map, ◌≤◌, is_some, IfSome, sum_by, count_by, append-nil, length-append}
 use Rattle.std.specs.Option.{option_or}
-use Rattle.std.specs.List.{range_with_len, AllByRecursion}
-use Rattle.std.proofs.lemmas.List.{append-nil, length-append}
+use Rattle.std.specs.List.{AllByRecursion}
 use Rattle.std.proofs.lemmas.List.Sums.{sum_by_push}
 use Rattle.n2k_wire.specs.declared.entry.Entry.{Entry}
 use Rattle.n2k_wire.specs.Packet.{PacketParts}
@@ -12,7 +10,7 @@ use Rattle.n2k_join.specs.declared.step.Broken.{Broken}
 use Rattle.n2k_join.specs.Frames.{Key, Frame, of_key, frame_in, frames}
 use Rattle.n2k_join.specs.Groups.{within, complete, incomplete}
 use Rattle.n2k_join.specs.Open.{Group, group_of, open_groups, is_waiting, waiting, ended, open_within}
-use Rattle.n2k_join.specs.Messages.{Keyed, message_of, alone, cause_in, gathered, as_broken, broken_with, message, broken, entry_at, is_unknown, numbers, counts}
+use Rattle.n2k_join.specs.Messages.{Keyed, message_of, alone, cause_in, gathered, as_broken, broken_with, message, broken, entry_at, numbers, counts}
 use Rattle.n2k_join.specs.State.{Given, state, held_of, step_after, counts_after, one_if, IsOpen, AreOpen}
 use Rattle.n2k_join.specs.Laws.{StepsAgree}
 use Rattle.n2k_join.specs.Window.{Window, IsWindow}
@@ -40,13 +38,7 @@ message_from x g = option_map (message_of x) (cond (complete g) (Some g) None)
 
 module _ (w : Window) (some : 0 < w.lines) where
   message-joined : (x : Frame) (g : List Frame) → IsFine g → message_from x (g ++ x ∷ []) ≡ message_from x (held_of (group_of x.key g) ++ x ∷ [])
-  message-joined x g fine =
-      let h = held_of (group_of x.key g) in
-      let carry = carried-kept x.key g fine.numbers in
-      message_by x (complete (g ++ x ∷ [])) (g ++ x ∷ [])
-      ∙ ap (λ d. cond (complete (g ++ x ∷ [])) (Some (record { stamp = x.stamp; id = x.id; payload = d })) None) (sym (data_of-same (h ++ x ∷ []) (g ++ x ∷ []) (carried-push h g x carry)))
-      ∙ ap (λ b. cond b (Some (message_of x (h ++ x ∷ []))) None) (sym (complete-kept_push x.key g x fine))
-      ∙ sym (message_by x (complete (h ++ x ∷ [])) (h ++ x ∷ []))
+  message-joined x g fine = grind (arith, carried-kept x.key g fine.numbers, message_by x (complete (g ++ x ∷ [])) (g ++ x ∷ []), data_of-same ((held_of (group_of x.key g)) ++ x ∷ []) (g ++ x ∷ []) (carried-push (held_of (group_of x.key g)) g x (carried-kept x.key g fine.numbers)), carried-push (held_of (group_of x.key g)) g x (carried-kept x.key g fine.numbers), complete-kept_push x.key g x fine)
 
   next-open : (x : Frame) (g : List Frame) (e : Bool) → complete g ≡ false → within w g x ≡ e → next (within w) (Some g) x ≡ cond e (x ∷ []) (g ++ x ∷ [])
   next-open x g e c t = ap (λ b. cond (b || within w g x) (x ∷ []) (g ++ x ∷ [])) c ∙ ap (λ e. cond e (x ∷ []) (g ++ x ∷ [])) t
@@ -60,13 +52,11 @@ module _ (w : Window) (some : 0 < w.lines) where
       ap (message_from x) (next-open x g e c t) ∙ joins e ∙ sym (ap (message_from x) (next-open x h e c' t'))
     where
       joins : (e : Bool) → message_from x (cond e (x ∷ []) (g ++ x ∷ [])) ≡ message_from x (cond e (x ∷ []) (held_of (group_of x.key g) ++ x ∷ []))
-      joins true = refl
-      joins false = message-joined x g fine
+      joins e = grind (arith, message-joined)
 
   -- a frame gives the same message with a key's group so far and with what is kept of it
   gives-kept : (x : Frame) (s : Option (List Frame)) → IfSome s IsFine → option_map (message_of x) (completed (within w) s x) ≡ option_map (message_of x) (completed (within w) (kept_of x.key s) x)
-  gives-kept x None fine = refl
-  gives-kept x (Some g) fine = grind (arith, gives-kept_open)
+  gives-kept x s fine = grind (arith, gives-kept_open)
 
 -- ---- what the last line of a log gives
 
@@ -112,10 +102,7 @@ module _ (w : Window) (some : 0 < w.lines) (kind : ℕ → Option Kind) (es : Li
       ∙ append-nil (map as_broken (ended w (n + 1) log_groups))) i)
 
   groups-none : frame_in kind (length es + 1) e ≡ None → open_within w (length (es ++ e ∷ [])) (frames kind (es ++ e ∷ [])) ≡ log_kept
-  groups-none none =
-      ap (λ n. open_within w n (frames kind (es ++ e ∷ []))) (length-append es (e ∷ []))
-      ∙ ap (open_within w (length es + 1)) (frames-push kind es e ∙ ap (λ o. frames kind es ++ option_to_list o) none ∙ append-nil (frames kind es))
-      ∙ open_within-none w (length es) some (frames kind es) (frames-log kind es)
+  groups-none none = grind (arith, length-append, frames-push, append-nil, open_within-none, frames-log)
 
   -- and of one with a frame
   last-frame : (x : Frame) → frame_in kind (length es + 1) e ≡ Some x
@@ -151,51 +138,29 @@ module _ (w : Window) (some : 0 < w.lines) (kind : ℕ → Option Kind) (es : Li
       ∙ (λ i. record { message = (message_alone w x (completed (within w) s x) ∙ message_is) i; cause = only.cause i; broken = map as_broken (ended w (n + 1) log_groups) ++ filter_map (told_if w some t) log_kept })
 
   groups-frame : (x : Frame) → frame_in kind (length es + 1) e ≡ Some x → open_within w (length (es ++ e ∷ [])) (frames kind (es ++ e ∷ [])) ≡ advanced (within w) log_kept x
-  groups-frame x found =
-      ap (λ n. open_within w n (frames kind (es ++ e ∷ []))) (length-append es (e ∷ []))
-      ∙ ap (open_within w (length es + 1)) (frames-push kind es e ∙ ap (λ o. frames kind es ++ option_to_list o) found)
-      ∙ open_within-push w (length es) some (frames kind es) x (frames-log kind es) (only_frame kind (length es + 1) e x found).line
+  groups-frame x found = grind (arith, length-append, frames-push, open_within-push, frames-log, only_frame)
 
   -- ---- what is counted
 
   -- a sum over the lines of the longer log, of what earlier lines keep
   lines-push : (f g : ℕ → ℕ) → ((i : ℕ) → 1 ≤ i → i ≤ length es → f i ≡ g i)
       → sum_by f (numbers (es ++ e ∷ [])) ≡ sum_by g (numbers es) + f (length es + 1)
-  lines-push f g same =
-      let next : 1 + length es ≡ length es + 1 = omega arith in
-      ap (λ n. sum_by f (range_with_len 1 n)) (length-append es (e ∷ [])) ∙ ap (sum_by f) (range-push 1 (length es))
-      ∙ sum_by_push f (range_with_len 1 (length es)) (1 + length es)
-      ∙ (λ j. sum_by-range f g 1 (length es) (λ i l u. same i l (omega (arith, u))) j + f (next j))
+  lines-push f g same = grind (arith, length-append, range-push, sum_by_push, sum_by-range)
 
   one_is : (b : Bool) → cond b 1 0 ≡ one_if b
-  one_is true = refl
-  one_is false = refl
+  one_is b = grind arith
 
   messages-push : count_by (λ i. is_some (message w kind (es ++ e ∷ []) i)) (numbers (es ++ e ∷ [])) ≡ count_by (λ i. is_some (message w kind es i)) (numbers es) + one_if (is_some (message w kind (es ++ e ∷ []) (length es + 1)))
-  messages-push =
-      lines-push (λ i. cond (is_some (message w kind (es ++ e ∷ []) i)) 1 0)
-      (λ i. cond (is_some (message w kind es i)) 1 0)
-      (λ i l u. ap (λ m. cond (is_some m) 1 0) (message-before (within w) kind es e i l u))
-      ∙ ap (λ n. count_by (λ i. is_some (message w kind es i)) (numbers es) + n)
-      (one_is (is_some (message w kind (es ++ e ∷ []) (length es + 1))))
+  messages-push = grind (arith, lines-push, message-before)
 
   broken-push : sum_by (λ i. length (broken w kind (es ++ e ∷ []) i)) (numbers (es ++ e ∷ [])) ≡ sum_by (λ i. length (broken w kind es i)) (numbers es) + length (broken w kind (es ++ e ∷ []) (length es + 1))
-  broken-push =
-      lines-push (λ i. length (broken w kind (es ++ e ∷ []) i)) (λ i. length (broken w kind es i))
-      (λ i l u. ap length (broken-before w some kind es e i u))
+  broken-push = grind (arith, lines-push, broken-before)
 
   one_more : (p : Entry → Bool) → count_by p (es ++ e ∷ []) ≡ count_by p es + one_if (p e)
   one_more p = sum_by_push (λ x. cond (p x) 1 0) es e ∙ ap (λ n. count_by p es + n) (one_is (p e))
 
   pub counts-push : counts w kind (es ++ e ∷ []) ≡ counts_after kind (counts w kind es) e last_given (length (open_within w (length (es ++ e ∷ [])) (frames kind (es ++ e ∷ []))))
-  counts-push = λ i. record {
-    lines = length-append es (e ∷ []) i;
-    messages = messages-push i;
-    bad = one_more (λ e. is_some (cause_in kind e)) i;
-    unknown = one_more (is_unknown kind) i;
-    broken = broken-push i;
-    held = length (open_within w (length (es ++ e ∷ [])) (frames kind (es ++ e ∷ [])));
-  }
+  counts-push = grind (arith, length-append, messages-push, one_more, broken-push)
 
   module _ (id : List ℕ) where
     -- the step in terms of the longer log

@@ -1,17 +1,14 @@
 -- Groups hold where each does and none has a key that was seen before it.
-use Rattle.std.proofs.Common.{arith, ◌≡◌, ◌≤◌, ℕ, ◌+◌, ◌<◌, Bool, true, false, not, ◌&&◌, ◌||◌, cond, List, [], ◌∷◌, ◌++◌, length, get_or, take, drop, map, Option, Some, refl, sym, ap, subst, ◌∙◌}
-use Rattle.std.specs.Prelude.{is_some}
+use Rattle.std.proofs.Common.{arith, ◌≡◌, ◌≤◌, ℕ, ◌+◌, ◌<◌, Bool, true, false, not, ◌&&◌, ◌||◌, List, [], ◌∷◌, ◌++◌, length, get_or, take, drop, map, Option, refl, sym, ap, subst, ◌∙◌, is_some}
 use Rattle.std.specs.List.{list_any, AllByRecursion}
-use Rattle.std.proofs.lemmas.Bool.{and_parts, leb-true}
 use Rattle.std.proofs.lemmas.List.{drop_more, take_more, map-append}
 use Rattle.n2k_table.specs.declared.definition.Kind.{Kind}
 use Rattle.n2k_join.specs.Frames.{Key, same_key}
 use Rattle.n2k_join.specs.Open.{Group}
-use Rattle.n2k_join.specs.Resumed.{group_holds, groups_hold}
+use Rattle.n2k_join.specs.Resumed.{group_holds, groups_hold, firsts_rise}
 use Rattle.n2k_join.specs.State.{HasParts}
 use Rattle.n2k_join.specs.Inner.Apart.{each_new}
 use Rattle.n2k_join.specs.Inner.Stored.{of_the_key}
-use Rattle.n2k_join.specs.Resumed.{firsts_rise}
 use Rattle.n2k_join.proofs.Keys.{same_key-sym}
 use Rattle.n2k_join.proofs.Rising.{all-append}
 use Rattle.std.proofs.Math.Bool.{or-false, and-false}
@@ -33,16 +30,7 @@ any-last f ks k = list_any-append f ks (k ∷ []) ∙ ap (λ b. list_any f ks ||
 
 none_of-last : (ks : List Key) (k : Key) (gs : List Group) → none_of (ks ++ k ∷ []) gs ≡ (none_of ks gs && not (has k gs))
 none_of-last ks k [] = refl
-none_of-last ks k (g ∷ gs) =
-    ap (λ b. not b && none_of (ks ++ k ∷ []) gs) (any-last (same_key g.key) ks k ∙ ap (λ b. list_any (same_key g.key) ks || b) (same_key-sym g.key k))
-    ∙ ap (λ b. not (list_any (same_key g.key) ks || same_key k g.key) && b) (none_of-last ks k gs)
-    ∙ regroup (list_any (same_key g.key) ks) (same_key k g.key) (none_of ks gs) (has k gs)
-  where
-    regroup : (a s n b : Bool) → (not (a || s) && (n && not b)) ≡ ((not a && n) && not (s || b))
-    regroup true s n b = refl
-    regroup false true true b = refl
-    regroup false true false b = refl
-    regroup false false n b = refl
+none_of-last ks k (g ∷ gs) = grind (arith, none_of-last ks k gs, any-last, same_key-sym)
 
 -- the rules on groups, by their keys as they are seen
 hold-new : (kind : ℕ → Option Kind) (ks : List Key) (gs : List Group) → each_new kind ks gs ≡ (none_of ks gs && groups_hold kind gs)
@@ -73,9 +61,7 @@ module _ (kind : ℕ → Option Kind) (ks : List Key) (gs : List Group) (i : ℕ
 -- a key is listed where a group of it is found
 pub key_listed : (key : Key) (gs : List Group) → list_any (same_key key) (keys_in gs) ≡ is_some (of_the_key key gs)
 key_listed key [] = refl
-key_listed key (g ∷ gs) =
-    ap (λ b. same_key key g.key || b) (key_listed key gs)
-    ∙ elim (same_key key g.key) as (λ b. (b || is_some (of_the_key key gs)) ≡ is_some (cond b (Some g) (of_the_key key gs))) [ true ↦ refl | false ↦ refl ]
+key_listed key (g ∷ gs) = grind (arith, key_listed key gs)
 
 -- What is stored is one group more of those that are read.
 module _ (kind : ℕ → Option Kind) (gs : List Group) (i : ℕ) (g : Group) (lt : i < length gs) (at : g ≡ get_or gs i g) (before next : List Group) (unseen : list_any (same_key g.key) (keys_in before) ≡ false) (last : next ≡ before ++ g ∷ []) where
@@ -83,10 +69,7 @@ module _ (kind : ℕ → Option Kind) (gs : List Group) (i : ℕ) (g : Group) (l
   stored_kept kept = last ∙ ap (λ hs. hs ++ g ∷ []) kept ∙ sym (take_more gs i g lt ∙ ap (λ h. take i gs ++ h ∷ []) (sym at))
 
   pub stored_left : group_holds kind g ≡ true → each_new kind (keys_in before) (drop i gs) ≡ groups_hold kind gs → each_new kind (keys_in next) (drop (i + 1) gs) ≡ groups_hold kind gs
-  stored_left good left =
-      ap (λ hs. each_new kind (keys_in hs) (drop (i + 1) gs)) last
-      ∙ ap (λ ks. each_new kind ks (drop (i + 1) gs)) (map-append (λ (h : Group). h.key) before (g ∷ []))
-      ∙ key_new kind (keys_in before) gs i g lt at left good unseen
+  stored_left good left = grind (arith, map-append, key_new)
 
   pub stored_parts : AllByRecursion HasParts before → HasParts g → AllByRecursion HasParts next
   stored_parts each one = subst (AllByRecursion HasParts) (sym last) (all-append HasParts before (g ∷ []) each (one, tt))
@@ -94,8 +77,4 @@ module _ (kind : ℕ → Option Kind) (gs : List Group) (i : ℕ) (g : Group) (l
 -- first lines that rise, the next one taken
 pub next_rises : (least lines i : ℕ) (gs : List Group) (g : Group) → i < length gs → g ≡ get_or gs i g → firsts_rise least lines (drop i gs) ≡ true → (least ≤ g.first) × ((g.first ≤ lines) × (firsts_rise (g.first + 1) lines (drop (i + 1) gs) ≡ true))
 unfolding firsts_rise
-next_rises least lines i gs g lt at e =
-    let split = drop_more gs i g lt ∙ ap (λ h. h ∷ drop (i + 1) gs) (sym at) in
-    let one = and_parts _ _ (sym (ap (firsts_rise least lines) split) ∙ e) in
-    let two = and_parts _ _ one.1 in
-    (leb-true _ _ one.0, (leb-true _ _ two.0, two.1))
+next_rises least lines i gs g lt at e = grind (arith, drop_more)

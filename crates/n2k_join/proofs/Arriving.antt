@@ -1,16 +1,15 @@
 -- Scattered frames arrive whole.
-use Rattle.std.proofs.Common.{arith, ◌≡◌, ◌<◌, ◌+◌, ℕ, true, List, [], ◌∷◌, length, refl, ap, subst, ◌∙◌, sym, Option, Some, None}
-use Rattle.std.specs.Prelude.{find, option_map, option_and_then}
+use Rattle.std.proofs.Common.{arith, ◌≡◌, ◌<◌, ◌+◌, ℕ, true, List, [], ◌∷◌, refl, ap, subst, ◌∙◌, Option, Some, None, find, option_map, option_and_then}
 use Rattle.std.specs.Option.{option_or}
-use Rattle.std.specs.List.{AllByRecursion, AllZip, last_or, range_with_len}
+use Rattle.std.specs.List.{AllByRecursion, AllZip, last_or}
 use Rattle.std.proofs.lemmas.List.Elements.{recursion_from_All}
 use Rattle.n2k_wire.specs.Packet.{PacketParts}
 use Rattle.n2k_wire.specs.declared.entry.Entry.{Entry}
 use Rattle.n2k_table.specs.declared.definition.Kind.{Kind}
 use Rattle.n2k_join.specs.Frames.{Key, same_key, Frame, frames, of_key, frame_at}
-use Rattle.n2k_join.specs.Groups.{EndTest, within, first, complete, cut, last_line, data_of, incomplete, open_of}
-use Rattle.n2k_join.specs.Messages.{Keyed, message_of, is_done_at, gathered_by, gathered, alone, entry_at, broken_of, broken_among, broken_by, broken_begun, broken_with}
-use Rattle.n2k_join.specs.Open.{where_begun, begun_at, open_groups, waiting, open_within}
+use Rattle.n2k_join.specs.Groups.{EndTest, within, first, complete, cut, last_line, data_of, incomplete}
+use Rattle.n2k_join.specs.Messages.{Keyed, message_of, is_done_at, gathered, alone, entry_at, broken_among, broken_with}
+use Rattle.n2k_join.specs.Open.{begun_at, open_groups, waiting, open_within}
 use Rattle.n2k_join.specs.Pieces.{Sending, last_piece}
 use Rattle.n2k_join.specs.Scattered.{all_frames, IsPieceOf, IsStretchOf, IsStretchWithin, FallInto, sendings_of, IsScattered}
 use Rattle.n2k_join.specs.Arrival.{Brings, ArriveWhole}
@@ -55,12 +54,7 @@ key-rise kind es k = rise-filter line_of (λ (f : Frame). same_key k f.key) 1 (f
 -- the group that is done at its last line, is gathered there
 pub gathered_group : (ends : EndTest) (fs : List Frame) (k : Key) (g : List Frame) (f : Frame) → last_line g ≡ f.line → StandsAt fs k f → find (is_done_at (last_line g)) (cut ends (of_key k fs)) ≡ Some g → gathered ends fs (last_line g) ≡ Some (record { key = k; message = message_of f g })
 unfolding gathered
-gathered_group ends fs k g f at stands found =
-    ap (λ l. option_and_then (gathered_by ends fs) (frame_at l fs)) at
-    ∙ (ap (option_and_then (gathered_by ends fs)) stands.0
-    ∙ (ap (λ (c : Key). option_map (λ group. record { key = c; message = message_of f group }) (find (is_done_at f.line) (cut ends (of_key c fs)))) stands.1
-    ∙ (ap (λ l. option_map (λ group. record { key = k; message = message_of f group }) (find (is_done_at l) (cut ends (of_key k fs)))) (sym at)
-    ∙ ap (option_map (λ group. record { key = k; message = message_of f group })) found)))
+gathered_group ends fs k g f at stands found = grind arith
 
 message_is : (m : PacketParts) (f : Frame) (g : List Frame) → f.stamp ≡ m.stamp → f.id ≡ m.id → data_of g ≡ m.payload → message_of f g ≡ m
 message_is m f g stamp id payload = λ i. record { stamp = stamp i; id = id i; payload = payload i }
@@ -146,9 +140,7 @@ settles w kind ms es scattered k =
     }
 
 pub brought : (w : Window) (kind : ℕ → Option Kind) (ms : List PacketParts) (es : List Entry) → IsScattered w kind ms es → (k : Key) → AllZip (Brings w kind es) (sendings_of k ms) (cut (within w) (of_key k (frames kind es)))
-brought w kind ms es scattered k =
-    let at = settles w kind ms es scattered k in
-    subst (AllZip (Brings w kind es) (sendings_of k ms)) (sym at.cut_is) (zip-map (Comes (within w) kind es k) (Brings w kind es) (brings w kind es k) (sendings_of k ms) at.groups at.each)
+brought w kind ms es scattered k = grind (arith, settles w kind ms es scattered k, brings w kind es k, zip-map)
 
 -- no group of any key is incomplete
 abbrev pub AllWhole : EndTest → List Frame → Type 0
@@ -175,10 +167,4 @@ unfolding waiting
 none_open-within w fs n whole = ap (waiting w n) (none_open (within w) fs n whole)
 
 pub arrive : (w : Window) (kind : ℕ → Option Kind) (ms : List PacketParts) (es : List Entry) → IsScattered w kind ms es → ArriveWhole w kind ms es
-arrive w kind ms es scattered =
-    let whole : AllWhole (within w) (frames kind es) = λ k. zip-all (Brings w kind es) (λ g. complete g ≡ true) (λ x g is. is.whole) _ _ (brought w kind ms es scattered k) in
-    record {
-      brought = brought w kind ms es scattered;
-      none_broken = none_broken w (frames kind es) whole;
-      none_open = none_open-within w (frames kind es) (length es) whole;
-    }
+arrive w kind ms es scattered = grind (arith, brought w kind ms es scattered, zip-all, none_broken, none_open-within)

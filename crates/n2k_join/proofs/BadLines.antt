@@ -1,19 +1,12 @@
 -- A bad line and one that stands for nothing give the same, but for the count.
-use Rattle.std.proofs.Common.{◌≡◌, ◌+◌, ℕ, suc, zero, Bool, true, false, cond, not, List, [], ◌∷◌, ◌++◌, length, refl, sym, ap, ◌∙◌, arith, Option, Some, None, option_map, option_and_then, slice_get}
-use Rattle.std.specs.Prelude.{is_some, sum_by, count_by, slice_index_or, drop}
-use Rattle.std.specs.Option.{option_or}
+use Rattle.std.proofs.Common.{◌≡◌, ◌+◌, ℕ, suc, zero, Bool, true, false, cond, List, [], ◌∷◌, ◌++◌, length, refl, sym, ap, ◌∙◌, arith, Option, None, option_and_then, slice_get, is_some, sum_by, count_by, length-append}
 use Rattle.std.specs.List.{cons_option, range_with_len}
-use Rattle.std.proofs.lemmas.List.{length-append}
 use Rattle.std.proofs.lemmas.List.Sums.{sum_by-cons, sum_by-append}
-use Rattle.std.proofs.lemmas.Bool.{false≢true}
-use Rattle.n2k_wire.specs.declared.entry.BadCause.TheVariants as causes
 use Rattle.n2k_wire.specs.declared.entry.Entry.{Entry}
 use Rattle.n2k_wire.specs.declared.entry.Entry.TheVariants as entries
 use Rattle.n2k_table.specs.declared.definition.Kind.{Kind}
-use Rattle.n2k_table.specs.declared.definition.Kind.TheVariants.{Single, Fast}
-use Rattle.n2k_join.specs.Frames.{is_fast_payload, fast_frame, frame_with, frame_by, frame_in, frames_from, frames}
-use Rattle.n2k_join.specs.Groups.{within}
-use Rattle.n2k_join.specs.Messages.{Keyed, alone, single_by, cause_in, fast_cause, is_unknown, gathered, message, broken_with, broken, entry_at, counts}
+use Rattle.n2k_join.specs.Frames.{fast_frame, frame_in, frames_from, frames}
+use Rattle.n2k_join.specs.Messages.{alone, cause_in, is_unknown, message, broken_with, broken, counts}
 use Rattle.n2k_join.specs.Open.{open_within}
 use Rattle.n2k_join.specs.Laws.{BadAlone}
 use Rattle.n2k_join.specs.Window.{Window}
@@ -26,23 +19,7 @@ record IsNothing (kind : ℕ → Option Kind) (e : Entry) : Type 0 where
 
 bad-nothing : (kind : ℕ → Option Kind) (e : Entry) → is_some (cause_in kind e) ≡ true → IsNothing kind e
 unfolding fast_frame
-bad-nothing kind entries.Skip bad = absurd (false≢true bad)
-bad-nothing kind (entries.Bad cause) bad = record { no_frame = λ line. refl; no_message = refl; known = refl }
-bad-nothing kind (entries.Whole packet) bad = absurd (false≢true bad)
-bad-nothing kind (entries.Frame packet) bad = by_kind (kind packet.id.pgn) refl bad
-  where
-    by_test : (b : Bool) → is_fast_payload packet.payload ≡ b → kind packet.id.pgn ≡ Some Fast → is_some (cond b None (Some causes.Fast)) ≡ true → IsNothing kind (entries.Frame packet)
-    by_test true t k bad = absurd (false≢true bad)
-    by_test false t k bad = record {
-      no_frame = λ line. ap (λ k. frame_by k line packet) k ∙ ap (λ b. cond b (Some (frame_with line packet (slice_index_or packet.payload 0 0) (drop 1 packet.payload))) None) t;
-      no_message = ap (λ k. single_by k packet) k;
-      known = ap (λ k. not (is_some k)) k;
-    }
-
-    by_kind : (k : Option Kind) → kind packet.id.pgn ≡ k → is_some (fast_cause k packet) ≡ true → IsNothing kind (entries.Frame packet)
-    by_kind None k bad = absurd (false≢true bad)
-    by_kind (Some Single) k bad = absurd (false≢true bad)
-    by_kind (Some Fast) k bad = by_test (is_fast_payload packet.payload) refl k bad
+bad-nothing kind e bad = grind arith
 
 module _ (w : Window) (kind : ℕ → Option Kind) (e : Entry) (nothing : IsNothing kind e) where
   frames_from-same : (n : ℕ) (front back : List Entry) → frames_from kind n (front ++ e ∷ back) ≡ frames_from kind n (front ++ entries.Skip ∷ back)
@@ -69,14 +46,10 @@ module _ (w : Window) (kind : ℕ → Option Kind) (e : Entry) (nothing : IsNoth
   count-with p x front back = sum_by-append (λ x. cond (p x) 1 0) front (x ∷ back) ∙ ap (λ n. count_by p front + n) (sum_by-cons (λ x. cond (p x) 1 0) x back)
 
   count-same : (p : Entry → Bool) (front back : List Entry) → p e ≡ p entries.Skip → count_by p (front ++ e ∷ back) ≡ count_by p (front ++ entries.Skip ∷ back)
-  count-same p front back same =
-      count-with p e front back ∙ ap (λ b. count_by p front + (cond b 1 0 + count_by p back)) same ∙ sym (count-with p entries.Skip front back)
+  count-same p front back same = grind (arith, count-with)
 
   count-one : (p : Entry → Bool) (front back : List Entry) → p e ≡ true → p entries.Skip ≡ false → count_by p (front ++ e ∷ back) ≡ count_by p (front ++ entries.Skip ∷ back) + 1
-  count-one p front back counts_it not_skip =
-      let more = count-with p e front back ∙ ap (λ b. count_by p front + (cond b 1 0 + count_by p back)) counts_it in
-      let less = count-with p entries.Skip front back ∙ ap (λ b. count_by p front + (cond b 1 0 + count_by p back)) not_skip in
-      omega (arith, more, less)
+  count-one p front back counts_it not_skip = grind (arith, count-with)
 
   open-same : (front back : List Entry) → open_within w (length (front ++ e ∷ back)) (frames kind (front ++ e ∷ back)) ≡ open_within w (length (front ++ entries.Skip ∷ back)) (frames kind (front ++ entries.Skip ∷ back))
   open-same front back = λ i. open_within w (length-same front back i) (frames_from-same 1 front back i)
@@ -92,11 +65,4 @@ module _ (w : Window) (kind : ℕ → Option Kind) (e : Entry) (nothing : IsNoth
   }
 
 pub bad_alone : (w : Window) (kind : ℕ → Option Kind) (front : List Entry) (e : Entry) (back : List Entry) → is_some (cause_in kind e) ≡ true → BadAlone w kind front e back
-bad_alone w kind front e back bad =
-    let nothing = bad-nothing kind e bad in
-    record {
-      messages = message-same w kind e nothing front back;
-      broken_groups = broken-same w kind e nothing front back;
-      open_still = open-same w kind e nothing front back;
-      counted = counts-same w kind e nothing front back bad;
-    }
+bad_alone w kind front e back bad = grind (arith, bad-nothing, message-same, broken-same, open-same, counts-same)

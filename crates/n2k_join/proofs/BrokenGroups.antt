@@ -1,21 +1,18 @@
 -- Which groups are broken at a line: those of the last line of a log, and that earlier lines keep theirs.
-use Rattle.std.proofs.Common.{◌≡◌, ◌==◌, ◌<◌, ◌+◌, ℕ, Bool, true, false, cond, not, ◌||◌, ◌&&◌, nat_le, min, List, [], ◌∷◌, ◌++◌, length, refl, sym, ap, ◌∙◌, subst, arith, Option, Some, None, option_map, option_and_then, option_to_list, filter_map}
-use Rattle.std.specs.Prelude.{IfSome}
+use Rattle.std.proofs.Common.{◌≡◌, ◌==◌, ◌<◌, ◌+◌, ℕ, Bool, true, false, cond, not, ◌&&◌, nat_le, List, [], ◌∷◌, ◌++◌, length, refl, sym, ap, ◌∙◌, subst, arith, Option, Some, None, option_map, option_and_then, option_to_list, filter_map, IfSome, append-nil}
 use Rattle.std.specs.List.{range_with_len, last_or, AllByRecursion}
-use Rattle.std.proofs.lemmas.List.{append-nil}
-use Rattle.std.proofs.lemmas.Bool.{eqb-true, eq-eqb, ne_eqb, or_parts, leb-true, leb-false, and_right, and_left}
+use Rattle.std.proofs.lemmas.Bool.{eqb-true, eq-eqb, ne_eqb, or_parts, leb-true, leb-false, and_right}
 use Rattle.n2k_join.specs.declared.step.Broken.{Broken}
 use Rattle.n2k_join.specs.Frames.{Key, same_key, Frame, of_key, frame_at}
-use Rattle.n2k_join.specs.Groups.{closes, misfits, is_late, within, complete, incomplete, cut, first}
+use Rattle.n2k_join.specs.Groups.{closes, within, complete, incomplete, cut, first}
 use Rattle.n2k_join.specs.Open.{Group, group_of, where_begun, begun_at, open_groups}
 use Rattle.n2k_join.specs.Messages.{broken_of, as_broken, broken_among, broken_by, broken_begun, broken_with}
 use Rattle.n2k_join.specs.State.{held_of}
-use Rattle.n2k_join.proofs.Carried.{same_bool}
 use Rattle.n2k_join.proofs.Cuts.{grown, last-cut, within-ends}
 use Rattle.n2k_join.proofs.Given.{IsUpTo, first-le, up_to, cut_of_same, cut_of_other}
 use Rattle.n2k_join.proofs.Keys.{same_key-refl, same_key-sym}
 use Rattle.n2k_join.proofs.Opened.{IsLog, IsFine, none_at, at_last, at_line, open_at, begun_at-key, so_far-fine, numbers_of_key, ends-kept, first-push}
-use Rattle.n2k_join.proofs.Rising.{find-passes, filter_map-range, filter_map-push, filter_map-fused, range-push, last-all, of_cond}
+use Rattle.n2k_join.proofs.Rising.{find-passes, filter_map-range, filter_map-push, filter_map-fused, range-push, last-all}
 use Rattle.n2k_join.specs.Window.{Window}
 
 -- ---- the groups of a key
@@ -33,22 +30,14 @@ abbrev last_if : (List Frame → Bool) → Option (List Frame) → Option (List 
 last_if t None = None
 last_if t (Some g) = cond (t g) (Some g) None
 
-no_and : (a b c : Bool) → c ≡ false → (not a && (b && c)) ≡ false
-no_and a b c e = and_right (not a) (b && c) (and_right b c e)
-
 -- a group that another follows is broken at that one's line or before
 passed : (w : Window) (j line : ℕ) (g h : List Frame) (gs : List (List Frame)) → first h < line
     → broken_among w j line (g ∷ h ∷ gs) ≡ broken_among w j line (h ∷ gs)
-passed w j line g h gs l =
-    let other = ne_eqb (min (first g + w.lines) (first h)) line (λ e. omega (arith, l, e)) in
-    ap (λ b. cond b (Some g) (broken_among w j line (h ∷ gs)))
-    (no_and (complete g) (first g == j) (min (first g + w.lines) (first h) == line) other)
+passed w j line g h gs l = grind (arith, ne_eqb)
 
 -- the last group is not broken before its window ends
 among-open : (w : Window) (j i : ℕ) (g : List Frame) → i < first g + w.lines → broken_among w j i (g ∷ []) ≡ None
-among-open w j i g l =
-    ap (λ b. cond b (Some g) None)
-    (no_and (complete g) (first g == j) (first g + w.lines == i) (ne_eqb (first g + w.lines) i (λ e. omega (arith, e, l))))
+among-open w j i g l = grind arith
 
 -- with no frame of the key at the line
 among-last : (w : Window) (n j line : ℕ) (gs : List (List Frame)) → AllByRecursion (IsUpTo n) gs → n < line → broken_among w j line gs ≡ last_if (ends_at w j line) (last_or None gs)
@@ -66,20 +55,12 @@ among-grown w n j (g ∷ []) x some up l = among-one w j g x some up.0.nonempty
 among-grown w n j (g ∷ h ∷ []) x some up l = by (closes (within w) h x) ∙ among-one w j h x some up.1.0.nonempty
   where
     by : (b : Bool) → broken_among w j x.line (g ∷ cond b (h ∷ (x ∷ []) ∷ []) ((h ++ x ∷ []) ∷ [])) ≡ broken_among w j x.line (cond b (h ∷ (x ∷ []) ∷ []) ((h ++ x ∷ []) ∷ []))
-    by true = passed w j x.line g h ((x ∷ []) ∷ []) (omega (arith, first-le n h up.1.0, l))
-    by false = passed w j x.line g (h ++ x ∷ []) [] (omega (arith, first-le n h up.1.0, l, first-push h x up.1.0.nonempty))
+    by b = grind (arith, passed, first-le)
 among-grown w n j (g ∷ h ∷ k ∷ gs) x some up l = passed w j x.line g h (grown (within w) (k ∷ gs) x) (omega (arith, first-le n h up.1.0, l)) ∙ among-grown w n j (h ∷ k ∷ gs) x some up.1 l
 
 -- the group that a frame begins isn't broken at its line
 among-own : (w : Window) (n : ℕ) (gs : List (List Frame)) (x : Frame) → 0 < w.lines → AllByRecursion (IsUpTo n) gs → n < x.line → broken_among w x.line x.line (grown (within w) gs x) ≡ None
-among-own w n gs x some up l = among-grown w n x.line gs x some up l ∙ by (last_or None gs) (last-all (IsUpTo n) None gs tt up)
-  where
-    by : (o : Option (List Frame)) → IfSome o (IsUpTo n) → last_if (ends_by w x.line x) o ≡ None
-    by None h = refl
-    by (Some g) h =
-        let other = ne_eqb (first g) x.line (λ e. omega (arith, first-le n g h, l, e)) in
-        let in_time = within w g x && nat_le x.line (first g + w.lines) in
-        ap (λ b. cond b (Some g) None) (and_right (not (complete g)) _ (and_left (first g == x.line) in_time other))
+among-own w n gs x some up l = grind (arith, among-grown w n x.line gs x some up l, last-all (IsUpTo n) None gs tt up)
 
 -- Earlier lines keep what is broken at them.
 among-stays_one : (w : Window) (j i : ℕ) (g : List Frame) (x : Frame) → 0 < w.lines → 0 < length g → i < x.line → broken_among w j i (grown (within w) (g ∷ []) x) ≡ broken_among w j i (g ∷ [])
@@ -89,8 +70,7 @@ among-stays : (w : Window) (n j i : ℕ) (gs : List (List Frame)) (x : Frame) �
 among-stays w n j i [] x some up l = among-open w j i (x ∷ []) (omega (arith, l))
 among-stays w n j i (g ∷ []) x some up l = among-stays_one w j i g x some up.0.nonempty l
 among-stays w n j i (g ∷ h ∷ []) x some up l = grind (arith, among-stays_one, first-push)
-among-stays w n j i (g ∷ h ∷ k ∷ gs) x some up l =
-    ap (λ o. cond (not (complete g) && ((first g == j) && (min (first g + w.lines) (first h) == i))) (Some g) o) (among-stays w n j i (h ∷ k ∷ gs) x some up.1 l)
+among-stays w n j i (g ∷ h ∷ k ∷ gs) x some up l = grind (arith, among-stays w n j i (h ∷ k ∷ gs) x some up.1 l)
 
 -- ---- the groups of a log
 
@@ -118,19 +98,10 @@ module _ (w : Window) (some : 0 < w.lines) where
   -- the group of a key that is last and begins at a line, where it passes
   told_at : (t : List Frame → Bool) (u : Group → Bool) (k : Key) (j : ℕ) → (o : Option (List Frame)) → ((g : List Frame) → o ≡ Some g → complete g ≡ false → first g ≡ j → t g ≡ u (group_of k g))
       → option_map (broken_of k) (last_if (λ g. not (complete g) && ((first g == j) && t g)) o) ≡ option_and_then (told_if u) (option_and_then (where_begun j k) (option_and_then incomplete o))
-  told_at t u k j None same = refl
-  told_at t u k j (Some g) same = grind (arith, eqb-true)
+  told_at t u k j o same = grind arith
 
   begun-none : (n line : ℕ) (fs : List Frame) (j : ℕ) → IsLog n fs → n < line → broken_begun w fs line j ≡ option_and_then (told_if (runs_out line)) (begun_at (within w) fs j)
-  begun-none n line fs j log l = by (frame_at j fs) refl ∙ sym (ap (option_and_then (told_if (runs_out line))) (begun_at-key (within w) (within-ends w some) fs j))
-    where
-      by : (o : Option Frame) → frame_at j fs ≡ o → option_and_then (broken_by w fs line) o ≡ option_and_then (told_if (runs_out line)) (option_and_then (λ (k : Key). open_at (within w) (within-ends w some) k fs j) (option_map (λ (f : Frame). f.key) o))
-      by None e = refl
-      by (Some f) e =
-          let at : f.line ≡ j = eqb-true f.line j (find-passes (λ (f : Frame). f.line == j) fs f e) in
-          ap (option_map (broken_of f.key)) (among-last w n f.line line (cut (within w) (of_key f.key fs)) (up_to (within w) n f.key fs log) l)
-          ∙ told_at (λ g. first g + w.lines == line) (runs_out line) f.key f.line (last_or None (cut (within w) (of_key f.key fs))) (λ g is c b. refl)
-          ∙ ap (λ i. option_and_then (told_if (runs_out line)) (option_and_then (where_begun i f.key) (option_and_then incomplete (last_or None (cut (within w) (of_key f.key fs)))))) at
+  begun-none n line fs j log l = grind (arith, begun_at-key, within-ends, find-passes, among-last, up_to)
 
   begun-frame : (n : ℕ) (fs : List Frame) (x : Frame) (j : ℕ) → IsLog n fs → n < x.line → (x.line ≡ j → ⊥) → broken_begun w (fs ++ x ∷ []) x.line j ≡ option_and_then (told_if (breaks x)) (begun_at (within w) fs j)
   begun-frame n fs x j log l other =
@@ -149,24 +120,13 @@ module _ (w : Window) (some : 0 < w.lines) where
           ∙ told_at (λ g. within w g x && nat_le x.line (first g + w.lines)) (breaks x) f.key f.line (last_or None (cut (within w) (of_key f.key fs)))
           (λ g is c b. ap (λ t. t && nat_le x.line (first g + w.lines)) (sym (ends-kept (within w) (within-ends w some) f.key g x (fine f.key g is)))
           ∙ sym (ap (λ t. cond t (within w (held_of (group_of f.key g)) x && nat_le x.line (first g + w.lines)) (first g + w.lines == x.line)) (same_key-sym x.key f.key ∙ e)))
-      keyed f false e =
-          ap (λ gs. option_map (broken_of f.key) (broken_among w f.line x.line gs)) (cut_of_other (within w) f.key fs x e)
-          ∙ ap (option_map (broken_of f.key)) (among-last w n f.line x.line (cut (within w) (of_key f.key fs)) (up_to (within w) n f.key fs log) l)
-          ∙ told_at (λ g. first g + w.lines == x.line) (breaks x) f.key f.line (last_or None (cut (within w) (of_key f.key fs)))
-          (λ g is c b. sym (ap (λ t. cond t (within w (held_of (group_of f.key g)) x && nat_le x.line (first g + w.lines)) (first g + w.lines == x.line)) (same_key-sym x.key f.key ∙ e)))
+      keyed f false e = grind (arith, cut_of_other, among-last, up_to, same_key-sym)
 
       by : (o : Option Frame) → frame_at j fs ≡ o → option_and_then (broken_by w (fs ++ x ∷ []) x.line) o ≡ option_and_then (told_if (breaks x)) (option_and_then (λ (k : Key). open_at (within w) (within-ends w some) k fs j) (option_map (λ (f : Frame). f.key) o))
-      by None e = refl
-      by (Some f) e =
-          let at : f.line ≡ j = eqb-true f.line j (find-passes (λ (f : Frame). f.line == j) fs f e) in
-          keyed f (same_key f.key x.key) refl
-          ∙ ap (λ i. option_and_then (told_if (breaks x)) (option_and_then (where_begun i f.key) (option_and_then incomplete (last_or None (cut (within w) (of_key f.key fs)))))) at
+      by o e = grind (arith, find-passes, keyed)
 
   begun-own : (n : ℕ) (fs : List Frame) (x : Frame) → IsLog n fs → n < x.line → broken_begun w (fs ++ x ∷ []) x.line x.line ≡ None
-  begun-own n fs x log l =
-      ap (option_and_then (broken_by w (fs ++ x ∷ []) x.line)) (at_last n fs x log l)
-      ∙ ap (λ gs. option_map (broken_of x.key) (broken_among w x.line x.line gs)) (cut_of_same (within w) x.key fs x (same_key-refl x.key))
-      ∙ ap (option_map (broken_of x.key)) (among-own w n (cut (within w) (of_key x.key fs)) x some (up_to (within w) n x.key fs log) l)
+  begun-own n fs x log l = grind (arith, at_last, cut_of_same, same_key-refl, among-own, up_to)
 
   -- at a line without a frame: those whose window ends there
   pub broken-none : (n : ℕ) (fs : List Frame) → IsLog n fs → broken_with w fs (n + 1) ≡ filter_map (told_if (runs_out (n + 1))) (open_groups (within w) n fs)

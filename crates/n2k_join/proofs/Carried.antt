@@ -1,7 +1,6 @@
 -- The order of a group's frames does not matter: what they carry decides whether it is complete, its data and its pieces.
-use Rattle.std.proofs.Common.{◌≡◌, ◌==◌, ◌+◌, ℕ, Bool, true, false, cond, not, ◌||◌, ◌&&◌, nat_le, List, [], ◌∷◌, ◌++◌, refl, sym, ap, ◌∙◌, subst, Option, Some, None, unwrap_or, take, drop, flat_map, filter_map}
+use Rattle.std.proofs.Common.{arith, ◌≡◌, ◌==◌, ◌+◌, ℕ, Bool, true, false, cond, not, ◌||◌, ◌&&◌, nat_le, List, [], ◌∷◌, ◌++◌, refl, sym, ap, ◌∙◌, Option, Some, None, unwrap_or, take, drop, flat_map, filter_map, is_some}
 use mathlib.Core.Path.{fun_ext}
-use Rattle.std.specs.Prelude.{is_some}
 use Rattle.std.specs.Option.{option_or}
 use Rattle.std.specs.List.{range_with_len, list_all}
 use Rattle.std.proofs.lemmas.Bool.{or_parts, and_parts, and_from, false≢true, eqb-true, eq-eqb, or_left, or_right}
@@ -11,26 +10,21 @@ use Rattle.n2k_join.specs.Open.{piece_at, pieces_of}
 
 -- two tests that say the same are one
 pub same_bool : (a b : Bool) → (a ≡ true → b ≡ true) → (b ≡ true → a ≡ true) → a ≡ b
-same_bool true b there back = sym (there refl)
-same_bool false true there back = back refl
-same_bool false false there back = refl
+same_bool a b there back = grind arith
 
 pub option_or_none : {A : Type 0} (o : Option A) → option_or o None ≡ o
-option_or_none None = refl
-option_or_none (Some x) = refl
+option_or_none o = grind arith
 
 pub carried-append : (g h : List Frame) (n : ℕ) → carried (g ++ h) n ≡ option_or (carried g n) (carried h n)
 carried-append [] h n = refl
-carried-append (f ∷ g) h n =
-    elim (f.number == n) as (λ b. cond b (Some f.bytes) (carried (g ++ h) n) ≡ option_or (cond b (Some f.bytes) (carried g n)) (carried h n)) [ true ↦ refl | false ↦ carried-append g h n ]
+carried-append (f ∷ g) h n = grind (arith, carried-append g h n)
 
 -- the same frames with one more carry the same
 pub carried-push : (g h : List Frame) (x : Frame) → carried g ≡ carried h → carried (g ++ x ∷ []) ≡ carried (h ++ x ∷ [])
 carried-push g h x e = fun_ext (λ n. carried-append g (x ∷ []) n ∙ ap (λ (c : ℕ → Option (List ℕ)). option_or (c n) (carried (x ∷ []) n)) e ∙ sym (carried-append h (x ∷ []) n))
 
 is_some-or : {A : Type 0} (o p : Option A) → is_some (option_or o p) ≡ (is_some o || is_some p)
-is_some-or None p = refl
-is_some-or (Some x) p = refl
+is_some-or o p = grind arith
 
 pub has_number-append : (g h : List Frame) (n : ℕ) → has_number n (g ++ h) ≡ (has_number n g || has_number n h)
 has_number-append g h n = ap is_some (carried-append g h n) ∙ is_some-or (carried g n) (carried h n)
@@ -41,14 +35,10 @@ eqb-sym a b = same_bool _ _ (λ e. eq-eqb b a (sym (eqb-true a b e))) (λ e. eq-
 
 -- a frame more has its own number, and those of the others
 pub has_number-cons : (f : Frame) (fs : List Frame) (n : ℕ) → has_number n (f ∷ fs) ≡ ((f.number == n) || has_number n fs)
-has_number-cons f fs n =
-    elim (f.number == n) as (λ b. is_some (cond b (Some f.bytes) (carried fs n)) ≡ (b || has_number n fs))
-    [ true ↦ refl | false ↦ refl ]
+has_number-cons f fs n = grind arith
 
 has_one : (f x : Frame) → has_number f.number (x ∷ []) ≡ (f.number == x.number)
-has_one f x =
-    elim (x.number == f.number) as (λ b. is_some (cond b (Some x.bytes) None) ≡ b) [ true ↦ refl | false ↦ refl ]
-    ∙ eqb-sym x.number f.number
+has_one f x = grind arith
 
 -- where no number stands twice, one does with a frame more exactly where that frame's does
 pub has_twice-push : (g : List Frame) (x : Frame) → has_twice g ≡ false → has_twice (g ++ x ∷ []) ≡ has_number x.number g
@@ -63,8 +53,7 @@ within_there last [] n w h = absurd (false≢true h)
 within_there last (f ∷ g) n w h = by (f.number == n) refl h (within_there last g n (and_parts _ _ w).1)
   where
     by : (b : Bool) → (f.number == n) ≡ b → is_some (cond b (Some f.bytes) (carried g n)) ≡ true → (has_number n g ≡ true → nat_le n last ≡ true) → nat_le n last ≡ true
-    by true e h rest = subst (λ k. nat_le k last ≡ true) (eqb-true f.number n e) (and_parts _ _ w).0
-    by false e h rest = rest h
+    by b e h rest = grind arith
 
 pub within_back : (last : ℕ) (g : List Frame) → ((n : ℕ) → has_number n g ≡ true → nat_le n last ≡ true) → is_within last g ≡ true
 within_back last [] all = refl
@@ -73,10 +62,7 @@ within_back last (f ∷ g) all =
     (within_back last g (λ n h. all n (has_number-cons f g n ∙ or_right _ _ h)))
 
 within-same : (last : ℕ) (g h : List Frame) → carried g ≡ carried h → is_within last g ≡ is_within last h
-within-same last g h e =
-    same_bool (is_within last g) (is_within last h)
-    (λ w. within_back last h (λ n k. within_there last g n w (ap (λ (c : ℕ → Option (List ℕ)). is_some (c n)) e ∙ k)))
-    (λ w. within_back last g (λ n k. within_there last h n w (ap (λ (c : ℕ → Option (List ℕ)). is_some (c n)) (sym e) ∙ k)))
+within-same last g h e = grind (arith, same_bool (is_within last g) (is_within last h) (λ w. within_back last h (λ n k. within_there last g n w (ap (λ (c : ℕ → Option (List ℕ)). is_some (c n)) e ∙ k))) (λ w. within_back last g (λ n k. within_there last h n w (ap (λ (c : ℕ → Option (List ℕ)). is_some (c n)) (sym e) ∙ k))))
 
 -- what completeness is of: whether a number stands twice, what is carried, and whether all is within the last
 complete_by : Bool → (ℕ → Option (List ℕ)) → Bool → Bool
@@ -87,12 +73,7 @@ unfolding complete complete_by
 complete_is g = refl
 
 pub complete-same : (g h : List Frame) → carried g ≡ carried h → has_twice g ≡ has_twice h → complete g ≡ complete h
-complete-same g h e t =
-    complete_is g
-    ∙ ap (λ b. complete_by b (carried g) (is_within (last_number (total g)) g)) t
-    ∙ ap (λ (c : ℕ → Option (List ℕ)). complete_by (has_twice h) c (is_within (last_number (total_by (c 0))) g)) e
-    ∙ ap (λ b. complete_by (has_twice h) (carried h) b) (within-same (last_number (total h)) g h e)
-    ∙ sym (complete_is h)
+complete-same g h e t = grind (arith, complete_is g, complete_is h, within-same (last_number (total h)) g h e)
 
 data_by : (ℕ → Option (List ℕ)) → List ℕ
 data_by c = take (total_by (c 0)) (drop 1 (flat_map (λ n. unwrap_or (c n) []) (range_with_len 0 (last_number (total_by (c 0)) + 1))))

@@ -1,8 +1,7 @@
 -- How many of the numbers below a limit a group has: as many as it has frames, where none comes twice.
-use Rattle.std.proofs.Common.{◌≡◌, ℕ, zero, suc, ◌+◌, ◌<◌, ◌≤◌, Bool, true, false, cond, ◌&&◌, ◌||◌, List, [], ◌∷◌, length, refl, ap, ◌∙◌, sym, arith, inl, inr}
-use Rattle.std.specs.Prelude.{◌==◌, count_by}
+use Rattle.std.proofs.Common.{◌≡◌, ℕ, zero, suc, ◌+◌, ◌<◌, ◌≤◌, Bool, true, false, cond, ◌||◌, List, [], ◌∷◌, length, refl, ap, ◌∙◌, sym, arith, inl, inr, ◌==◌, count_by}
 use Rattle.std.specs.List.{range_with_len, list_all, AllByRecursion}
-use Rattle.std.proofs.lemmas.Bool.{false≢true, eqb-true, eq-eqb, ne_eqb, or_parts, cases_eq}
+use Rattle.std.proofs.lemmas.Bool.{eqb-true, eq-eqb, ne_eqb, or_parts, cases_eq}
 use Rattle.std.proofs.lemmas.List.Sums.{sum_by-cons, count_by-le-length}
 use Rattle.std.proofs.lemmas.List.FromFn.{length-range_with_len}
 use Rattle.n2k_join.specs.Frames.{Frame}
@@ -15,13 +14,7 @@ count_cons p x xs = sum_by-cons (λ y. cond (p y) 1 0) x xs
 -- two tests that never hold together
 count_or : (p q : ℕ → Bool) (ns : List ℕ) → ((n : ℕ) → p n ≡ true → q n ≡ false) → count_by (λ n. p n || q n) ns ≡ count_by p ns + count_by q ns
 count_or p q [] apart = refl
-count_or p q (n ∷ ns) apart = rw (count_cons (λ k. p k || q k) n ns, count_cons p n ns, count_cons q n ns, count_or p q ns apart) (one (p n) (q n) (apart n))
-  where
-    one : (a b : Bool) → (a ≡ true → b ≡ false) → cond (a || b) 1 0 + (count_by p ns + count_by q ns) ≡ (cond a 1 0 + count_by p ns) + (cond b 1 0 + count_by q ns)
-    one true true e = absurd (false≢true (sym (e refl)))
-    one true false e = omega arith
-    one false true e = omega arith
-    one false false e = omega arith
+count_or p q (n ∷ ns) apart = grind (arith, count_or p q ns apart, count_cons (λ k. p k || q k) n ns, count_cons p n ns, count_cons q n ns)
 
 -- a number counts once in a range that it lies in, and not at all in one above it
 count_above : (x a m : ℕ) → x < a → count_by (λ n. x == n) (range_with_len a m) ≡ 0
@@ -60,11 +53,7 @@ count_numbers m (f ∷ fs) below apart =
     ∙ rw (count_within f.number 0 m (omega arith) (omega (arith, below.0)), count_numbers m fs below.1 parts.1) (omega arith))
 
 eqb_suc : (c l : ℕ) → (c == l) ≡ ((1 + c) == suc l)
-eqb_suc c l =
-    elim (cases_eq c l) [
-      | inl same ↦ eq-eqb c l same ∙ sym (eq-eqb (1 + c) (suc l) (omega arith))
-      | inr other ↦ ne_eqb c l other ∙ sym (ne_eqb (1 + c) (suc l) (λ e. other (omega arith)))
-    ]
+eqb_suc c l = grind arith
 
 -- a test holds of each where it holds of as many as there are
 all_by_count : (p : ℕ → Bool) (ns : List ℕ) → list_all p ns ≡ (count_by p ns == length ns)

@@ -1,12 +1,10 @@
 -- The laws of what frames are cut into.
-use Rattle.std.proofs.Common.{◌≡◌, ◌≤◌, ◌<◌, ◌+◌, ◌&&◌, ℕ, suc, zero, Bool, true, false, cond, List, [], ◌∷◌, ◌++◌, length, refl, sym, ap, ◌∙◌, subst, arith, append_assoc, Option, Some, None, slice_get}
-use Rattle.std.specs.Prelude.{option_map}
+use Rattle.std.proofs.Common.{◌≡◌, ◌≤◌, ◌<◌, ◌+◌, ◌&&◌, ℕ, suc, zero, Bool, true, false, cond, List, [], ◌∷◌, ◌++◌, length, refl, sym, ap, ◌∙◌, subst, arith, append_assoc, Option, Some, slice_get, option_map, ◌⊎◌, inl, inr}
 use Rattle.std.specs.List.{AllByRecursion}
-use mathlib.Core.Logic.{◌⊎◌, inl, inr}
 use Rattle.std.proofs.lemmas.List.{append-nil, length-append, same_from_push}
 use Rattle.std.proofs.lemmas.List.Elements.{All-from_recursion}
-use Rattle.std.proofs.lemmas.Bool.{or_parts, or_left, false≢true}
-use Rattle.std.proofs.lemmas.Option.{none-some, same_Some}
+use Rattle.std.proofs.lemmas.Bool.{or_left}
+use Rattle.std.proofs.lemmas.Option.{none-some}
 use Rattle.n2k_wire.specs.declared.entry.Entry.{Entry}
 use Rattle.n2k_table.specs.declared.definition.Kind.{Kind}
 use Rattle.n2k_join.specs.Frames.{Frame}
@@ -15,7 +13,6 @@ use Rattle.n2k_join.specs.Laws.{CutJoins, HasFirstGroup, CutFirst, IsSettled, Cu
 use Rattle.n2k_join.proofs.Carried.{has_twice-push}
 use Rattle.n2k_join.proofs.Cuts.{grown, cut-push, cut-joined, cut-keeps, cut-nonempty}
 use Rattle.n2k_join.proofs.Logs.{message-before, broken-before}
-use Rattle.n2k_join.specs.Messages.{message, broken}
 use Rattle.n2k_join.specs.Window.{Window}
 
 -- no group is empty
@@ -30,8 +27,7 @@ cut_joins ends fs is = record {
 }
   where
     unrepeated : (g : List Frame) (x : Frame) (b : Bool) → closes ends g x ≡ false → repeats g x ≡ b → repeats g x ≡ false
-    unrepeated g x false c e = e
-    unrepeated g x true c e = absurd (false≢true (sym (or_parts (complete g) (ends g x) c).1 ∙ is.repeated g x e))
+    unrepeated g x b c e = grind arith
 
     more : (g : List Frame) (x : Frame) → closes ends g x ≡ false → has_twice g ≡ false → has_twice (g ++ x ∷ []) ≡ false
     more g x c h = has_twice-push g x h ∙ unrepeated g x (repeats g x) c refl
@@ -51,12 +47,8 @@ abbrev NoneEnds : EndTest → List Frame → Type 0
 NoneEnds ends group = (f g : Frame) (front back : List Frame) → group ≡ (f ∷ front) ++ (g ∷ back) → closes ends (f ∷ front) g ≡ false
 
 goes_on : (ends : EndTest) (f : Frame) (front more rest group : List Frame) → group ≡ (f ∷ front) ++ more → NoneEnds ends group → HasEnded ends group rest → cut_from ends (f ∷ front) (more ++ rest) ≡ group ∷ cut ends rest
-goes_on ends f front [] rest group e none ended =
-    let is : group ≡ f ∷ front = e ∙ append-nil (f ∷ front) in
-    is_last ends f front rest (subst (λ g. HasEnded ends g rest) is ended) ∙ ap (λ g. g ∷ cut ends rest) (sym is)
-goes_on ends f front (x ∷ more) rest group e none ended =
-    ap (λ b. cond b ((f ∷ front) ∷ cut_from ends (x ∷ []) (more ++ rest)) (cut_from ends ((f ∷ front) ++ x ∷ []) (more ++ rest))) (none f x front more e)
-    ∙ goes_on ends f (front ++ x ∷ []) more rest group (e ∙ sym (append_assoc (f ∷ front) (x ∷ []) more)) none ended
+goes_on ends f front [] rest group e none ended = grind (arith, append-nil, is_last)
+goes_on ends f front (x ∷ more) rest group e none ended = grind (arith, goes_on ends f (front ++ x ∷ []) more rest group (e ∙ sym (append_assoc (f ∷ front) (x ∷ []) more)) none ended)
 
 pub first_follows : (ends : EndTest) (fs group rest : List Frame) → IsFirstGroup ends fs group rest → cut ends fs ≡ group ∷ cut ends rest
 unfolding cut
@@ -84,12 +76,8 @@ none_more : (ends : EndTest) (f : Frame) (front : List Frame) (x : Frame) → No
 none_more ends f front x none open_still h g before back e = by (last_or_none back)
   where
     by : (back ≡ []) ⊎ HasLast back → closes ends (h ∷ before) g ≡ false
-    by (inl is) =
-        let same = same_from_push (f ∷ front) (h ∷ before) x g (e ∙ ap (λ t. (h ∷ before) ++ (g ∷ t)) is) in
-        ap (λ xs. closes ends xs g) (sym same.0) ∙ ap (closes ends (f ∷ front)) (sym same.1) ∙ open_still
-    by (inr l) =
-        let same = same_from_push (f ∷ front) ((h ∷ before) ++ (g ∷ l.before)) x l.last (e ∙ ap (λ t. (h ∷ before) ++ (g ∷ t)) l.is ∙ sym (append_assoc (h ∷ before) (g ∷ l.before) (l.last ∷ []))) in
-        none h g before l.before same.0
+    by (inl is) = grind (arith, same_from_push)
+    by (inr l) = grind (arith, same_from_push (f ∷ front) ((h ∷ before) ++ (g ∷ l.before)) x l.last (e ∙ ap (λ t. (h ∷ before) ++ (g ∷ t)) l.is ∙ sym (append_assoc (h ∷ before) (g ∷ l.before) (l.last ∷ []))))
 
 none_alone : (ends : EndTest) (f : Frame) → NoneEnds ends (f ∷ [])
 none_alone ends f h g before back e = absurd (omega (arith, ap length e, length-append (h ∷ before) (g ∷ back)))
@@ -120,8 +108,7 @@ grown-stays ends (h ∷ k ∷ gs) x zero g e settled = e
 grown-stays ends (h ∷ k ∷ gs) x (suc i) g e settled = grown-stays ends (k ∷ gs) x i g e (by settled)
   where
     by : (complete g ≡ true) ⊎ (suc i + 1 < length (h ∷ k ∷ gs)) → (complete g ≡ true) ⊎ (i + 1 < length (k ∷ gs))
-    by (inl done) = inl done
-    by (inr l) = inr (omega (arith, l))
+    by h = grind arith
 
 grown-length : (ends : EndTest) (gs : List (List Frame)) (x : Frame) → length gs ≤ length (grown ends gs x)
 grown-length ends [] x = omega arith
@@ -144,13 +131,7 @@ grows-push ends fs x = record {
 }
 
 pub cut_grows : (ends : EndTest) (fs back : List Frame) → CutGrows ends fs back
-cut_grows ends fs [] =
-    let same = append-nil fs in
-    record {
-      stays = λ place group at settled. ap (λ all. slice_get (cut ends all) place) same ∙ at;
-      begins = λ place group at. ap (λ all. option_map first (slice_get (cut ends all) place)) same ∙ ap (option_map first) at;
-      no_fewer = omega (arith, ap (λ all. length (cut ends all)) same);
-    }
+cut_grows ends fs [] = grind (arith, append-nil)
 cut_grows ends fs (x ∷ back) =
     let one = grows-push ends fs x in
     let rest = cut_grows ends (fs ++ x ∷ []) back in
@@ -162,25 +143,14 @@ cut_grows ends fs (x ∷ back) =
     }
   where
     still : (place : ℕ) (group : List Frame) → CutGrows ends fs (x ∷ []) → IsSettled (cut ends fs) place group → IsSettled (cut ends (fs ++ x ∷ [])) place group
-    still place group one (inl done) = inl done
-    still place group one (inr l) = inr (omega (arith, l, one.no_fewer))
+    still place group one h = grind arith
 
     begun : (place line : ℕ) (o : Option (List Frame)) → CutGrows ends (fs ++ x ∷ []) back → slice_get (cut ends (fs ++ x ∷ [])) place ≡ o → option_map first o ≡ Some line
         → option_map first (slice_get (cut ends ((fs ++ x ∷ []) ++ back)) place) ≡ Some line
-    begun place line None rest e f = absurd (none-some line f)
-    begun place line (Some g) rest e f = rest.begins place g e ∙ f
+    begun place line o rest e f = grind arith
 
 -- ---- what follows a front of a log
 
 pub settles : (w : Window) → 0 < w.lines → (kind : ℕ → Option Kind) (front back : List Entry) → HasSettled w kind front back
-settles w some kind front [] =
-    let same = append-nil front in
-    record { messages = λ line l u. ap (λ es. message w kind es line) same; broken_groups = λ line u. ap (λ es. broken w kind es line) same }
-settles w some kind front (e ∷ back) =
-    let rest = settles w some kind (front ++ e ∷ []) back in
-    let same : front ++ (e ∷ back) ≡ (front ++ e ∷ []) ++ back = sym (append_assoc front (e ∷ []) back) in
-    let long = length-append front (e ∷ []) in
-    record {
-      messages = λ line l u. ap (λ es. message w kind es line) same ∙ rest.messages line l (omega (arith, u, long)) ∙ message-before (within w) kind front e line l u;
-      broken_groups = λ line u. ap (λ es. broken w kind es line) same ∙ rest.broken_groups line (omega (arith, u, long)) ∙ broken-before w some kind front e line u;
-    }
+settles w some kind front [] = grind (arith, append-nil)
+settles w some kind front (e ∷ back) = grind (arith, settles w some kind (front ++ e ∷ []) back, append_assoc front (e ∷ []) back, length-append front (e ∷ []), message-before, broken-before)

@@ -1,15 +1,13 @@
 -- The groups of a list of frames, and those of a list with one frame more.
-use Rattle.std.proofs.Common.{◌≡◌, ◌==◌, ℕ, ◌+◌, ◌<◌, ◌≤◌, ◌||◌, ◌&&◌, Bool, true, false, cond, List, [], ◌∷◌, ◌++◌, refl, sym, ap, ◌∙◌, arith, nat_le, append_assoc, Option, Some, None, length, subst}
-use Rattle.std.specs.Prelude.{fold, is_some, IfSome, nat_lt}
+use Rattle.std.proofs.Common.{◌≡◌, ℕ, ◌+◌, ◌<◌, ◌≤◌, ◌||◌, ◌&&◌, true, false, cond, List, [], ◌∷◌, ◌++◌, refl, sym, ap, ◌∙◌, arith, nat_le, append_assoc, Option, Some, None, length, subst, fold, is_some, IfSome, nat_lt, length-append}
 use Rattle.std.specs.List.{last_or, flat_map, AllByRecursion}
 use Rattle.std.proofs.lemmas.List.Sums.{fold_push}
 use Rattle.n2k_join.specs.Frames.{Frame}
 use Rattle.n2k_join.specs.Window.{Window}
 use Rattle.n2k_join.proofs.Carried.{same_bool, has_number-cons}
-use Rattle.std.proofs.lemmas.Bool.{or_left, or_right, or_from, lt-leb, le-leb, leb-true, le-ltb, eqb-true, eq-eqb, false≢true, and_right}
+use Rattle.std.proofs.lemmas.Bool.{or_left, or_right, or_from, lt-leb, le-leb, le-ltb, eqb-true, false≢true, and_right}
 use Rattle.n2k_join.specs.Groups.{EndTest, closes, repeats, has_from, falls_back, misfits, is_late, within, cut_from, cut, carried, has_number, first}
 use Rattle.n2k_join.proofs.Rising.{all-joined, last-all}
-use Rattle.std.proofs.lemmas.List.{length-append}
 
 -- A test that ends groups: a number that comes again ends, and what else does depends on what a group carries and where
 -- it began alone, and not on frames of the line where it began.
@@ -26,15 +24,7 @@ pub record HasFrom (n : ℕ) (g : List Frame) : Type 0 where
 
 pub from_has : (n : ℕ) (g : List Frame) → has_from n g ≡ true → HasFrom n g
 from_has n [] e = absurd (false≢true e)
-from_has n (f ∷ g) e = by (nat_le n f.number) refl e (from_has n g)
-  where
-    by : (b : Bool) → nat_le n f.number ≡ b → (b || has_from n g) ≡ true → (has_from n g ≡ true → HasFrom n g) → HasFrom n (f ∷ g)
-    by true l e later =
-        let has = has_number-cons f g f.number ∙ or_left _ _ (eq-eqb f.number f.number refl) in
-        record { number = f.number; least = leb-true n f.number l; has = has }
-    by false l e later =
-        let h = later e in
-        record { number = h.number; least = h.least; has = has_number-cons f g h.number ∙ or_right _ _ h.has }
+from_has n (f ∷ g) e = grind (arith, from_has n g, has_number-cons f g f.number)
 
 pub has-from : (n m : ℕ) (g : List Frame) → n ≤ m → has_number m g ≡ true → has_from n g ≡ true
 has-from n m [] l e = absurd (false≢true e)
@@ -79,15 +69,11 @@ grown ends (g ∷ h ∷ gs) x = g ∷ grown ends (h ∷ gs) x
 module _ (ends : EndTest) where
   grown-cons : (g h fs : List Frame) (x : Frame) → grown ends (g ∷ cut_from ends h fs) x ≡ g ∷ grown ends (cut_from ends h fs) x
   grown-cons g h [] x = refl
-  grown-cons g h (f ∷ fs) x =
-      elim (closes ends h f) as (λ b. grown ends (g ∷ cond b (h ∷ cut_from ends (f ∷ []) fs) (cut_from ends (h ++ f ∷ []) fs)) x ≡ g ∷ grown ends (cond b (h ∷ cut_from ends (f ∷ []) fs) (cut_from ends (h ++ f ∷ []) fs)) x)
-      [ true ↦ refl | false ↦ grown-cons g (h ++ f ∷ []) fs x ]
+  grown-cons g h (f ∷ fs) x = grind (arith, grown-cons g (h ++ f ∷ []) fs x)
 
   cut_from-push : (g fs : List Frame) (x : Frame) → cut_from ends g (fs ++ x ∷ []) ≡ grown ends (cut_from ends g fs) x
   cut_from-push g [] x = refl
-  cut_from-push g (f ∷ fs) x =
-      elim (closes ends g f) as (λ b. cond b (g ∷ cut_from ends (f ∷ []) (fs ++ x ∷ [])) (cut_from ends (g ++ f ∷ []) (fs ++ x ∷ [])) ≡ grown ends (cond b (g ∷ cut_from ends (f ∷ []) fs) (cut_from ends (g ++ f ∷ []) fs)) x)
-      [ true ↦ ap (λ gs. g ∷ gs) (cut_from-push (f ∷ []) fs x) ∙ sym (grown-cons g (f ∷ []) fs x) | false ↦ cut_from-push (g ++ f ∷ []) fs x ]
+  cut_from-push g (f ∷ fs) x = grind (arith, cut_from-push (f ∷ []) fs x, cut_from-push (g ++ f ∷ []) fs x, grown-cons)
 
   -- one frame more joins the last group, or begins one
   pub cut-push : (fs : List Frame) (x : Frame) → cut ends (fs ++ x ∷ []) ≡ grown ends (cut ends fs) x
@@ -97,9 +83,7 @@ module _ (ends : EndTest) where
 
   last-cut_from : (o : Option (List Frame)) (g fs : List Frame) → last_or o (cut_from ends g fs) ≡ fold (taken_in ends) (Some g) fs
   last-cut_from o g [] = refl
-  last-cut_from o g (f ∷ fs) =
-      elim (closes ends g f) as (λ b. last_or o (cond b (g ∷ cut_from ends (f ∷ []) fs) (cut_from ends (g ++ f ∷ []) fs)) ≡ fold (taken_in ends) (Some (cond b (f ∷ []) (g ++ f ∷ []))) fs)
-      [ true ↦ last-cut_from (Some g) (f ∷ []) fs | false ↦ last-cut_from o (g ++ f ∷ []) fs ]
+  last-cut_from o g (f ∷ fs) = grind (arith, last-cut_from (Some g) (f ∷ []) fs, last-cut_from o (g ++ f ∷ []) fs)
 
   -- the last group, as the frames come
   pub last-cut : (fs : List Frame) → last_or None (cut ends fs) ≡ so_far ends fs
@@ -128,9 +112,7 @@ module _ (ends : EndTest) where
   -- the groups joined are the frames
   cut_from-joined : (g fs : List Frame) → flat_map (λ (h : List Frame). h) (cut_from ends g fs) ≡ g ++ fs
   cut_from-joined g [] = refl
-  cut_from-joined g (f ∷ fs) =
-      elim (closes ends g f) as (λ b. flat_map (λ (h : List Frame). h) (cond b (g ∷ cut_from ends (f ∷ []) fs) (cut_from ends (g ++ f ∷ []) fs)) ≡ g ++ (f ∷ fs))
-      [ true ↦ ap (λ t. g ++ t) (cut_from-joined (f ∷ []) fs) | false ↦ cut_from-joined (g ++ f ∷ []) fs ∙ append_assoc g (f ∷ []) fs ]
+  cut_from-joined g (f ∷ fs) = grind (arith, cut_from-joined (f ∷ []) fs, cut_from-joined (g ++ f ∷ []) fs, append_assoc)
 
   pub cut-joined : (fs : List Frame) → flat_map (λ (h : List Frame). h) (cut ends fs) ≡ fs
   unfolding cut
@@ -143,10 +125,7 @@ module _ (ends : EndTest) where
 
   -- and so of the last group
   pub so_far-all : (P : Frame → Type 0) (fs : List Frame) → AllByRecursion P fs → IfSome (so_far ends fs) (AllByRecursion P)
-  so_far-all P fs all =
-      subst (λ o. IfSome o (AllByRecursion P)) (last-cut fs)
-      (last-all (AllByRecursion P) None (cut ends fs) tt (cut-all P fs all))
+  so_far-all P fs all = grind (arith, last-cut fs, cut-all P fs all, last-all)
 
   pub so_far-keeps : (Q : List Frame → Type 0) → ((x : Frame) → Q (x ∷ [])) → ((g : List Frame) (x : Frame) → closes ends g x ≡ false → Q g → Q (g ++ x ∷ [])) → (fs : List Frame) → IfSome (so_far ends fs) Q
-  so_far-keeps Q one more fs =
-      subst (λ o. IfSome o Q) (last-cut fs) (last-all Q None (cut ends fs) tt (cut-keeps Q one more fs))
+  so_far-keeps Q one more fs = grind (arith, last-cut fs, cut-keeps Q one more fs, last-all)

@@ -1,16 +1,13 @@
 -- A frame taken into the open groups: what its message, the group that it breaks and the groups after it are, where the
 -- group of its key stands among the others, and where there is none.
-use Rattle.std.proofs.Common.{◌≡◌, ◌<◌, ◌+◌, ℕ, Bool, true, false, cond, List, [], ◌∷◌, ◌++◌, refl, sym, ap, ◌∙◌, subst, Option, Some, None, IfSome, option_to_list, filter_map}
-use Rattle.std.specs.Prelude.{is_some}
+use Rattle.std.proofs.Common.{arith, ◌≡◌, ℕ, Bool, true, false, cond, List, [], ◌∷◌, ◌++◌, refl, sym, ap, ◌∙◌, subst, Some, None, IfSome, option_to_list, filter_map, is_some, append-nil}
 use Rattle.std.specs.List.{AllByRecursion, cons_option}
-use Rattle.std.proofs.lemmas.List.{append-nil}
-use Rattle.std.proofs.lemmas.Bool.{false≢true}
 use Rattle.n2k_wire.specs.Packet.{PacketParts}
 use Rattle.n2k_join.specs.declared.piece.OpenGroup.{OpenGroup}
 use Rattle.n2k_join.specs.declared.piece.FastFrame.{FastFrame}
 use Rattle.n2k_join.specs.declared.open_groups.Linked.{Linked}
 use Rattle.n2k_join.specs.declared.open_groups.OpenGroups.{OpenGroups}
-use Rattle.n2k_join.specs.Frames.{Key, same_key, Frame, most_frames}
+use Rattle.n2k_join.specs.Frames.{same_key, Frame}
 use Rattle.n2k_join.specs.Groups.{complete, data_of, has_number}
 use Rattle.n2k_join.specs.Messages.{message_of, broken_of}
 use Rattle.n2k_join.specs.Open.{Group, pieces_of, group_of}
@@ -20,16 +17,14 @@ use Rattle.n2k_join.specs.Inner.Slots.{slot_of, group_in}
 use Rattle.n2k_join.specs.Inner.Order.{item_at, groups_at, listed}
 use Rattle.n2k_join.proofs.Listed.{Here}
 use Rattle.n2k_join.proofs.SlotLemmas.{carried-slots}
-use Rattle.n2k_join.proofs.JoinLemmas.{taken-others, one_or_none, rejects-missing, with_piece, complete-with_frame, data_of-with_frame, broken-held, message-begun, groups-begun}
+use Rattle.n2k_join.proofs.JoinLemmas.{taken-others, rejects-missing, with_piece, complete-with_frame, data_of-with_frame, broken-held, message-begun, groups-begun}
 use Rattle.n2k_join.proofs.Keys.{same_key-refl, same_key-sym, same_key-true}
 use Rattle.n2k_join.proofs.Rising.{none_from, passes_none, all-map}
 
 -- where none is open of the frame's key
 pub none-after : (order : Bool) (x : Frame) (gs : List Group) → of_the_key x.key gs ≡ None → groups_after order gs x ≡ gs ++ option_to_list (started x)
 unfolding groups_after
-none-after order x gs none =
-    ap (λ hs. hs ++ option_to_list (opened order x (of_the_key x.key gs))) (taken-others order x gs (passes_none (λ (g : Group). same_key x.key g.key) gs none))
-    ∙ ap (λ (o : Option Group). gs ++ option_to_list (opened order x o)) none
+none-after order x gs none = grind (arith, taken-others order x gs (passes_none (λ (g : Group). same_key x.key g.key) gs none))
 
 -- what holds of each holds of one
 all-at : (P : Group → Type 0) (fs : List Group) (g : Group) (gs : List Group) → AllByRecursion P (fs ++ g ∷ gs) → P g
@@ -47,10 +42,7 @@ module _ (x : Frame) (g : Group) (gs : List Group) (of : same_key x.key g.key �
 
   -- the group of the frame's key goes its way, and the others stay
   taken-at : (order : Bool) (fs : List Group) → AreApart (fs ++ g ∷ gs) → filter_map (taken order x) (fs ++ g ∷ gs) ≡ fs ++ (option_to_list (joined order x g) ++ gs)
-  taken-at order [] apart =
-      ap (λ b. cons_option (cond b (joined order x g) (Some g)) (filter_map (taken order x) gs)) of
-      ∙ ap (cons_option (joined order x g)) (taken-others order x gs (all-map (λ (h : Group). same_key g.key h.key ≡ false) (λ (h : Group). same_key x.key h.key ≡ false) gs (λ h e. ap (λ (k : Key). same_key k h.key) (same_key-true x.key g.key of) ∙ e) apart.0))
-      ∙ one_or_none (joined order x g) gs
+  taken-at order [] apart = grind (arith, taken-others, all-map, same_key-true)
   taken-at order (f ∷ fs) apart =
       ap (λ b. cons_option (cond b (joined order x f) (Some f)) (filter_map (taken order x) (fs ++ g ∷ gs))) (other-key f (all-at (λ h. same_key f.key h.key ≡ false) fs g gs apart.0))
       ∙ ap (λ hs. f ∷ hs) (taken-at order fs apart.1)
@@ -82,8 +74,7 @@ module _ (order : Bool) (line : ℕ) (packet : PacketParts) (frame : FastFrame) 
 
     after-is : groups_after order all x ≡ (fs ++ (option_to_list (joined order x the_group) ++ gs)) ++ option_to_list (opened order x (Some the_group))
     unfolding groups_after
-    after-is =
-        (λ i. (ap (filter_map (taken order x)) is ∙ taken-at x the_group gs (same_key-refl x.key) order fs (subst AreApart is apart)) i ++ option_to_list (opened order x (here-is i)))
+    after-is = grind (arith, taken-at, same_key-refl, here-is)
 
     -- what it says is what the group of the key says
     pub rejects-here : (b : Bool) → rejects order x.number the_group ≡ b → IfSome (of_the_key x.key all) (λ (o : Group). rejects order x.number o ≡ b)
@@ -128,11 +119,7 @@ module _ (order : Bool) (line : ℕ) (packet : PacketParts) (frame : FastFrame) 
 
         -- and stays open, or is complete and goes
         pub joins-groups : (b : Bool) → complete (held_of grown_group) ≡ b → fs ++ (option_to_list (cond b None (Some grown_group)) ++ gs) ≡ groups_after order all x
-        joins-groups b e =
-            let stays : joined order x the_group ≡ cond b None (Some grown_group) =
-            ap (λ b. cond b None (cond (complete (held_of the_group ++ x ∷ [])) None (Some (with_frame the_group x)))) free
-            ∙ (λ j. cond ((sym complete-grown ∙ e) j) None (Some (sym grown j))) in
-            sym (after-is ∙ (λ i. (fs ++ (option_to_list (stays i) ++ gs)) ++ option_to_list (cond (free i) (started x) None)) ∙ append-nil (fs ++ (option_to_list (cond b None (Some grown_group)) ++ gs)))
+        joins-groups b e = grind (arith, complete-grown, grown, after-is, append-nil)
 
       -- the frame ends it, and begins another
       module _ (w : OpenGroup) (barred : rejects order x.number the_group ≡ true) (begun : group_in x.key w ≡ group_of x.key (x ∷ [])) where

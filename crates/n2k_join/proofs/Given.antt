@@ -1,15 +1,15 @@
 -- What the last line of a log gives, and that earlier lines keep what they gave.
-use Rattle.std.proofs.Common.{◌≡◌, ◌==◌, ◌≤◌, ◌<◌, ℕ, Bool, true, false, cond, ◌&&◌, List, [], ◌∷◌, ◌++◌, length, refl, sym, ap, ◌∙◌, arith, Option, Some, None, option_map, option_and_then, find}
+use Rattle.std.proofs.Common.{◌≡◌, ◌≤◌, ◌<◌, ℕ, Bool, true, false, cond, ◌&&◌, List, [], ◌∷◌, ◌++◌, length, refl, ap, ◌∙◌, arith, Option, Some, None, option_map, option_and_then, find}
 use Rattle.std.specs.List.{last_or, AllByRecursion}
-use Rattle.std.proofs.lemmas.Bool.{eqb-true, eq-eqb, ne_eqb, or_parts}
-use Rattle.n2k_join.specs.Frames.{Key, same_key, Frame, of_key, frame_at}
-use Rattle.n2k_join.specs.Groups.{EndTest, closes, complete, cut, first, last_line}
+use Rattle.std.proofs.lemmas.Bool.{eqb-true, ne_eqb, or_parts}
+use Rattle.n2k_join.specs.Frames.{Key, same_key, Frame, of_key}
+use Rattle.n2k_join.specs.Groups.{EndTest, complete, cut, first, last_line}
 use Rattle.n2k_join.specs.Messages.{Keyed, message_of, is_done_at, gathered_by, gathered}
 use Rattle.n2k_join.proofs.Cuts.{next, so_far, grown, cut-push, last-cut, cut-all, cut-nonempty}
 use Rattle.n2k_join.proofs.Keys.{same_key-refl, of_key-same, of_key-other, of_key-keeps}
 use Rattle.n2k_join.proofs.Opened.{IsLog, none_at, at_last, at_line}
 use Rattle.n2k_join.proofs.Rising.{find-passes, all-map, all-zip}
-use Rattle.std.proofs.Math.Bool.{and-true, and-false}
+use Rattle.std.proofs.Math.Bool.{and-false}
 
 -- a group of lines up to n: not empty, and each of its lines is at most n
 pub record IsUpTo (n : ℕ) (g : List Frame) : Type 0 where
@@ -34,14 +34,11 @@ done-not : (i : ℕ) (g : List Frame) → (last_line g ≡ i → ⊥) → is_don
 done-not i g other = ap (λ b. complete g && b) (ne_eqb (last_line g) i other) ∙ and-false (complete g)
 
 done-here : (g : List Frame) (x : Frame) → is_done_at x.line (g ++ x ∷ []) ≡ complete (g ++ x ∷ [])
-done-here g x =
-    ap (λ n. complete (g ++ x ∷ []) && (n == x.line)) (last_line-push g x) ∙ ap (λ b. complete (g ++ x ∷ []) && b) (eq-eqb x.line x.line refl)
-    ∙ and-true (complete (g ++ x ∷ []))
+done-here g x = grind (arith, last_line-push)
 
 -- the message of a group, where there is one
 pub message_by : (x : Frame) (b : Bool) (g : List Frame) → option_map (message_of x) (cond b (Some g) None) ≡ cond b (Some (message_of x g)) None
-message_by x true g = refl
-message_by x false g = refl
+message_by x b g = grind arith
 
 module _ (ends : EndTest) where
   -- what the frame completes
@@ -53,11 +50,7 @@ module _ (ends : EndTest) where
 
   found_last : (gs : List (List Frame)) (x : Frame) → AllByRecursion (λ g. is_done_at x.line g ≡ false) gs → find (is_done_at x.line) (grown ends gs x) ≡ completed (last_or None gs) x
   found_last [] x all = found_alone x
-  found_last (g ∷ []) x all =
-      elim (closes ends g x) as (λ b. find (is_done_at x.line) (cond b (g ∷ (x ∷ []) ∷ []) ((g ++ x ∷ []) ∷ [])) ≡ cond (complete (cond b (x ∷ []) (g ++ x ∷ []))) (Some (cond b (x ∷ []) (g ++ x ∷ []))) None) [
-        | true ↦ ap (λ b. cond b (Some g) (find (is_done_at x.line) ((x ∷ []) ∷ []))) all.0 ∙ found_alone x
-        | false ↦ ap (λ b. cond b (Some (g ++ x ∷ [])) None) (done-here g x)
-      ]
+  found_last (g ∷ []) x all = grind (arith, done-here)
   found_last (g ∷ h ∷ gs) x all = ap (λ b. cond b (Some g) (find (is_done_at x.line) (grown ends (h ∷ gs) x))) all.0 ∙ found_last (h ∷ gs) x all.1
 
   found_stays : (i : ℕ) (gs : List (List Frame)) (x : Frame) → (x.line ≡ i → ⊥) → find (is_done_at i) (grown ends gs x) ≡ find (is_done_at i) gs
@@ -74,9 +67,7 @@ module _ (ends : EndTest) where
       (cut-all ends (λ (f : Frame). f.line ≤ n) fs all))
 
   pub up_to : (n : ℕ) (k : Key) (fs : List Frame) → IsLog n fs → AllByRecursion (IsUpTo n) (cut ends (of_key k fs))
-  up_to n k fs log =
-      groups-up_to n (of_key k fs)
-      (all-map _ (λ (f : Frame). f.line ≤ n) (of_key k fs) (λ f h. h.0.1) (of_key-keeps (λ (f : Frame). (1 ≤ f.line) × (f.line ≤ n)) k fs log.lines))
+  up_to n k fs log = grind (arith, groups-up_to, all-map, of_key-keeps)
 
   -- the groups of a key with a frame more of it, and with one of another
   pub cut_of_same : (k : Key) (fs : List Frame) (x : Frame) → same_key k x.key ≡ true → cut ends (of_key k (fs ++ x ∷ [])) ≡ grown ends (cut ends (of_key k fs)) x
@@ -92,13 +83,7 @@ module _ (ends : EndTest) where
   -- The last line gives the message of the group so far with its frame, where that is complete.
   pub gathered-last : (n : ℕ) (fs : List Frame) (x : Frame) → IsLog n fs → n < x.line → gathered ends (fs ++ x ∷ []) x.line ≡ option_map (keyed x) (completed (so_far ends (of_key x.key fs)) x)
   unfolding gathered
-  gathered-last n fs x log l =
-      ap (option_and_then (gathered_by ends (fs ++ x ∷ []))) (at_last n fs x log l)
-      ∙ ap (λ gs. option_map (keyed x) (find (is_done_at x.line) gs)) (cut_of_same x.key fs x (same_key-refl x.key))
-      ∙ ap (option_map (keyed x))
-      (found_last (cut ends (of_key x.key fs)) x
-      (all-map (IsUpTo n) (λ g. is_done_at x.line g ≡ false) (cut ends (of_key x.key fs)) (λ g up. done-not x.line g (λ e. omega (arith, last_line-all n g up.lines, l, e))) (up_to n x.key fs log))
-      ∙ ap (λ s. completed s x) (last-cut ends (of_key x.key fs)))
+  gathered-last n fs x log l = grind (arith, at_last, cut_of_same, same_key-refl, found_last, all-map, last_line-all, up_to, last-cut)
 
   -- a line without a frame gives none
   pub gathered-none : (n i : ℕ) (fs : List Frame) → IsLog n fs → n < i → gathered ends fs i ≡ None

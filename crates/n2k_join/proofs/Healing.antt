@@ -1,18 +1,16 @@
 -- A message whose pieces come in order under its key is given, whatever stood open before with a frame 0.
-use Rattle.std.proofs.Common.{◌≡◌, ℕ, zero, suc, ◌+◌, ◌<◌, ◌≤◌, Bool, true, false, not, ◌&&◌, List, [], ◌∷◌, ◌++◌, length, refl, ap, subst, ◌∙◌, sym, arith, append_assoc, Option, Some, None}
-use Rattle.std.specs.Prelude.{◌==◌, nat_lt, min, cond, if◌then◌else◌, find, filter_map, map, Contains, IfSome, option_map, option_and_then}
+use Rattle.std.proofs.Common.{◌≡◌, ℕ, zero, suc, ◌+◌, ◌<◌, ◌≤◌, Bool, true, false, List, [], ◌∷◌, ◌++◌, length, refl, ap, subst, ◌∙◌, sym, arith, append_assoc, Option, Some, None, ◌==◌, min, cond, find, filter_map, map, Contains, IfSome, option_and_then}
 use Rattle.std.specs.List.{AllByRecursion, last_or, range_with_len, cons_option}
-use Rattle.std.proofs.lemmas.Bool.{cases_lt, le-leb, true≢false, eqb-true, eqb-false, eq-eqb, ne_eqb, and_right, and_from, lt-ltb, or_left, or_right, or_from}
+use Rattle.std.proofs.lemmas.Bool.{cases_lt, le-leb, eqb-true, ne_eqb, and_from, lt-ltb, or_left, or_right, or_from}
 use Rattle.std.proofs.lemmas.Option.{none-some, same_Some}
-use mathlib.Core.Logic.{◌⊎◌, inl, inr}
 use Rattle.std.proofs.lemmas.List.{append_cancel_left, length-map}
 use Rattle.std.proofs.lemmas.List.FromFn.{length-range_with_len}
 use Rattle.std.proofs.lemmas.List.Elements.{recursion_from_All}
 use Rattle.n2k_wire.specs.declared.entry.Entry.{Entry}
 use Rattle.n2k_table.specs.declared.definition.Kind.{Kind}
-use Rattle.n2k_join.specs.Frames.{Key, Frame, frames_from, frames, of_key}
-use Rattle.n2k_join.specs.Groups.{EndTest, has_number, has_from, falls_back, has_twice, repeats, misfits, is_late, within, complete, closes, cut_from, cut, open_of, first, last_line, incomplete}
-use Rattle.n2k_join.specs.Messages.{is_done_at, broken_of, broken_line, broken_among, broken_by, broken_begun, broken_with, broken}
+use Rattle.n2k_join.specs.Frames.{Key, Frame, frames, of_key}
+use Rattle.n2k_join.specs.Groups.{EndTest, has_number, has_from, has_twice, within, complete, closes, cut_from, cut, open_of, first, last_line, incomplete}
+use Rattle.n2k_join.specs.Messages.{is_done_at, broken_of, broken_among, broken_begun, broken_with, broken}
 use Rattle.n2k_join.specs.Pieces.{Sending, last_piece}
 use Rattle.n2k_join.specs.Scattered.{key_of_sending, all_frames, IsPieceOf}
 use Rattle.n2k_join.specs.Arrival.{Brings, ComesNext, LeavesZero, Heals}
@@ -25,7 +23,6 @@ use Rattle.n2k_join.proofs.Lines.{RiseFrom, frames-rise, line_of}
 use Rattle.n2k_join.proofs.GroupLines.{IsGroup, IsDone, first_above, done_found}
 use Rattle.n2k_join.proofs.Arriving.{StandsAt, stand, key-rise, brings}
 use Rattle.n2k_join.specs.Window.{Window}
-use Rattle.n2k_join.proofs.Carried.{has_number-cons}
 use Rattle.n2k_join.proofs.Rising.{last-all, all-front, all-back, all-joined, rise-least, rise-rest}
 use Rattle.n2k_join.specs.State.{Rise}
 
@@ -51,20 +48,13 @@ cut_splits ends (f ∷ fs) x rest last = cut_splits_from ends None (f ∷ []) fs
 firsts_rise : (n : ℕ) (gs : List (List Frame)) → AllByRecursion IsGroup gs → RiseFrom n (all_frames gs) → Rise first n gs
 firsts_rise n [] some rise = tt
 firsts_rise n ([] ∷ gs) some rise = absurd (omega (arith, some.0))
-firsts_rise n ((f ∷ g) ∷ gs) some rise =
-    (rise.0, firsts_rise (f.line + 1) gs some.1 (rise-rest line_of (f.line + 1) g (all_frames gs) rise.1))
+firsts_rise n ((f ∷ g) ∷ gs) some rise = grind (arith, firsts_rise (f.line + 1) gs some.1 (rise-rest line_of (f.line + 1) g (all_frames gs) rise.1))
 
 -- The last group of the front of a cut, where it isn't complete, is broken where its window ends or the group after it begins.
 broken_among-at : (w : Window) (n : ℕ) (a : List (List Frame)) (left g : List Frame) (later : List (List Frame)) → Rise first n (a ++ (left ∷ g ∷ later)) → complete left ≡ false
     → broken_among w (first left) (min (first left + w.lines) (first g)) (a ++ (left ∷ g ∷ later)) ≡ Some left
-broken_among-at w n [] left g later rise c =
-    λ i. cond (not (c i) && (eq-eqb (first left) (first left) refl i && eq-eqb (min (first left + w.lines) (first g)) (min (first left + w.lines) (first g)) refl i)) (Some left) (broken_among w (first left) (min (first left + w.lines) (first g)) (g ∷ later))
-broken_among-at w n (h ∷ a) left g later rise c =
-    let apart : first h + 1 ≤ first left = (rise-rest first (first h + 1) a (left ∷ g ∷ later) rise.1).0 in
-    let other : (first h == first left) ≡ false = ne_eqb (first h) (first left) (λ same. omega (arith, same, apart)) in
-    (λ i. cond (not (complete h) && (other i && (broken_line w h (a ++ (left ∷ g ∷ later)) == min (first left + w.lines) (first g)))) (Some h) (broken_among w (first left) (min (first left + w.lines) (first g)) (a ++ (left ∷ g ∷ later))))
-    ∙ ap (λ b. cond b (Some h) (broken_among w (first left) (min (first left + w.lines) (first g)) (a ++ (left ∷ g ∷ later)))) (and_right (not (complete h)) false refl)
-    ∙ broken_among-at w (first h + 1) a left g later rise.1 c
+broken_among-at w n [] left g later rise c = grind arith
+broken_among-at w n (h ∷ a) left g later rise c = grind (arith, broken_among-at w (first h + 1) a left g later rise.1 c, rise-rest)
 
 -- a list that has a last item ends with it
 ends_with : (o : Option (List Frame)) (gs : List (List Frame)) (l : List Frame) → (o ≡ Some l → ⊥) → last_or o gs ≡ Some l
@@ -81,46 +71,34 @@ given_among h y i a zero l u e = absurd (omega (arith, l, u))
 given_among {Y} h y i a (suc n) l u e = by (a == i) refl (given_among h y i (a + 1) n)
   where
     here : (o : Option Y) → o ≡ Some y → Contains (cons_option o (filter_map h (range_with_len (a + 1) n))) y
-    here None t = absurd (none-some y t)
-    here (Some z) t = (0, omega arith, same_Some z y t)
+    here o t = grind arith
 
     there : (o : Option Y) → Contains (filter_map h (range_with_len (a + 1) n)) y → Contains (cons_option o (filter_map h (range_with_len (a + 1) n))) y
     there None c = c
     there (Some z) c = (suc c.0, omega (arith, c.1), c.2)
 
     by : (b : Bool) → (a == i) ≡ b → (a + 1 ≤ i → i < (a + 1) + n → h i ≡ Some y → Contains (filter_map h (range_with_len (a + 1) n)) y) → Contains (cons_option (h a) (filter_map h (range_with_len (a + 1) n))) y
-    by true t rest = here (h a) (ap h (eqb-true a i t) ∙ e)
-    by false t rest = there (h a) (rest (omega (arith, l, eqb-false a i t)) (omega (arith, u)) e)
+    by b t rest = grind (arith, here, eqb-true, there)
 
 -- the group of a key's cut that begins at its first line, where it is broken at a line
 broken_where : (w : Window) (fs : List Frame) (k : Key) (left : List Frame) (line : ℕ) → IsGroup left → AllByRecursion (StandsAt fs k) left → broken_among w (first left) line (cut (within w) (of_key k fs)) ≡ Some left
     → broken_begun w fs line (first left) ≡ Some (broken_of k left)
 broken_where w fs k [] line some stands is = absurd (omega (arith, some))
-broken_where w fs k (f ∷ left) line some stands is =
-    ap (option_and_then (broken_by w fs line)) stands.0.0
-    ∙ ap (λ (c : Key). option_map (broken_of c) (broken_among w f.line line (cut (within w) (of_key c fs)))) stands.0.1
-    ∙ ap (option_map (broken_of k)) is
+broken_where w fs k (f ∷ left) line some stands is = grind arith
 
 -- frames whose numbers rise one by one have no number twice
 none_below : (m a n : ℕ) (fs : List Frame) → m < a → map (λ (f : Frame). f.number) fs ≡ range_with_len a n → has_number m fs ≡ false
 none_below m a n [] below numbers = refl
 none_below m a zero (f ∷ fs) below numbers = absurd (cc)
-none_below m a (suc n) (f ∷ fs) below numbers =
-    let here : f.number ≡ a = cc in
-    let rest : map (λ (g : Frame). g.number) fs ≡ range_with_len (a + 1) n = cc in
-    has_number-cons f fs m ∙ or_from _ _ (ne_eqb f.number m (λ same. omega arith)) (none_below m (a + 1) n fs (omega arith) rest)
+none_below m a (suc n) (f ∷ fs) below numbers = grind (arith, none_below m (a + 1) n fs (omega arith) cc, or_from, ne_eqb)
 
 pub rising-apart : (a n : ℕ) (fs : List Frame) → map (λ (f : Frame). f.number) fs ≡ range_with_len a n → has_twice fs ≡ false
 rising-apart a n [] numbers = refl
 rising-apart a zero (f ∷ fs) numbers = absurd (cc)
-rising-apart a (suc n) (f ∷ fs) numbers =
-    let here : f.number ≡ a = cc in
-    let rest : map (λ (g : Frame). g.number) fs ≡ range_with_len (a + 1) n = cc in
-    or_from _ _ (none_below f.number (a + 1) n fs (omega arith) rest) (rising-apart (a + 1) n fs rest)
+rising-apart a (suc n) (f ∷ fs) numbers = grind (arith, rising-apart (a + 1) n fs cc, none_below)
 
 pub rising-length : (a n : ℕ) (fs : List Frame) → map (λ (f : Frame). f.number) fs ≡ range_with_len a n → length fs ≡ n
-rising-length a n fs numbers =
-    sym (length-map fs (λ (f : Frame). f.number)) ∙ ap length numbers ∙ length-range_with_len a n
+rising-length a n fs numbers = grind (arith, length-map, length-range_with_len)
 
 rising-first : (n : ℕ) (f : Frame) (fs : List Frame) → 0 < n → map (λ (g : Frame). g.number) (f ∷ fs) ≡ range_with_len 0 n → f.number ≡ 0
 rising-first zero f fs some numbers = absurd (omega arith)
@@ -136,12 +114,7 @@ ends_before w n o h f up zeroth past open_has last = grind (arith, first-le, and
 
 -- the next frame of the key stands past the entries before it
 next_past : (kind : ℕ → Option Kind) (front back : List Entry) (k : Key) (f : Frame) (g : List Frame) → of_key k (frames kind (front ++ back)) ≡ of_key k (frames kind front) ++ (f ∷ g) → length front < f.line
-next_past kind front back k f g next =
-    let later = frames_from kind (1 + length front) back in
-    let parts : of_key k (frames kind (front ++ back)) ≡ of_key k (frames kind front) ++ of_key k later = ap (of_key k) (frames_from-append kind 1 front back) ∙ of_key-append k (frames kind front) later in
-    let same : of_key k later ≡ f ∷ g = append_cancel_left (of_key k (frames kind front)) (of_key k later) (f ∷ g) (sym parts ∙ next) in
-    let past = subst (AllByRecursion (λ (i : Frame). (1 + length front ≤ i.line) × (i.key ≡ k))) same (of_key-keeps (λ (i : Frame). 1 + length front ≤ i.line) k later (rise-least line_of (1 + length front) later (frames-rise kind (1 + length front) back))) in
-    omega (arith, past.0.0)
+next_past kind front back k f g next = grind (arith, frames_from-append kind 1 front back, frames-rise kind (1 + length front) back, of_key-append, append_cancel_left, of_key-keeps, rise-least)
 
 -- what stands open has a frame 0, where the window isn't in order
 abbrev HasZero : Window → (ℕ → Option Kind) → List Entry → Sending → Type 0
@@ -204,27 +177,17 @@ heals_by w kind front back x (f ∷ g) after comes left_open =
         → AllByRecursion (AllByRecursion (λ (i : Frame). 1 ≤ i.line)) (cut (within w) (of_key (key_of_sending x) (frames kind front)) ++ ((f ∷ g) ∷ cut (within w) after))
         → cut (within w) (of_key (key_of_sending x) (frames kind (front ++ back))) ≡ cut (within w) (of_key (key_of_sending x) (frames kind front)) ++ ((f ∷ g) ∷ cut (within w) after)
         → told (option_and_then incomplete o)
-    by_open None is rise some stands lines cuts = tt
-    by_open (Some left) is rise some stands lines cuts = by_test (complete left) refl
-      where
-        by_test : (c : Bool) → complete left ≡ c → told (cond c None (Some left))
-        by_test true c = tt
-        by_test false c =
-            let ew = ends_with None (cut (within w) (of_key (key_of_sending x) (frames kind front))) left (λ t. none-some left t) is in
-            at_left left ew.0 (cut (within w) (of_key (key_of_sending x) (frames kind front)) ++ ((f ∷ g) ∷ cut (within w) after))
-            (ap (λ hs. hs ++ ((f ∷ g) ∷ cut (within w) after)) ew.1 ∙ append_assoc ew.0 (left ∷ []) ((f ∷ g) ∷ cut (within w) after)) c rise some stands lines cuts
+    by_open o is rise some stands lines cuts = grind (arith, told, ends_with, at_left, append_assoc)
 
 pub heals : (w : Window) (kind : ℕ → Option Kind) (front back : List Entry) (x : Sending) (group after : List Frame) → ComesNext w kind front back x group after → LeavesZero w kind front x → Heals w kind front back x group
 heals w kind front back x group after comes has = heals_by w kind front back x group after comes (by (open_of (within w) (key_of_sending x) (frames kind front)) has)
   where
     by : (o : Option (List Frame)) → IfSome o (λ last. length front < first last + w.lines → has_number 0 last ≡ true) → IfSome o (λ last. w.in_order ≡ false → length front < first last + w.lines → has_number 0 last ≡ true)
-    by None h = tt
-    by (Some g) h = λ e. h
+    by o h = grind arith
 
 -- with a window in order what is open may be anything
 pub heals_in_order : (w : Window) (kind : ℕ → Option Kind) (front back : List Entry) (x : Sending) (group after : List Frame) → w.in_order ≡ true → ComesNext w kind front back x group after → Heals w kind front back x group
 heals_in_order w kind front back x group after order comes = heals_by w kind front back x group after comes (by (open_of (within w) (key_of_sending x) (frames kind front)))
   where
     by : (o : Option (List Frame)) → IfSome o (λ last. w.in_order ≡ false → length front < first last + w.lines → has_number 0 last ≡ true)
-    by None = tt
-    by (Some g) = λ e. absurd (true≢false (sym order ∙ e))
+    by o = grind arith

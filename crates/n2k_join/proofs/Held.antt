@@ -1,20 +1,18 @@
 -- The frames that are held of an open group: they carry what its frames carried, and they are one group.
-use Rattle.std.proofs.Common.{◌≡◌, ◌==◌, ◌≤◌, ◌<◌, ◌+◌, ℕ, Bool, true, false, cond, List, [], ◌∷◌, ◌++◌, length, map, reverse, refl, sym, ap, ◌∙◌, subst, arith, Option, Some, None, option_map}
+use Rattle.std.proofs.Common.{◌≡◌, ◌==◌, ◌≤◌, ◌<◌, ◌+◌, ℕ, Bool, true, false, cond, List, [], ◌∷◌, ◌++◌, length, map, reverse, refl, sym, ap, ◌∙◌, arith, Option, Some, None, option_map, is_some}
 use mathlib.Core.Path.{fun_ext}
 use mathlib.Core.List.{reverse-cons}
-use mathlib.Core.Logic.{◌⊎◌, inl, inr}
-use Rattle.std.specs.Prelude.{is_some}
 use Rattle.std.specs.Option.{option_or}
 use Rattle.std.specs.List.{AllByRecursion, range_with_len, filter_map}
 use Rattle.std.proofs.lemmas.List.{map-append, length-map, length-reverse}
-use Rattle.std.proofs.lemmas.Bool.{eqb-true, eq-eqb, ne_eqb, or_from, cases_lt, false≢true, or_left}
+use Rattle.std.proofs.lemmas.Bool.{eqb-true, or_from, cases_lt}
 use Rattle.n2k_join.specs.Frames.{Key, Frame, most_frames}
 use Rattle.n2k_join.specs.Groups.{EndTest, complete, carried, has_number, has_twice, first}
 use Rattle.n2k_join.specs.Open.{Piece, Group, piece_at, pieces_of, group_of}
 use Rattle.n2k_join.specs.State.{held_frame, held_of, Rise, IsOpen}
 use Rattle.n2k_join.proofs.Cuts.{next, so_far, so_far-push, IsEnding}
-use Rattle.n2k_join.proofs.Carried.{carried-append, option_or_none, has_twice-push, complete-without_zero, has_number-cons}
-use Rattle.n2k_join.proofs.Rising.{look, look-below, look-range, look-filter_map, rise-range, all-range, filter_map-range, find-none, find-passes, all-map, all-append, option_map_some}
+use Rattle.n2k_join.proofs.Carried.{carried-append, option_or_none, has_twice-push, complete-without_zero}
+use Rattle.n2k_join.proofs.Rising.{look, look-below, look-range, look-filter_map, rise-range, all-range, filter_map-range, find-none, find-passes, all-map, all-append}
 
 abbrev pub number_of : Piece → ℕ
 number_of p = p.number
@@ -50,11 +48,7 @@ carried-held o least (p ∷ ps) n r =
 -- each number once
 pub has_twice-held : (o : Group) (least : ℕ) (ps : List Piece) → Rise number_of least ps → has_twice (held_frames o ps) ≡ false
 has_twice-held o least [] r = refl
-has_twice-held o least (p ∷ ps) r =
-    ap has_twice (held-cons o p ps)
-    ∙ has_twice-push (held_frames o ps) (held_frame o p) (has_twice-held o (p.number + 1) ps r.1)
-    ∙ ap is_some (carried-held o (p.number + 1) ps p.number r.1)
-    ∙ ap (λ q. is_some (option_map (λ (q : Piece). q.bytes) q)) (look-below number_of (p.number + 1) p.number ps r.1 (omega arith))
+has_twice-held o least (p ∷ ps) r = grind (arith, held-cons o p ps, has_twice-push (held_frames o ps) (held_frame o p) (has_twice-held o (p.number + 1) ps r.1), carried-held o (p.number + 1) ps p.number r.1, look-below number_of (p.number + 1) p.number ps r.1 (omega arith))
 
 pub all-held : (P : Frame → Type 0) (Q : Piece → Type 0) (o : Group) → ((p : Piece) → Q p → P (held_frame o p)) → (ps : List Piece) → AllByRecursion Q ps → AllByRecursion P (map (held_frame o) ps)
 all-held P Q o each [] all = tt
@@ -62,9 +56,7 @@ all-held P Q o each (p ∷ ps) all = (each p all.0, all-held P Q o each ps all.1
 
 pub all-reverse : {X : Type 0} (P : X → Type 0) (xs : List X) → AllByRecursion P xs → AllByRecursion P (reverse xs)
 all-reverse P [] all = tt
-all-reverse P (x ∷ xs) all =
-    subst (AllByRecursion P) (sym (reverse-cons x xs))
-    (all-append P (reverse xs) (x ∷ []) (all-reverse P xs all.1) (all.0, tt))
+all-reverse P (x ∷ xs) all = grind (arith, all-reverse P xs all.1, reverse-cons, all-append)
 
 -- any fact of all things holds of those of a list
 pub all-any : {X : Type 0} (P : X → Type 0) → ((x : X) → P x) → (xs : List X) → AllByRecursion P xs
@@ -87,9 +79,7 @@ abbrev pub pieces_by : (ℕ → Option (List ℕ)) → List Piece
 pieces_by c = filter_map (piece_at c) (range_with_len 0 most_frames)
 
 piece_at-number : (c : ℕ → Option (List ℕ)) (n : ℕ) (p : Piece) → piece_at c n ≡ Some p → p.number ≡ n
-piece_at-number c n p e =
-    option_map_some (λ (bytes : List ℕ). let p : Piece = record { number = n; bytes = bytes } in p) (c n) p e
-    (λ b is same. sym (ap number_of same))
+piece_at-number c n p e = grind arith
 
 pub pieces_by-rise : (c : ℕ → Option (List ℕ)) → Rise number_of 0 (pieces_by c)
 pieces_by-rise c = rise-range number_of (piece_at c) (piece_at-number c) 0 0 most_frames (omega arith)
@@ -101,18 +91,10 @@ pieces_by-numbers c =
 
 -- they carry what the look-up finds under the numbers that frames can have, and nothing under others
 pub bytes_by : (c : ℕ → Option (List ℕ)) (n : ℕ) → n < most_frames → bytes_in (pieces_by c) n ≡ c n
-bytes_by c n l =
-    ap (option_map (λ (p : Piece). p.bytes))
-    (look-filter_map number_of (piece_at c) (piece_at-number c) 0 most_frames n (omega arith) (omega arith))
-    ∙ elim (c n) as (λ o. option_map (λ (p : Piece). p.bytes) (option_map (λ (bytes : List ℕ). record { number = n; bytes = bytes }) o) ≡ o)
-    [ None ↦ refl | Some b ↦ refl ]
+bytes_by c n l = grind (arith, look-filter_map number_of (piece_at c) (piece_at-number c) 0 most_frames n (omega arith) (omega arith))
 
 pub bytes_by-past : (c : ℕ → Option (List ℕ)) (n : ℕ) → most_frames ≤ n → bytes_in (pieces_by c) n ≡ None
-bytes_by-past c n l =
-    ap (option_map (λ (p : Piece). p.bytes))
-    (find-none (λ (p : Piece). p.number == n) (pieces_by c)
-    (all-map (λ (p : Piece). p.number < most_frames) (λ (p : Piece). (p.number == n) ≡ false) (pieces_by c)
-    (λ p u. ne_eqb p.number n (λ e. omega (arith, u, e))) (pieces_by-numbers c)))
+bytes_by-past c n l = grind (arith, find-none, all-map, pieces_by-numbers)
 
 -- ---- what is kept of a group
 
@@ -122,9 +104,7 @@ AreNumbered g = AllByRecursion (λ (f : Frame). f.number < most_frames) g
 
 carried-past : (g : List Frame) (n : ℕ) → AreNumbered g → most_frames ≤ n → carried g n ≡ None
 carried-past [] n all l = refl
-carried-past (f ∷ g) n all l =
-    let other : f.number ≡ n → ⊥ = λ e. omega (arith, all.0, e) in
-    ap (λ b. cond b (Some f.bytes) (carried g n)) (ne_eqb f.number n other) ∙ carried-past g n all.1 l
+carried-past (f ∷ g) n all l = grind (arith, carried-past g n all.1 l)
 
 pub pieces_of-rise : (g : List Frame) → Rise number_of 0 (pieces_of g)
 unfolding pieces_of
@@ -136,11 +116,7 @@ pieces_of-numbers g = pieces_by-numbers (carried g)
 
 bytes_in-pieces : (g : List Frame) (n : ℕ) → AreNumbered g → bytes_in (pieces_of g) n ≡ carried g n
 unfolding pieces_of
-bytes_in-pieces g n all = by (cases_lt n most_frames)
-  where
-    by : (n < most_frames) ⊎ (most_frames ≤ n) → bytes_in (pieces_of g) n ≡ carried g n
-    by (inl l) = bytes_by (carried g) n l
-    by (inr l) = bytes_by-past (carried g) n l ∙ sym (carried-past g n all l)
+bytes_in-pieces g n all = grind (arith, cases_lt n most_frames, bytes_by, bytes_by-past, carried-past)
 
 -- what is kept of a group carries what the group does
 pub carried-kept : (k : Key) (g : List Frame) → AreNumbered g → carried (held_of (group_of k g)) ≡ carried g
@@ -154,8 +130,7 @@ pieces_of-some [] all some = absurd (omega (arith, some))
 pieces_of-some (f ∷ g) all some = by (pieces_of (f ∷ g)) (bytes_in-pieces (f ∷ g) f.number all)
   where
     by : (ps : List Piece) → bytes_in ps f.number ≡ carried (f ∷ g) f.number → 0 < length ps
-    by [] e =
-        absurd (false≢true (ap is_some e ∙ has_number-cons f g f.number ∙ or_left _ _ (eq-eqb f.number f.number refl)))
+    by [] e = grind arith
     by (p ∷ ps) e = omega arith
 
 pub first-kept : (k : Key) (g : List Frame) → AreNumbered g → 0 < length g → first (held_of (group_of k g)) ≡ first g
@@ -173,22 +148,13 @@ pieces-held o ps rise small =
   where
     by : (n : ℕ) (q : Option Piece) → piece_in ps n ≡ q
         → option_map (λ (bytes : List ℕ). record { number = n; bytes = bytes }) (option_map (λ (p : Piece). p.bytes) q) ≡ q
-    by n None e = refl
-    by n (Some p) e =
-        let is : p.number ≡ n = eqb-true p.number n (find-passes (λ (p : Piece). p.number == n) ps p e) in
-        λ i. Some (record { number = sym is i; bytes = p.bytes })
+    by n q e = grind (arith, find-passes)
 
     same : (n : ℕ) → piece_at (carried (held_frames o ps)) n ≡ piece_in ps n
-    same n =
-        ap (option_map (λ (bytes : List ℕ). record { number = n; bytes = bytes })) (carried-held o 0 ps n rise)
-        ∙ by n (piece_in ps n) refl
+    same n = grind (arith, carried-held o 0 ps n rise, by n (piece_in ps n) refl)
 
 pub group_of-held : (o : Group) → IsOpen o → group_of o.key (held_of o) ≡ o
-group_of-held o is = λ i. record {
-  first = first-held o o.pieces is.nonempty i;
-  key = o.key;
-  pieces = pieces-held o o.pieces is.rise is.numbers i;
-}
+group_of-held o is = grind (arith, first-held, pieces-held)
 
 module _ (ends : EndTest) (is_ending : IsEnding ends) where
   so_far-pieces : (o : Group) (least : ℕ) (p : Piece) (ps : List Piece) → Rise number_of least (p ∷ ps) → so_far ends (held_frames o (p ∷ ps)) ≡ Some (held_frames o (p ∷ ps))

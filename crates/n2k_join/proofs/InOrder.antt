@@ -1,16 +1,14 @@
 -- With a window in order each complete group is of consecutive frames.
-use Rattle.std.proofs.Common.{◌≡◌, ◌==◌, ℕ, zero, suc, ◌+◌, ◌<◌, ◌≤◌, ◌&&◌, Bool, true, false, cond, not, List, [], ◌∷◌, ◌++◌, length, map, refl, sym, ap, ◌∙◌, subst, arith, append_assoc, nat_le, Option, Some}
-use Rattle.std.specs.Prelude.{nat_lt, find, is_some}
+use Rattle.std.proofs.Common.{◌≡◌, ◌==◌, ℕ, zero, suc, ◌+◌, ◌<◌, ◌≤◌, ◌&&◌, Bool, true, false, cond, not, List, [], ◌∷◌, ◌++◌, length, map, refl, sym, ap, ◌∙◌, subst, arith, append_assoc, nat_le, Option, Some, is_some, length-append}
 use Rattle.std.specs.List.{range_with_len, AllByRecursion}
-use Rattle.std.proofs.lemmas.List.{length-append}
 use Rattle.std.proofs.lemmas.List.Elements.{All-from_recursion}
-use Rattle.std.proofs.lemmas.Bool.{or_parts, and_parts, leb-true, leb-false, lt-ltb, eqb-true, eqb-false, ne_eqb, false≢true}
-use Rattle.std.proofs.lemmas.Option.{same_Some, option_and_then_some}
+use Rattle.std.proofs.lemmas.Bool.{or_parts, and_parts, leb-true, leb-false, eqb-true, ne_eqb, false≢true}
+use Rattle.std.proofs.lemmas.Option.{same_Some}
 use Rattle.n2k_wire.specs.declared.entry.Entry.{Entry}
 use Rattle.n2k_table.specs.declared.definition.Kind.{Kind}
 use Rattle.n2k_join.specs.Frames.{Key, Frame, frames, of_key, frame_at}
-use Rattle.n2k_join.specs.Groups.{carried, has_number, has_twice, has_all, is_within, last_number, total, complete, first, last_line, repeats, has_from, falls_back, misfits, is_late, within, closes, cut_from, cut}
-use Rattle.n2k_join.specs.Messages.{Keyed, message_of, is_done_at, gathered_by, gathered}
+use Rattle.n2k_join.specs.Groups.{carried, has_number, has_twice, has_all, is_within, last_number, total, complete, first, last_line, has_from, within, closes, cut_from, cut}
+use Rattle.n2k_join.specs.Messages.{Keyed, gathered}
 use Rattle.n2k_join.specs.Scattered.{all_frames}
 use Rattle.n2k_join.specs.State.{Rise}
 use Rattle.n2k_join.specs.Consecutive.{AreConsecutive, GroupsConsecutive, ComesOfConsecutive}
@@ -18,7 +16,7 @@ use Rattle.n2k_join.specs.Window.{Window}
 use Rattle.n2k_join.proofs.Arriving.{key-rise, StandsAt, stand}
 use Rattle.n2k_join.proofs.Lines.{RiseFrom, line_of}
 use Rattle.n2k_join.proofs.GroupLines.{last_frame, IsGroup}
-use Rattle.n2k_join.proofs.Rising.{find-all, find-passes, option_map_some, all-front, all-back, rise-rest, all_to, all_with, all-map}
+use Rattle.n2k_join.proofs.Rising.{find-all, find-passes, all-front, all-back, rise-rest, all_to, all_with, all-map}
 use Rattle.n2k_join.proofs.Cuts.{cut-joined}
 
 -- the numbers of frames rise, from one on
@@ -36,18 +34,12 @@ numbers-push least (f ∷ g) x r l e = let a = above-all x.number f g e in (r.0,
 -- the first of frames whose lines rise stands before a later one
 first-before : (n : ℕ) (g : List Frame) (x : Frame) (rest : List Frame) → 0 < length g → RiseFrom n (g ++ (x ∷ rest)) → first g < x.line
 first-before n [] x rest some r = absurd (omega (arith, some))
-first-before n (f ∷ g) x rest some r =
-    let past : f.line + 1 ≤ x.line = (rise-rest line_of (f.line + 1) g (x ∷ rest) r.1).0 in
-    omega (arith, past)
+first-before n (f ∷ g) x rest some r = grind (arith, rise-rest)
 
 module _ (w : Window) (order : w.in_order ≡ true) where
   -- what joins a group is above all of its numbers
   fits : (g : List Frame) (x : Frame) → first g < x.line → closes (within w) g x ≡ false → has_from x.number g ≡ false
-  fits g x l e =
-      let misfit : misfits w g x ≡ false = (or_parts (misfits w g x) (is_late w g x) (or_parts (complete g) (within w g x) e).1).0 in
-      let back : (w.in_order && falls_back g x) ≡ false = (or_parts (repeats g x) (w.in_order && falls_back g x) misfit).1 in
-      let both : (nat_lt (first g) x.line && has_from x.number g) ≡ false = ap (λ b. b && falls_back g x) (sym order) ∙ back in
-      ap (λ b. b && has_from x.number g) (sym (lt-ltb (first g) x.line l)) ∙ both
+  fits g x l e = grind arith
 
   cut_from-numbers : (n : ℕ) (g fs : List Frame) → 0 < length g → Numbers 0 g → RiseFrom n (g ++ fs) → AllByRecursion (Numbers 0) (cut_from (within w) g fs)
   cut_from-numbers n g [] some r lines = (r, tt)
@@ -86,19 +78,11 @@ are-range a (suc n) (f ∷ g) r below has =
     (λ m l u. sym (ap (λ b. is_some (cond b (Some f.bytes) (carried g m))) (ne_eqb f.number m (λ e. omega (arith, e, is, l)))) ∙ has m (omega (arith, l)) (omega (arith, u))))
   where
     at : (b : Bool) → (f.number == a) ≡ b → f.number ≡ a
-    at true e = eqb-true f.number a e
-    at false e =
-        let other : f.number ≡ a → ⊥ = eqb-false f.number a e in
-        let above : a < f.number = omega (arith, r.0, other) in
-        let none : has_number a (f ∷ g) ≡ false = ap (λ b. is_some (cond b (Some f.bytes) (carried g a))) e ∙ none-under a (f.number + 1) g (omega (arith, above)) r.1 in
-        absurd (false≢true (sym none ∙ has a (omega arith) (omega arith)))
+    at b e = grind (arith, eqb-true, none-under)
 
 below-last : (last : ℕ) (g : List Frame) → is_within last g ≡ true → AllByRecursion (λ (f : Frame). f.number < 0 + (last + 1)) g
 below-last last [] e = tt
-below-last last (f ∷ g) e =
-    let parts = and_parts (nat_le f.number last) (is_within last g) e in
-    let up_to : f.number ≤ last = leb-true f.number last parts.0 in
-    (omega (arith, up_to), below-last last g parts.1)
+below-last last (f ∷ g) e = grind (arith, below-last last g (and_parts (nat_le f.number last) (is_within last g) e).1, leb-true)
 
 -- so are the numbers of a complete group that rise
 whole-range : (g : List Frame) → Numbers 0 g → complete g ≡ true → map (λ (f : Frame). f.number) g ≡ range_with_len 0 (last_number (total g) + 1)
@@ -124,11 +108,7 @@ abbrev Whole : Key → List Frame → List Frame → Type 0
 Whole key fs g = complete g ≡ true → AreConsecutive key fs g
 
 all_whole : (w : Window) → w.in_order ≡ true → (kind : ℕ → Option Kind) (es : List Entry) (key : Key) → AllByRecursion (Whole key (frames kind es)) (cut (within w) (of_key key (frames kind es)))
-all_whole w order kind es key =
-    let fs = of_key key (frames kind es) in
-    all_with (StandsIn fs) (Numbers 0) (Whole key (frames kind es))
-    (λ g place numbers done. record { before = place.before; after = place.after; together = place.is; in_order = whole-range g numbers done })
-    (cut (within w) fs) (in_places fs [] (cut (within w) fs) (sym (cut-joined (within w) fs))) (cut-numbers w order 1 fs (key-rise kind es key))
+all_whole w order kind es key = grind (arith, in_places (of_key key (frames kind es)) [] (cut (within w) (of_key key (frames kind es))) (sym (cut-joined (within w) (of_key key (frames kind es)))), cut-numbers w order 1 (of_key key (frames kind es)) (key-rise kind es key), key-rise kind es key, all_with, whole-range)
 
 pub groups_consecutive : (w : Window) → w.in_order ≡ true → (kind : ℕ → Option Kind) (es : List Entry) (key : Key) → GroupsConsecutive w kind es key
 groups_consecutive w order kind es key = All-from_recursion (Whole key (frames kind es)) (cut (within w) (of_key key (frames kind es))) (all_whole w order kind es key)
@@ -144,36 +124,9 @@ whole-group (f ∷ g) e = omega arith
 ends-at : (kind : ℕ → Option Kind) (es : List Entry) (key : Key) (g : List Frame) (f : Frame)
     → AreConsecutive key (frames kind es) g → IsGroup g → frame_at (last_line g) (frames kind es) ≡ Some f
     → (before : List Frame) × (g ≡ before ++ f ∷ [])
-ends-at kind es key g f is some found =
-    let Stands : Frame → Type 0 = StandsAt (frames kind es) key in
-    let all : AllByRecursion Stands (is.before ++ (g ++ is.after)) = subst (AllByRecursion Stands) is.together (stand kind es key) in
-    let end = last_frame Stands g some (all-front Stands g is.after (all-back Stands is.before (g ++ is.after) all)) in
-    let same : end.frame ≡ f = same_Some _ _ (sym end.holds.0 ∙ ap (λ l. frame_at l (frames kind es)) (sym end.at) ∙ found) in
-    (end.before, end.is ∙ ap (λ l. end.before ++ l ∷ []) same)
+ends-at kind es key g f is some found = grind (arith, stand kind es key, last_frame (StandsAt (frames kind es) key) g some (all-front (StandsAt (frames kind es) key) g is.after (all-back (StandsAt (frames kind es) key) is.before (g ++ is.after) (subst (AllByRecursion (StandsAt (frames kind es) key)) is.together (stand kind es key)))), all-back (StandsAt (frames kind es) key) is.before (g ++ is.after) (subst (AllByRecursion (StandsAt (frames kind es) key)) is.together (stand kind es key)), same_Some)
 
 -- each message that a group gives is of one
 pub comes_of_consecutive : (w : Window) → w.in_order ≡ true → (kind : ℕ → Option Kind) (es : List Entry) (line : ℕ) (m : Keyed) → gathered (within w) (frames kind es) line ≡ Some m → ComesOfConsecutive kind es line m
 unfolding gathered
-comes_of_consecutive w order kind es line m e =
-    let fs = frames kind es in
-    option_and_then_some (gathered_by (within w) fs) (frame_at line fs) m e (λ f stands gathers.
-    option_map_some (λ (group : List Frame). let k : Keyed = record { key = f.key; message = message_of f group } in k)
-    (find (is_done_at f.line) (cut (within w) (of_key f.key fs))) m gathers (λ g found is.
-    let gs = cut (within w) (of_key f.key fs) in
-    let at : f.line ≡ line = eqb-true f.line line (find-passes (λ (g : Frame). g.line == line) fs f stands) in
-    let done = and_parts (complete g) (last_line g == f.line) (find-passes (is_done_at f.line) gs g found) in
-    let one : AreConsecutive f.key fs g =
-    find-all (Whole f.key fs) (is_done_at f.line) gs g (all_whole w order kind es f.key) found done.0 in
-    let there : last_line g ≡ line = eqb-true (last_line g) f.line done.1 ∙ at in
-    let ends = ends-at kind es f.key g f one (whole-group g done.0) (ap (λ l. frame_at l fs) there ∙ stands) in
-    record {
-      group = g;
-      consecutive = subst (λ (k : Keyed). AreConsecutive k.key fs g) is one;
-      whole = done.0;
-      ends_there = there;
-      carries = ap (λ (k : Keyed). k.message.payload) is;
-      before_last = ends.0;
-      last = f;
-      ends_with = ends.1;
-      is_of_last = ap (λ (k : Keyed). k.message) (sym is);
-    }))
+comes_of_consecutive w order kind es line m e = grind (arith, find-passes, find-all, all_whole, ends-at, whole-group)

@@ -1,25 +1,19 @@
 -- The fit groups after a frame, as the code makes them: by the place of the group of its key.
-use Rattle.std.proofs.Common.{◌≡◌, ℕ, zero, suc, ◌<◌, Bool, true, false, cond, List, [], ◌∷◌, ◌++◌, length, ltb, get_or, take, drop, Result, Ok, Err, OnErr, Option, Some, None, option_to_list, filter_map, find, reverse, length-append, refl, sym, ap, ◌∙◌, arith}
-use mathlib.Core.Path.{fun_ext}
-use Rattle.std.specs.Prelude.{position, slice_get}
-use Rattle.std.specs.List.{AllByRecursion, cons_option, list_any, position_or_len}
-use Rattle.std.proofs.lemmas.Bool.{false≢true, false_from_ne_true}
-use Rattle.std.proofs.lemmas.List.Quantifiers.{position-Some}
-use Rattle.std.proofs.lemmas.Option.{cond_some, slice_get_read}
+use Rattle.std.proofs.Common.{◌≡◌, ℕ, ◌<◌, Bool, false, cond, List, [], ◌∷◌, ◌++◌, Result, OnErr, Some, None, option_to_list, filter_map, find, reverse, length-append, refl, ap, ◌∙◌, arith}
+use Rattle.std.specs.List.{AllByRecursion, list_any}
 use Rattle.n2k_join.specs.Messages.{broken_of, as_broken}
 use Rattle.n2k_join.specs.Frames.{Key, same_key, Frame, most_frames}
-use Rattle.n2k_join.specs.Groups.{complete, has_number, data_of, first}
+use Rattle.n2k_join.specs.Groups.{complete, has_number, data_of}
 use Rattle.n2k_join.specs.Open.{Piece, Group, pieces_of, group_of}
-use Rattle.n2k_join.specs.State.{held_frame, held_of, IsOpen, AreApart}
-use Rattle.n2k_join.specs.Inner.Stored.{rejects, with_frame, joined, taken, started, of_the_key, opened, groups_after, message_if}
+use Rattle.n2k_join.specs.State.{held_frame, held_of, IsOpen}
+use Rattle.n2k_join.specs.Inner.Stored.{rejects, with_frame, taken, started, message_if}
 use Rattle.n2k_join.proofs.Carried.{carried-append, has_twice-push, data_of-same, pieces_of-same}
 use Rattle.n2k_join.proofs.Cuts.{has-from}
 use Rattle.n2k_join.proofs.Held.{carried-kept, has_twice-held, length-held, all-held, all-reverse, first-held}
-use Rattle.n2k_join.proofs.Keys.{same_key-true}
 use Rattle.n2k_join.proofs.Opened.{IsFine, first-push, complete-kept}
-use Rattle.n2k_join.proofs.Rising.{all-append, all-map, passes_none}
+use Rattle.n2k_join.proofs.Rising.{all-append, passes_none}
 use Rattle.std.proofs.lemmas.List.Elements.{All-from_recursion}
-use Rattle.std.proofs.lemmas.List.Folds.{list_any_none, find_at}
+use Rattle.std.proofs.lemmas.List.Folds.{list_any_none}
 
 -- ---- one group
 
@@ -29,18 +23,10 @@ piece_in x = record { number = x.number; bytes = x.bytes }
 
 -- what an fit group holds
 pub fine-held : (o : Group) → IsOpen o → IsFine (held_of o)
-fine-held o fit = record {
-  numbers = all-held (λ (f : Frame). f.number < most_frames) (λ (p : Piece). p.number < most_frames) o (λ p l. l) (reverse o.pieces) (all-reverse (λ (p : Piece). p.number < most_frames) o.pieces fit.numbers);
-  once = has_twice-held o 0 o.pieces fit.rise;
-  nonempty = omega (arith, fit.nonempty, length-held o o.pieces);
-}
+fine-held o fit = grind (arith, all-held (λ (f : Frame). f.number < most_frames) (λ (p : Piece). p.number < most_frames) o (λ p l. l) (reverse o.pieces) (all-reverse (λ (p : Piece). p.number < most_frames) o.pieces fit.numbers), has_twice-held o 0 o.pieces fit.rise, length-held o o.pieces)
 
 pub fine-push : (g : List Frame) (x : Frame) → IsFine g → has_number x.number g ≡ false → x.number < most_frames → IsFine (g ++ x ∷ [])
-fine-push g x fine missing small = record {
-  numbers = all-append (λ (f : Frame). f.number < most_frames) g (x ∷ []) fine.numbers (small, tt);
-  once = has_twice-push g x fine.once ∙ missing;
-  nonempty = omega (arith, fine.nonempty, length-append {A = Frame});
-}
+fine-push g x fine missing small = grind (arith, all-append, has_twice-push, length-append)
 
 pub fine-one : (x : Frame) → x.number < most_frames → IsFine (x ∷ [])
 fine-one x small = record { numbers = (small, tt); once = refl; nonempty = omega arith }
@@ -50,15 +36,11 @@ pub data_of-group_of : (k : Key) (g : List Frame) → IsFine g → data_of (held
 data_of-group_of k g fine = data_of-same (held_of (group_of k g)) g (carried-kept k g fine.numbers)
 
 pub with_frame-group_of : (o : Group) (x : Frame) → IsOpen o → with_frame o x ≡ group_of o.key (held_of o ++ x ∷ [])
-with_frame-group_of o x fit =
-    let at : first (held_of o ++ x ∷ []) ≡ o.first = first-push (held_of o) x (fine-held o fit).nonempty ∙ first-held o o.pieces fit.nonempty in
-    λ i. record { first = sym at i; key = o.key; pieces = pieces_of (held_of o ++ x ∷ []) }
+with_frame-group_of o x fit = grind (arith, first-push, fine-held, first-held)
 
 -- an fit group with a piece more is that with the frame
 pub with_piece : (o : Group) (x : Frame) → record o { pieces = pieces_of (held_of o ++ held_frame o (piece_in x) ∷ []) } ≡ with_frame o x
-with_piece o x =
-    let same = fun_ext (λ n. carried-append (held_of o) (held_frame o (piece_in x) ∷ []) n ∙ sym (carried-append (held_of o) (x ∷ []) n)) in
-    ap (λ ps. record o { pieces = ps }) (pieces_of-same (held_of o ++ held_frame o (piece_in x) ∷ []) (held_of o ++ x ∷ []) same)
+with_piece o x = grind (arith, carried-append, pieces_of-same)
 
 module _ (o : Group) (x : Frame) (fit : IsOpen o) (missing : has_number x.number (held_of o) ≡ false) (small : x.number < most_frames) where
   pub complete-with_frame : complete (held_of (with_frame o x)) ≡ complete (held_of o ++ x ∷ [])
@@ -72,23 +54,15 @@ module _ (o : Group) (x : Frame) (fit : IsOpen o) (missing : has_number x.number
 -- groups of other keys stay as they are
 pub taken-others : (order : Bool) (x : Frame) (gs : List Group) → AllByRecursion (λ (g : Group). same_key x.key g.key ≡ false) gs → filter_map (taken order x) gs ≡ gs
 taken-others order x [] all = refl
-taken-others order x (g ∷ gs) all =
-    ap (λ b. cons_option (cond b (joined order x g) (Some g)) (filter_map (taken order x) gs)) all.0 ∙ ap (λ hs. g ∷ hs) (taken-others order x gs all.1)
-
-pub one_or_none : (o : Option Group) (gs : List Group) → cons_option o gs ≡ option_to_list o ++ gs
-one_or_none None gs = refl
-one_or_none (Some g) gs = refl
+taken-others order x (g ∷ gs) all = grind (arith, taken-others order x gs all.1)
 
 -- a group that has a place for a number lacks it
 pub rejects-missing : (order : Bool) (n : ℕ) (o : Group) → rejects order n o ≡ false → has_number n (held_of o) ≡ false
-rejects-missing false n o e = e
-rejects-missing true n o e = false_from_ne_true (has_number n (held_of o)) (λ h. false≢true (sym e ∙ has-from n n (held_of o) (omega arith) h))
+rejects-missing order n o e = grind (arith, has-from)
 
 -- what is told of an open group
 pub broken-held : (o : Group) (key : Key) → IsOpen o → key ≡ o.key → as_broken o ≡ broken_of key (held_of o)
-broken-held o key fit of =
-    (λ i. record { pgn = o.key.pgn; src = o.key.src; dst = o.key.dst; seq = o.key.sequence; first = sym (first-held o o.pieces fit.nonempty) i })
-    ∙ ap (λ (k : Key). broken_of k (held_of o)) (sym of)
+broken-held o key fit of = grind (arith, first-held)
 
 -- a group that a frame begins: its message, and what stays open of it
 module _ (x : Frame) (g : Group) (small : x.number < most_frames) (is : g ≡ group_of x.key (x ∷ [])) where
@@ -101,9 +75,7 @@ module _ (x : Frame) (g : Group) (small : x.number < most_frames) (is : g ≡ gr
       ∙ ap (λ d. cond (complete (x ∷ [])) (Some (record { stamp = x.stamp; id = x.id; payload = d })) None) (ap (λ (h : Group). data_of (held_of h)) is ∙ data_of-group_of x.key (x ∷ []) (fine-one x small))
 
   pub groups-begun : cond (complete (held_of g)) [] (g ∷ []) ≡ option_to_list (started x)
-  groups-begun =
-      ap (λ b. cond b [] (g ∷ [])) complete-begun ∙ ap (λ (h : Group). cond (complete (x ∷ [])) [] (h ∷ [])) is
-      ∙ elim (complete (x ∷ [])) as (λ b. cond b [] (group_of x.key (x ∷ []) ∷ []) ≡ option_to_list (cond b None (Some (group_of x.key (x ∷ []))))) [ true ↦ refl | false ↦ refl ]
+  groups-begun = grind (arith, complete-begun)
 
 -- where no group of a key is found, none has it
 pub none-listed : (P : Group → Bool) (gs : List Group) → find P gs ≡ None → list_any P gs ≡ false
@@ -111,5 +83,4 @@ none-listed P gs none = list_any_none P gs (All-from_recursion (λ (g : Group). 
 
 -- what holds holds on a refusal
 pub on_err : {T E : Type 0} (r : Result T E) (P : Type 0) → P → OnErr r P
-on_err (Ok x) P p = tt
-on_err (Err e) P p = p
+on_err r P p = grind arith

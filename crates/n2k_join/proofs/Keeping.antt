@@ -1,25 +1,20 @@
 -- The step leads from a state that a join can have to another.
-use Rattle.std.proofs.Common.{◌≡◌, ◌==◌, ◌≤◌, ◌<◌, ◌+◌, ◌%◌, ℕ, suc, zero, Bool, true, false, cond, not, List, [], ◌∷◌, ◌++◌, length, map, refl, sym, ap, ◌∙◌, subst, arith, append_assoc, Option, Some, None, option_map, option_to_list, drop, ◌-◌, filter_map}
-use mathlib.Core.Logic.{◌⊎◌, inl, inr}
-use Rattle.std.specs.Prelude.{is_some, slice_index_or, slice_index}
+use Rattle.std.proofs.Common.{◌≡◌, ◌≤◌, ◌<◌, ◌+◌, ◌%◌, ℕ, suc, zero, Bool, true, List, [], ◌∷◌, ◌++◌, length, map, refl, sym, ap, subst, arith, append_assoc, Option, Some, None, option_to_list, drop, ◌-◌, filter_map, ◌⊎◌, inl, inr, is_some, slice_index_or, slice_index}
 use Rattle.std.specs.List.{range_with_len, AllByRecursion}
 use Rattle.std.proofs.lemmas.List.{append-nil, length-append, length-map}
 use Rattle.std.proofs.lemmas.Bool.{eqb-true, eq-eqb, leb-true, ltb-true, not-true, or_cases, cases_lt, false≢true}
-use Rattle.std.proofs.lemmas.Option.{none-some, same_Some}
-use Rattle.n2k_wire.specs.declared.entry.BadCause.{BadCause}
-use Rattle.n2k_wire.specs.declared.entry.BadCause.TheVariants as causes
+use Rattle.std.proofs.lemmas.Option.{none-some}
 use Rattle.n2k_wire.specs.declared.entry.Entry.{Entry}
-use Rattle.n2k_wire.specs.declared.entry.Entry.TheVariants as entries
 use Rattle.n2k_wire.specs.Entry.{IsEntry}
 use Rattle.n2k_wire.specs.Packet.{PacketParts, IsPacketParts, longest_message}
 use Rattle.n2k_table.specs.declared.definition.Kind.{Kind}
-use Rattle.n2k_table.specs.declared.definition.Kind.TheVariants.{Single, Fast}
+use Rattle.n2k_table.specs.declared.definition.Kind.TheVariants.{Fast}
 use Rattle.n2k_join.specs.Counts.{most_lines}
-use Rattle.n2k_join.specs.Frames.{Key, Frame, most_frames, filler, has_total, is_fast_payload, frame_with, frame_in}
+use Rattle.n2k_join.specs.Frames.{Key, Frame, most_frames, filler, is_fast_payload, frame_with, frame_in}
 use Rattle.n2k_join.specs.Groups.{EndTest, within, carried}
 use Rattle.n2k_join.specs.Open.{Piece, Group, piece_at, pieces_of, begun_at, open_groups, is_waiting, waiting, ended}
-use Rattle.n2k_join.specs.Messages.{alone, single_by, whole_by, cause_in, fast_cause, as_broken, is_unknown}
-use Rattle.n2k_join.specs.State.{State, state, Given, held_of, held, next_line, overdue, step_frames, step_given, step_groups, step_after, counts_after, one_if, AreCounts, IsKey, IsPiece, HasParts, Rise, AreOpen, IsState, AreFast, AreWaiting}
+use Rattle.n2k_join.specs.Messages.{alone, cause_in, as_broken, is_unknown}
+use Rattle.n2k_join.specs.State.{State, state, Given, held_of, held, next_line, overdue, step_frames, step_given, step_groups, step_after, one_if, IsKey, IsPiece, HasParts, Rise, AreOpen, IsState, AreFast, AreWaiting}
 use Rattle.n2k_join.specs.Window.{Window, IsWindow}
 use Rattle.n2k_join.proofs.BrokenGroups.{told_if, breaks}
 use Rattle.n2k_join.proofs.Cuts.{IsEnding, so_far, within-ends}
@@ -127,56 +122,30 @@ module _ (ends : EndTest) (is_ending : IsEnding ends) where
 
 -- the frame of an entry is of a fast PGN
 frame_in-fast : (kind : ℕ → Option Kind) (line : ℕ) (e : Entry) (x : Frame) → frame_in kind line e ≡ Some x → kind x.key.pgn ≡ Some Fast
-frame_in-fast kind line e x is =
-    let of = frame_of_packet kind line e x is in
-    ap (λ (f : Frame). kind f.key.pgn) (sym of.is) ∙ of.fast
+frame_in-fast kind line e x is = grind (arith, frame_of_packet kind line e x is)
 
 -- ---- a log with one frame more
 
 log-wider : (n : ℕ) (fs : List Frame) → IsLog n fs → IsLog (n + 1) fs
-log-wider n fs log = record {
-  lines = all-map (λ (f : Frame). (1 ≤ f.line) × (f.line ≤ n)) (λ (f : Frame). (1 ≤ f.line) × (f.line ≤ n + 1)) fs (λ f h. (h.0, omega (arith, h.1))) log.lines;
-  numbers = log.numbers;
-  keys = log.keys;
-}
+log-wider n fs log = grind (arith, all-map)
 
 log-push : (n : ℕ) (fs : List Frame) (x : Frame) → IsLog n fs → x.line ≡ n + 1 → x.number < most_frames → IsLog (n + 1) (fs ++ x ∷ [])
-log-push n fs x log at number = record {
-  lines = all-append _ fs (x ∷ []) (log-wider n fs log).lines ((omega (arith, at), omega (arith, at)), tt);
-  numbers = all-append _ fs (x ∷ []) log.numbers (number, tt);
-  keys = all-append _ fs (x ∷ [])
-      (all-map _ (λ (f : Frame). key_at f.line (fs ++ x ∷ []) ≡ Some f.key) fs
-      (λ f h. ap (option_map (λ (f : Frame). f.key)) (at_line f.line fs x (λ e. omega (arith, h.0.1, at, e))) ∙ h.1)
-      (all-zip (λ (f : Frame). (1 ≤ f.line) × (f.line ≤ n)) (λ (f : Frame). key_at f.line fs ≡ Some f.key) fs log.lines log.keys))
-      (ap (option_map (λ (f : Frame). f.key)) (at_last n fs x log (omega (arith, at))), tt);
-}
+log-push n fs x log at number = grind (arith, all-zip (λ (f : Frame). (1 ≤ f.line) × (f.line ≤ n)) (λ (f : Frame). key_at f.line fs ≡ Some f.key) fs log.lines log.keys, at_last n fs x log (omega (arith, at)), all-append, all-map, at_line)
 
 -- ---- the step
 
 -- a line gives at most one of a message, a cause and an unknown PGN
 one_of : (kind : ℕ → Option Kind) (e : Entry) → one_if (is_some (alone kind e)) + one_if (is_some (cause_in kind e)) + one_if (is_unknown kind e) ≤ 1
-one_of kind entries.Skip = omega arith
-one_of kind (entries.Bad cause) = omega arith
-one_of kind (entries.Whole packet) = grind (arith)
-one_of kind (entries.Frame packet) = grind (arith)
+one_of kind e = grind arith
 
 one-le : (b : Bool) → one_if b ≤ 1
-one-le true = omega arith
-one-le false = omega arith
+one-le b = grind arith
 
 -- What a line gives, in numbers: at most one of a message, a cause and an unknown PGN; and the groups that it breaks and
 -- those that it leaves are one more at most than there were.
 pub record GivesOnce (kind : ℕ → Option Kind) (s : State) (e : Entry) (gives : Given) (leaves : List Group) : Type 0 where
   pub one : one_if (is_some gives.message) + one_if (is_some gives.cause) + one_if (is_unknown kind e) ≤ 1
   pub groups : length gives.broken + length leaves ≤ length s.groups + 1
-
-counted-kept : (kind : ℕ → Option Kind) (s : State) (e : Entry) (gives : Given) (leaves : List Group) → AreCounts s.counts → s.counts.held ≡ length s.groups → s.counts.lines < most_lines → GivesOnce kind s e gives leaves
-    → AreCounts (counts_after kind s.counts e gives (length leaves))
-counted-kept kind s e gives leaves are held below once = record {
-  lines = omega (arith, below);
-  given = omega (arith, are.given, once.one);
-  broken = omega (arith, are.broken, held, once.groups);
-}
 
 module _ (kind : ℕ → Option Kind) (s : State) (e : Entry) (is : IsState s) where
   window-some : 0 < s.window.lines
@@ -226,14 +195,7 @@ module _ (kind : ℕ → Option Kind) (s : State) (e : Entry) (is : IsState s) w
   -- after one more line the state is again one that a join can have
   pub step-keeps : IsEntry e → s.counts.lines < most_lines → IsState (step_after kind s e)
   unfolding step_after waiting
-  step-keeps valid below = record {
-    window = is.window;
-    counted = counted-kept kind s e (step_given kind s e) (step_groups kind s e) is.counted is.held below step-once;
-    held = refl;
-    groups = open_within-open s.window (next_line s) window-some (step_frames kind s e) step-log;
-    parts = all-filter HasParts (is_waiting s.window (next_line s)) (open_groups (within s.window) (next_line s) (step_frames kind s e))
-        (open_groups-parts (within s.window) (within-ends s.window window-some) (next_line s) (step_frames kind s e) (step-parts valid));
-  }
+  step-keeps valid below = grind (arith, step-once, open_within-open, step-log, all-filter, open_groups-parts, within-ends, step-parts)
 
 -- and no group's window has ended
 pub step-waits : (kind : ℕ → Option Kind) (s : State) (e : Entry) → AreWaiting (step_after kind s e)
@@ -264,13 +226,7 @@ few-open s is wait = by (cases_lt s.counts.lines s.window.lines)
 -- before the first line
 pub state-new : (id : List ℕ) (w : Window) (kind : ℕ → Option Kind) → IsWindow w.lines → IsState (state id w kind [])
 unfolding open_groups waiting
-state-new id w kind is = record {
-  window = is;
-  counted = record { lines = omega arith; given = omega arith; broken = omega arith };
-  held = refl;
-  groups = record { each = tt; rise = tt; begun = tt; apart = tt };
-  parts = tt;
-}
+state-new id w kind is = grind arith
 
 -- groups of fast PGNs stay such
 pub step-fast : (kind : ℕ → Option Kind) (s : State) (e : Entry) → 0 < s.window.lines → AreFast kind s.groups → AreFast kind (step_after kind s e).groups

@@ -1,9 +1,8 @@
 -- Two lists with equally many items of each key are equally long.
-use Rattle.std.proofs.Common.{◌≡◌, ℕ, zero, suc, ◌+◌, ◌≤◌, Bool, true, false, cond, not, List, [], ◌∷◌, length, refl, ap, subst, ◌∙◌, sym, arith}
-use Rattle.std.specs.Prelude.{filter}
+use Rattle.std.proofs.Common.{◌≡◌, ℕ, zero, suc, ◌+◌, ◌≤◌, Bool, true, false, cond, not, List, [], ◌∷◌, length, refl, ap, ◌∙◌, sym, arith, filter}
 use Rattle.std.proofs.lemmas.List.Filters.{length-filter_both}
 use Rattle.n2k_join.specs.Frames.{Key, same_key}
-use Rattle.n2k_join.proofs.Keys.{same_key-true, same_key-refl, same_key-sym}
+use Rattle.n2k_join.proofs.Keys.{same_key-true, same_key-refl}
 
 -- the items of a key, and the others
 abbrev of : {X : Type 0} → (X → Key) → Key → List X → List X
@@ -21,18 +20,7 @@ none-others key k (x ∷ xs) = grind (arith, none-others key k xs)
 
 all-others : {X : Type 0} (key : X → Key) (k c : Key) (xs : List X) → same_key k c ≡ false → of key k (others key c xs) ≡ of key k xs
 all-others key k c [] other = refl
-all-others key k c (x ∷ xs) other = by_test (same_key k (key x)) refl (all-others key k c xs other)
-  where
-    apart : same_key k (key x) ≡ true → same_key c (key x) ≡ false
-    apart e = ap (same_key c) (sym (same_key-true k (key x) e)) ∙ (same_key-sym c k ∙ other)
-
-    skipped : (b : Bool) → same_key k (key x) ≡ false → of key k (others key c xs) ≡ of key k xs → of key k (cond b (x ∷ others key c xs) (others key c xs)) ≡ of key k xs
-    skipped true e ih = rw e ih
-    skipped false e ih = ih
-
-    by_test : (b : Bool) → same_key k (key x) ≡ b → of key k (others key c xs) ≡ of key k xs → of key k (cond (not (same_key c (key x))) (x ∷ others key c xs) (others key c xs)) ≡ cond b (x ∷ of key k xs) (of key k xs)
-    by_test true e ih = rw (apart e, e) (ap (λ l. x ∷ l) ih)
-    by_test false e ih = skipped (not (same_key c (key x))) e ih
+all-others key k c (x ∷ xs) other = grind (arith, all-others key k c xs other, same_key-true)
 
 -- where each key has equally many
 pub same_length : {X Y : Type 0} (key : X → Key) (key' : Y → Key) (n : ℕ) (xs : List X) (ys : List Y) → length xs ≤ n → ((k : Key) → length (of key k xs) ≡ length (of key' k ys)) → length xs ≡ length ys
@@ -51,9 +39,5 @@ same_length key key' (suc n) (x ∷ xs) ys short each =
     omega arith
   where
     by_key : (k : Key) (b : Bool) → same_key k (key x) ≡ b → others key (key x) (x ∷ xs) ≡ others key (key x) xs → length (of key k (others key (key x) xs)) ≡ length (of key' k (others key' (key x) ys))
-    by_key k true e dropped =
-        let same : k ≡ key x = same_key-true k (key x) e in
-        subst (λ c. length (of key c (others key (key x) xs)) ≡ length (of key' c (others key' (key x) ys))) (sym same) (ap length (none-others key (key x) xs) ∙ sym (ap length (none-others key' (key x) ys)))
-    by_key k false e dropped =
-        ap (λ l. length (of key k l)) (sym dropped)
-        ∙ (ap length (all-others key k (key x) (x ∷ xs) e) ∙ (each k ∙ sym (ap length (all-others key' k (key x) ys e))))
+    by_key k true e dropped = grind (arith, same_key-true k (key x) e, none-others key (key x) xs, none-others key' (key x) ys)
+    by_key k false e dropped = grind (arith, all-others)

@@ -1,24 +1,15 @@
 -- Keys, and the frames of one.
-use Rattle.std.proofs.Common.{◌≡◌, Bool, true, false, cond, List, [], ◌∷◌, ◌++◌, refl, sym, ap, ◌∙◌}
+use Rattle.std.proofs.lemmas.Grind.{common_steps}
+use Rattle.std.proofs.Common.{arith, ◌≡◌, true, false, cond, List, [], ◌∷◌, ◌++◌, refl, sym, ap, ◌∙◌}
 use Rattle.std.specs.List.{AllByRecursion}
-use Rattle.std.proofs.lemmas.List.{append-nil}
 use Rattle.std.proofs.lemmas.List.Elements.{filter-append}
-use Rattle.std.proofs.lemmas.Bool.{and_parts, and_from, eqb-true, eq-eqb}
+use Rattle.std.proofs.lemmas.Bool.{and_from, eq-eqb}
 use Rattle.n2k_join.specs.Frames.{Key, same_key, Frame, of_key}
 use Rattle.n2k_join.proofs.Carried.{same_bool}
 
 pub same_key-true : (a b : Key) → same_key a b ≡ true → a ≡ b
 unfolding same_key
-same_key-true a b e =
-    let one = and_parts _ _ e in
-    let two = and_parts _ _ one.1 in
-    let three = and_parts _ _ two.1 in
-    λ i. record {
-      src = eqb-true a.src b.src one.0 i;
-      dst = eqb-true a.dst b.dst two.0 i;
-      pgn = eqb-true a.pgn b.pgn three.0 i;
-      sequence = eqb-true a.sequence b.sequence three.1 i;
-    }
+same_key-true a b e = grind arith
 
 pub same_key-refl : (a : Key) → same_key a a ≡ true
 unfolding same_key
@@ -32,13 +23,11 @@ same_key-sym a b = same_bool (same_key a b) (same_key b a) (λ e. same_key-from 
 
 -- one frame more of the same key
 pub of_key-same : (k : Key) (fs : List Frame) (x : Frame) → same_key k x.key ≡ true → of_key k (fs ++ x ∷ []) ≡ of_key k fs ++ x ∷ []
-of_key-same k fs x e =
-    filter-append (λ (f : Frame). same_key k f.key) fs (x ∷ []) ∙ ap (λ b. of_key k fs ++ cond b (x ∷ []) []) e
+of_key-same k fs x e = grind (arith, common_steps)
 
 -- and of another
 pub of_key-other : (k : Key) (fs : List Frame) (x : Frame) → same_key k x.key ≡ false → of_key k (fs ++ x ∷ []) ≡ of_key k fs
-of_key-other k fs x e =
-    filter-append (λ (f : Frame). same_key k f.key) fs (x ∷ []) ∙ ap (λ b. of_key k fs ++ cond b (x ∷ []) []) e ∙ append-nil (of_key k fs)
+of_key-other k fs x e = grind (arith, common_steps)
 
 pub of_key-append : (k : Key) (fs gs : List Frame) → of_key k (fs ++ gs) ≡ of_key k fs ++ of_key k gs
 of_key-append k fs gs = filter-append (λ (f : Frame). same_key k f.key) fs gs
@@ -54,8 +43,4 @@ of_key-none k (f ∷ fs) all = ap (λ b. cond b (f ∷ of_key k fs) (of_key k fs
 -- what holds of all frames holds of those of a key, and they have it
 pub of_key-keeps : (P : Frame → Type 0) (k : Key) (fs : List Frame) → AllByRecursion P fs → AllByRecursion (λ f. P f × (f.key ≡ k)) (of_key k fs)
 of_key-keeps P k [] all = tt
-of_key-keeps P k (f ∷ fs) all = by (same_key k f.key) refl (of_key-keeps P k fs all.1)
-  where
-    by : (b : Bool) → same_key k f.key ≡ b → AllByRecursion (λ f. P f × (f.key ≡ k)) (of_key k fs) → AllByRecursion (λ f. P f × (f.key ≡ k)) (cond b (f ∷ of_key k fs) (of_key k fs))
-    by true e rest = ((all.0, sym (same_key-true k f.key e)), rest)
-    by false e rest = rest
+of_key-keeps P k (f ∷ fs) all = grind (arith, of_key-keeps P k fs all.1, same_key-true)

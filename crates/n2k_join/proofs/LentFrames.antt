@@ -1,6 +1,5 @@
 -- The frames of a message, one by one.
-use Rattle.std.proofs.Common.{◌≡◌, ℕ, zero, suc, ◌+◌, ◌/◌, ◌<◌, ◌≤◌, List, [], ◌∷◌, ◌++◌, length, map, take, Option, Some, None, refl, sym, ap, ◌∙◌, append_assoc, arith}
-use Rattle.std.specs.Prelude.{slice_get}
+use Rattle.std.proofs.Common.{◌≡◌, ℕ, zero, suc, ◌+◌, ◌/◌, ◌<◌, ◌≤◌, List, [], ◌∷◌, ◌++◌, length, map, take, Option, Some, refl, sym, append_assoc, arith, slice_get}
 use Rattle.std.specs.List.{range_with_len}
 use Rattle.std.proofs.Math.Seq.{take-suc}
 use Rattle.std.proofs.lemmas.List.FromFn.{get_or-map-range_with_len, length-map-range_with_len}
@@ -32,10 +31,7 @@ single_at m s (suc n) within = absurd (omega (arith, within))
 
 pub fast_at : (m : PacketParts) (s n : ℕ) → n < length (pieces_as (Some Fast) m s) → slice_get (pieces_as (Some Fast) m s) n ≡ Some (piece m s n)
 unfolding pieces_as
-fast_at m s n within =
-    let few : n < last_piece m + 1 = omega (arith, within, count_fast m s) in
-    slice_get-get_or (map (piece m s) (range_with_len 0 (last_piece m + 1))) n m within
-    ∙ ap Some (get_or-map-range_with_len (piece m s) 0 (last_piece m + 1) n n m few (omega arith))
+fast_at m s n within = grind (arith, count_fast m s, slice_get-get_or (map (piece m s) (range_with_len 0 (last_piece m + 1))) n m within, get_or-map-range_with_len)
 
 -- they are counted
 pub are_single : (m : PacketParts) → AreFrames 0 1 (pieces_as (Some Single) m 0)
@@ -47,17 +43,12 @@ are_fast m s n small short is = record { small = small; counted = omega (arith, 
 -- and no more than this many, where none is refused
 pub few_frames : (k : Option Kind) (m : PacketParts) (s : ℕ) → length (pieces_as k m s) ≤ length m.payload / 7 + 1
 unfolding pieces_as
-few_frames None m s = omega arith
-few_frames (Some Single) m s = omega arith
-few_frames (Some Fast) m s = omega (arith, length-map-range_with_len (piece m s) 0 (last_piece m + 1))
+few_frames k m s = grind (arith, length-map-range_with_len)
 
 -- one element more of a list
 pub one_more : {A : Type 0} (xs : List A) (n : ℕ) (x : A) → slice_get xs n ≡ Some x → take (n + 1) xs ≡ take n xs ++ x ∷ []
-one_more xs n x is =
-    let next : n + 1 ≡ suc n = omega arith in
-    ap (λ k. take k xs) next ∙ take-suc xs n x (slice_get_within xs n x is) ∙ ap (λ y. take n xs ++ y ∷ []) (get_or_from_slice_get xs n x x is)
+one_more xs n x is = grind (arith, take-suc xs n x (slice_get_within xs n x is), get_or_from_slice_get xs n x x is)
 
 -- a frame was appended behind those before it
 pub pushed : (start now after frames : List PacketParts) (n : ℕ) (x : PacketParts) → slice_get frames n ≡ Some x → now ≡ start ++ take n frames → after ≡ now ++ x ∷ [] → after ≡ start ++ take (n + 1) frames
-pushed start now after frames n x is before grown =
-    grown ∙ ap (λ (ps : List PacketParts). ps ++ x ∷ []) before ∙ append_assoc start (take n frames) (x ∷ []) ∙ ap (λ (ps : List PacketParts). start ++ ps) (sym (one_more frames n x is))
+pushed start now after frames n x is before grown = grind (arith, append_assoc, one_more)

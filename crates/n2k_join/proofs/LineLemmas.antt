@@ -1,25 +1,21 @@
 -- What a line gives and leaves, as the code says it, is what the step says, where no group is overdue.
-use Rattle.std.proofs.Common.{◌≡◌, ◌<◌, ◌+◌, ◌||◌, ℕ, Bool, true, false, cond, not, List, [], ◌∷◌, ◌++◌, length, map, refl, sym, ap, ◌∙◌, subst, arith, ◌≤◌, Option, Some, None, option_map, option_to_list, IfSome, filter, filter_map}
-use Rattle.std.specs.Prelude.{is_some}
-use Rattle.std.specs.List.{AllByRecursion, cons_option}
+use Rattle.std.proofs.Common.{◌≡◌, ◌<◌, ◌+◌, ℕ, Bool, true, List, [], ◌∷◌, ◌++◌, length, map, refl, sym, ap, ◌∙◌, subst, arith, ◌≤◌, Option, Some, None, IfSome, filter_map, is_some}
+use Rattle.std.specs.List.{AllByRecursion}
 use Rattle.n2k_wire.specs.declared.entry.Entry.{Entry}
 use Rattle.n2k_table.specs.declared.definition.Kind.{Kind}
-use Rattle.n2k_join.specs.declared.step.Broken.{Broken}
 use Rattle.n2k_join.specs.declared.counts.Counts.{Counts}
 use Rattle.n2k_wire.specs.Packet.{PacketParts}
 use Rattle.n2k_table.specs.Table.{KnownParts, TableParts}
-use Rattle.n2k_join.specs.Step.{message_in, IsOwn}
+use Rattle.n2k_join.specs.Step.{message_in, IsOwn, given_of, due}
 use Rattle.n2k_join.specs.declared.step.Step.{Step}
-use Rattle.n2k_join.specs.Step.{given_of, due}
-use Rattle.n2k_join.specs.Frames.{same_key, Frame, frame_in}
-use Rattle.n2k_join.specs.Groups.{within, complete}
-use Rattle.n2k_join.specs.Messages.{message_of, as_broken, alone, cause_in, is_unknown}
+use Rattle.n2k_join.specs.Frames.{Frame, frame_in}
+use Rattle.n2k_join.specs.Groups.{within}
+use Rattle.n2k_join.specs.Messages.{as_broken, alone, cause_in, is_unknown}
 use Rattle.n2k_join.specs.Open.{Group, is_waiting, ended}
-use Rattle.n2k_join.specs.State.{State, Given, held_of, next_line, overdue, one_if, counts_after, step_after, IsOpen, AreOpen, IsState, step_given}
-use Rattle.n2k_join.specs.Inner.Stored.{rejects, with_frame, taken, started, opened, of_the_key, groups_after, message_if, gained, gives_by, leaves_by}
+use Rattle.n2k_join.specs.State.{State, Given, held_of, next_line, overdue, one_if, step_after, IsOpen, AreOpen, IsState, step_given}
+use Rattle.n2k_join.specs.Inner.Stored.{rejects, taken, opened, of_the_key, groups_after, gained, gives_by, leaves_by}
 use Rattle.n2k_join.proofs.Advanced.{advanced, taken as advanced-taken, opened as advanced-opened}
 use Rattle.n2k_join.proofs.BrokenGroups.{told_if, breaks}
-use Rattle.n2k_join.proofs.Given.{completed, message_by}
 use Rattle.n2k_join.proofs.Overdue.{one-broken}
 use Rattle.n2k_join.proofs.Rising.{find-all, all-zip, all-map}
 use Rattle.n2k_join.proofs.Steps.{StepsTo, kept, frame_message, only_frame, step-none, step-frame}
@@ -27,13 +23,6 @@ use Rattle.n2k_join.proofs.Windows.{waiting-all, waits-ends, misfits-rejects}
 use Rattle.n2k_join.specs.Window.{Window}
 use Rattle.n2k_join.specs.Counts.{most_lines}
 use Rattle.n2k_join.proofs.Expiring.{none_due}
-
--- the message of a frame and the open group of its key
-message_with : (x : Frame) (g : List Frame) (c r : Bool) → c ≡ false
-    → (let h = cond (c || r) (x ∷ []) (g ++ x ∷ []) in option_map (message_of x) (cond (complete h) (Some h) None)) ≡ cond r (message_if x (x ∷ [])) (message_if x (g ++ x ∷ []))
-message_with x g true r e = absurd cc
-message_with x g false true e = message_by x (complete (x ∷ [])) (x ∷ [])
-message_with x g false false e = message_by x (complete (g ++ x ∷ [])) (g ++ x ∷ [])
 
 -- a group that can be open, waits at a line, and began before it
 abbrev WaitsAt : Window → ℕ → Group → Type 0
@@ -44,31 +33,22 @@ rejects-at w x o fit = waits-ends w x o fit.0 fit.1 ∙ misfits-rejects w x o fi
 
 -- the message of a frame with the open group of its key, which waits
 frame-message : (w : Window) (x : Frame) (gs : List Group) (o : Option Group) → of_the_key x.key gs ≡ o → IfSome o (WaitsAt w x.line) → frame_message w x gs ≡ gained w.in_order x o
-frame-message w x gs None e fit = ap (λ o. option_map (message_of x) (completed (within w) (option_map held_of o) x)) e ∙ message_by x (complete (x ∷ [])) (x ∷ [])
-frame-message w x gs (Some o) e fit =
-    ap (λ o. option_map (message_of x) (completed (within w) (option_map held_of o) x)) e
-    ∙ ap (λ r. let h = cond (complete (held_of o) || r) (x ∷ []) (held_of o ++ x ∷ []) in option_map (message_of x) (cond (complete h) (Some h) None)) (rejects-at w x o fit)
-    ∙ message_with x (held_of o) (complete (held_of o)) (rejects w.in_order x.number o) fit.0.incomplete
+frame-message w x gs o e fit = grind (arith, rejects-at)
 
 found-fit : (w : Window) (x : Frame) (gs : List Group) → AllByRecursion (WaitsAt w x.line) gs → (o : Option Group) → of_the_key x.key gs ≡ o → IfSome o (WaitsAt w x.line)
-found-fit w x gs all None e = tt
-found-fit w x gs all (Some g) e = find-all (WaitsAt w x.line) (λ (h : Group). same_key x.key h.key) gs g all e
+found-fit w x gs all o e = grind (arith, find-all)
 
 -- groups that wait go on as the frame's number says
 same-taken : (w : Window) (x : Frame) (gs : List Group) → AllByRecursion (WaitsAt w x.line) gs → filter_map (advanced-taken (within w) x) gs ≡ filter_map (taken w.in_order x) gs
 same-taken w x [] all = refl
-same-taken w x (g ∷ gs) all =
-    ap (λ r. cons_option (cond (same_key x.key g.key) (cond r None (cond (complete (held_of g ++ x ∷ [])) None (Some (with_frame g x)))) (Some g)) (filter_map (advanced-taken (within w) x) gs)) (rejects-at w x g all.0)
-    ∙ ap (cons_option (taken w.in_order x g)) (same-taken w x gs all.1)
+same-taken w x (g ∷ gs) all = grind (arith, same-taken w x gs all.1, rejects-at)
 
 same-opened : (w : Window) (x : Frame) (o : Option Group) → IfSome o (WaitsAt w x.line) → advanced-opened (within w) x o ≡ opened w.in_order x o
-same-opened w x None fit = refl
-same-opened w x (Some o) fit = ap (λ r. cond r (started x) None) (rejects-at w x o fit)
+same-opened w x o fit = grind (arith, rejects-at)
 
 same-groups : (w : Window) (x : Frame) (gs : List Group) → AllByRecursion (WaitsAt w x.line) gs → advanced (within w) gs x ≡ groups_after w.in_order gs x
 unfolding advanced groups_after
-same-groups w x gs all =
-    (λ i. same-taken w x gs all i ++ option_to_list (same-opened w x (of_the_key x.key gs) (found-fit w x gs all (of_the_key x.key gs) refl) i))
+same-groups w x gs all = grind (arith, same-taken, same-opened, found-fit)
 
 -- where no group's window has ended, none is broken by it, and all are held
 none-overdue : (w : Window) (line : ℕ) (gs : List Group) → ended w line gs ≡ [] → AllByRecursion (λ (g : Group). is_waiting w line g ≡ true) gs
@@ -116,16 +96,9 @@ line-steps kind s e some are none_over = by (frame_in kind (next_line s) e) refl
         (ap (λ gs. advanced (within s.window) gs x) kept_is ∙ same-groups s.window x s.groups fit_x)
         (step-frame kind s e some are x found)
 
--- one group at most is told
-length-told : (o : Option Broken) → length (option_to_list o) ≡ one_if (is_some o)
-length-told None = refl
-length-told (Some b) = refl
-
 -- an entry that was taken as a message has one
 pub own_counted : (t : TableParts) (known : Option KnownParts) (own : Option PacketParts) → IsOwn t known own → is_some (message_in (is_some known) own) ≡ is_some known
-own_counted t None own is = refl
-own_counted t (Some k) None is = absurd is
-own_counted t (Some k) (Some p) is = refl
+own_counted t known own is = grind arith
 
 -- What a line gives and leaves, by what the code knows before: the state is one that a join can have, and none is due.
 module _ (kind : ℕ → Option Kind) (s t : State) (e : Entry) (order : Bool) (state : IsState s) (is : s ≡ t)
@@ -157,20 +130,4 @@ module _ (kind : ℕ → Option Kind) (s t : State) (e : Entry) (order : Bool) (
         held = n;
       }
       → record { id = s.id; window = s.window; counts = r; groups = gs } ≡ step_after kind s e
-  line-leads step unknown n gs r given known groups count is_r =
-      let counted_is : r ≡ counts_after kind s.counts e (given_of step) (length gs) = is_r ∙ (λ i. record {
-        lines = s.counts.lines + 1;
-        messages = s.counts.messages + one_if (is_some step.message);
-        bad = s.counts.bad + one_if (is_some step.bad);
-        unknown = s.counts.unknown + one_if (known i);
-        broken = s.counts.broken + sym (length-told step.broken) i;
-        held = count i;
-      }) in
-      ap (λ (c : Counts). record { id = s.id; window = s.window; counts = c; groups = gs }) counted_is
-      ∙ (λ i. record {
-        id = s.id;
-        window = s.window;
-        counts = counts_after kind s.counts e (given i) (length (groups i));
-        groups = groups i;
-      })
-      ∙ sym steps.after
+  line-leads step unknown n gs r given known groups count is_r = grind (arith, steps)

@@ -1,14 +1,11 @@
 -- Lines rise: so a frame is found by its line, and a group by that of its last frame.
-use Rattle.std.proofs.Common.{◌≡◌, ℕ, ◌+◌, true, List, [], ◌∷◌, refl, ap, sym, arith, Option, Some, None}
-use Rattle.std.specs.Prelude.{drop, slice_index_or}
-use Rattle.std.specs.List.{cons_option}
+use Rattle.std.proofs.Common.{◌≡◌, ℕ, ◌+◌, true, List, [], ◌∷◌, ap, sym, arith, Option, Some, drop, slice_index_or}
 use Rattle.n2k_wire.specs.Packet.{PacketParts}
 use Rattle.n2k_wire.specs.declared.entry.Entry.{Entry}
 use Rattle.n2k_wire.specs.declared.entry.Entry.TheVariants as entries
 use Rattle.n2k_table.specs.declared.definition.Kind.{Kind}
-use Rattle.n2k_table.specs.declared.definition.Kind.TheVariants.{Single, Fast}
-use Rattle.n2k_join.specs.Frames.{Frame, fast_frame, frame_with, is_fast_payload, frame_by, frame_in, frames_from}
-use Rattle.std.proofs.lemmas.Option.{none-some, cond_some}
+use Rattle.n2k_table.specs.declared.definition.Kind.TheVariants.{Fast}
+use Rattle.n2k_join.specs.Frames.{Frame, fast_frame, frame_with, is_fast_payload, frame_in, frames_from}
 use Rattle.n2k_join.specs.State.{Rise}
 use Rattle.n2k_join.proofs.Rising.{rise-less}
 
@@ -30,8 +27,7 @@ pub record IsFrameOf (kind : ℕ → Option Kind) (n : ℕ) (e : Entry) (f : Fra
 pub frame_of_packet : (kind : ℕ → Option Kind) (n : ℕ) (e : Entry) (f : Frame) → frame_in kind n e ≡ Some f
     → IsFrameOf kind n e f
 unfolding fast_frame
-frame_of_packet kind n (entries.Frame p) f same = grind (arith, none-some, cond_some)
-frame_of_packet kind n _ f same = absurd (none-some f same)
+frame_of_packet kind n e f same = grind arith
 
 -- it stands at the line of its entry
 pub frame_in-line : (kind : ℕ → Option Kind) (n : ℕ) (e : Entry) (f : Frame) → frame_in kind n e ≡ Some f → f.line ≡ n

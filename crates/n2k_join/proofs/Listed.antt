@@ -1,10 +1,8 @@
 -- The list of the open groups: what is found of a key in it, its first, and what is written of it.
-use Rattle.std.proofs.Common.{◌≡◌, ◌<◌, ◌≤◌, ◌+◌, ◌-◌, ℕ, zero, suc, nat_lt, Bool, true, false, cond, not, ◌&&◌, List, [], ◌∷◌, ◌++◌, length, slice_get, get_or, refl, sym, ap, ◌∙◌, subst, arith, Option, Some, None, IfSome, option_map, append_assoc}
-use Rattle.std.specs.Prelude.{is_some, position, find}
+use Rattle.std.proofs.Common.{◌≡◌, ◌<◌, ◌+◌, ◌-◌, ℕ, zero, suc, nat_lt, Bool, true, false, cond, List, [], ◌∷◌, ◌++◌, length, slice_get, get_or, refl, sym, ap, ◌∙◌, subst, arith, Option, Some, None, IfSome, option_map, append_assoc, is_some, position, ltb-true}
 use Rattle.std.specs.Option.{option_map_or}
 use Rattle.std.specs.List.{list_all, cons_option}
 use Rattle.std.specs.Map.{keys_of, values_of}
-use Rattle.std.proofs.lemmas.Bool.{false≢true, lt-ltb, ltb-true, and_from}
 use Rattle.std.proofs.lemmas.Option.{none-some, same_Some, slice_get_within, slice_get-get_or, slice_get-map}
 use Rattle.std.proofs.lemmas.List.{append-nil, length-map}
 use Rattle.std.proofs.lemmas.List.Quantifiers.{position-Some}
@@ -22,7 +20,6 @@ use Rattle.n2k_join.specs.Window.{Window}
 use Rattle.n2k_join.specs.Inner.SavedTokens.{tokens_of, groups_tokens}
 use Rattle.n2k_join.specs.Inner.Stored.{key_of, of_the_key}
 use Rattle.n2k_join.specs.Inner.Slots.{group_at}
-use Rattle.n2k_join.specs.Inner.Places.{times}
 use Rattle.n2k_join.specs.Inner.Order.{Entries, StandsAt, found, item, item_in, item_at, places_from, places, groups_at, listed, RiseBelow, IsKept}
 use Rattle.n2k_join.proofs.Keys.{same_key-refl, same_key-true}
 use Rattle.n2k_join.proofs.Order.{listed-split}
@@ -45,11 +42,7 @@ places-key k es (Some i) e =
 
 -- the entry there
 pub at_place : (es : Entries) (k : FrameKey) (at : ℕ) (v : Linked) → slice_get (keys_of es) at ≡ Some k → slice_get (values_of es) at ≡ Some v → slice_get es at ≡ Some (k, v)
-at_place es k at v key value = by (slice_get es at) (sym (slice_get-map (λ (e : FrameKey × Linked). e.0) es at) ∙ key) (sym (slice_get-map (λ (e : FrameKey × Linked). e.1) es at) ∙ value)
-  where
-    by : (o : Option (FrameKey × Linked)) → option_map (λ (e : FrameKey × Linked). e.0) o ≡ Some k → option_map (λ (e : FrameKey × Linked). e.1) o ≡ Some v → o ≡ Some (k, v)
-    by None key value = absurd (none-some k key)
-    by (Some e) key value = λ i. Some (same_Some e.0 k key i, same_Some e.1 v value i)
+at_place es k at v key value = grind (arith, slice_get-map)
 
 entry : (es : Entries) (k : FrameKey) (v : Linked) → found es k ≡ Some v → (at : ℕ) × (slice_get es at ≡ Some (k, v))
 entry [] k v h = absurd (none-some v h)
@@ -71,11 +64,7 @@ other-entry (f ∷ es) k none at e h = by (same_key (key_of k) (key_of f.0)) ref
 
 pub none-open : (es : Entries) (k : FrameKey) → found es k ≡ None → (ps : List ℕ) → of_the_key (key_of k) (groups_at (item_in es) ps) ≡ None
 none-open es k none [] = refl
-none-open es k none (p ∷ ps) = by (slice_get es p) refl (none-open es k none ps)
-  where
-    by : (o : Option (FrameKey × Linked)) → slice_get es p ≡ o → of_the_key (key_of k) (groups_at (item_in es) ps) ≡ None → of_the_key (key_of k) (cons_option (option_map group_at (option_map item o)) (groups_at (item_in es) ps)) ≡ None
-    by None is rest = rest
-    by (Some e) is rest = ap (λ b. cond b (Some (group_at (item e))) (of_the_key (key_of k) (groups_at (item_in es) ps))) (other-entry es k none p e is) ∙ rest
+none-open es k none (p ∷ ps) = grind (arith, none-open es k none ps, other-entry)
 
 some-open : (key : Key) (fs : List Group) (g : Group) (gs : List Group) → same_key key g.key ≡ true → is_some (of_the_key key (fs ++ g ∷ gs)) ≡ true
 some-open key [] g gs e = ap (λ b. is_some (cond b (Some g) (of_the_key key gs))) e
@@ -145,37 +134,25 @@ none-ended w line next gs fs g rise is waits =
 -- and where it has, it is the first whose has
 pub first-ended : (w : Window) (line : ℕ) (gs fs : List Group) (g : Group) → gs ≡ g ∷ fs → nat_lt line (g.first + w.lines) ≡ false → Some (as_broken g) ≡ option_map as_broken (slice_get (ended w line gs) 0)
 unfolding ended
-first-ended w line gs fs g is late =
-    sym (ap (λ b. option_map as_broken (slice_get (cond (not b) (g ∷ ended w line fs) (ended w line fs)) 0)) late)
-    ∙ sym (ap (λ gs. option_map as_broken (slice_get (ended w line gs) 0)) is)
+first-ended w line gs fs g is late = grind arith
 
 pub all-wait : (w : Window) (line least next : ℕ) (gs : List Group) → RiseBelow least next gs → line < least + w.lines → list_all (is_waiting w line) gs ≡ true
 all-wait w line least next [] r l = refl
-all-wait w line least next (g ∷ gs) r l =
-    and_from _ _ (lt-ltb line (g.first + w.lines) (omega (arith, r.0, l))) (all-wait w line (g.first + 1) next gs r.1 (omega (arith, r.0, l)))
+all-wait w line least next (g ∷ gs) r l = grind (arith, all-wait w line (g.first + 1) next gs r.1 (omega (arith, r.0, l)))
 
 -- so whether all wait is whether the first does
 pub first-waits : (w : Window) (line next : ℕ) (gs fs : List Group) (g : Group) → RiseBelow 1 next gs → gs ≡ g ∷ fs → nat_lt line (g.first + w.lines) ≡ list_all (is_waiting w line) gs
-first-waits w line next gs fs g rise is = by (nat_lt line (g.first + w.lines)) refl ∙ ap (list_all (is_waiting w line)) (sym is)
-  where
-    by : (b : Bool) → nat_lt line (g.first + w.lines) ≡ b → nat_lt line (g.first + w.lines) ≡ list_all (is_waiting w line) (g ∷ fs)
-    by true e = e ∙ sym (and_from _ _ e (all-wait w line (g.first + 1) next fs (subst (RiseBelow 1 next) is rise).1 (omega (arith, ltb-true _ _ e))))
-    by false e = e ∙ ap (λ b. b && list_all (is_waiting w line) fs) (sym e)
+first-waits w line next gs fs g rise is = grind (arith, all-wait)
 
 -- ---- what is written of it
 
 pub places-more : (es : Entries) (n i at : ℕ) (e : FrameKey × Linked) → i < n → slice_get es at ≡ Some e → places_from es (n - i) at ≡ at ∷ places_from es (n - (i + 1)) e.1.behind
-places-more es n i at e less is =
-    let more : n - i ≡ suc (n - (i + 1)) = omega (arith, less) in
-    ap (λ m. places_from es m at) more ∙ ap (λ o. option_map_or (λ (e : FrameKey × Linked). at ∷ places_from es (n - (i + 1)) e.1.behind) o []) is
+places-more es n i at e less is = grind arith
 
 pub group_more_written : (items : ℕ → Option (FrameKey × OpenGroup)) (p : ℕ) (ps : List ℕ) (e : FrameKey × OpenGroup) (all written now : List Token) → items p ≡ Some e
     → all ≡ written ++ groups_tokens (groups_at items (p ∷ ps)) → now ≡ written ++ tokens_of (group_tree (group_at e)) → all ≡ now ++ groups_tokens (groups_at items ps)
 unfolding groups_tokens
-group_more_written items p ps e all written now there so_far is =
-    so_far ∙ ap (λ o. written ++ groups_tokens (cons_option (option_map group_at o) (groups_at items ps))) there
-    ∙ sym (append_assoc written (tokens_of (group_tree (group_at e))) (groups_tokens (groups_at items ps)))
-    ∙ ap (λ ts. ts ++ groups_tokens (groups_at items ps)) (sym is)
+group_more_written items p ps e all written now there so_far is = grind (arith, append_assoc)
 
 pub groups_written : (all now : List Token) (gs : List Group) → gs ≡ [] → all ≡ now ++ groups_tokens gs → now ≡ all
 unfolding groups_tokens

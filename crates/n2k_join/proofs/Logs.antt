@@ -1,9 +1,7 @@
 -- The frames of a log's entries, and what its lines keep where an entry more comes.
-use Rattle.std.proofs.Common.{◌≡◌, ◌≤◌, ◌<◌, ◌+◌, ℕ, suc, zero, List, [], ◌∷◌, ◌++◌, length, refl, sym, ap, ◌∙◌, arith, Option, Some, None, option_map, option_and_then, option_to_list, slice_get, ◌%◌}
-use Rattle.std.specs.Prelude.{sum_by, slice_index_or}
+use Rattle.std.proofs.Common.{◌≡◌, ◌≤◌, ◌<◌, ◌+◌, ℕ, suc, zero, List, [], ◌∷◌, ◌++◌, length, refl, sym, ap, ◌∙◌, arith, Option, Some, option_map, option_and_then, option_to_list, sum_by, append-nil}
 use Rattle.std.specs.Option.{option_or}
-use Rattle.std.specs.List.{range_with_len, cons_option, AllByRecursion}
-use Rattle.std.proofs.lemmas.List.{append-nil}
+use Rattle.std.specs.List.{range_with_len, AllByRecursion}
 use Rattle.std.proofs.lemmas.List.Sums.{sum_by-cons}
 use Rattle.n2k_wire.specs.declared.entry.Entry.{Entry}
 use Rattle.n2k_table.specs.declared.definition.Kind.{Kind}
@@ -14,6 +12,7 @@ use Rattle.n2k_join.proofs.BrokenGroups.{broken-stays}
 use Rattle.n2k_join.proofs.Given.{gathered-stays}
 use Rattle.n2k_join.proofs.Lines.{frames-rise, frame_in-line, frame_of_packet, line_of}
 use Rattle.n2k_join.proofs.Opened.{IsLog, key_at}
+use Rattle.n2k_join.proofs.Order.{slice_get-push, slice_get-front}
 use Rattle.n2k_join.proofs.Rising.{all-map, all-zip, look-all, rise-least}
 use Rattle.n2k_join.specs.Window.{Window}
 
@@ -31,11 +30,7 @@ frames-below kind n es =
 
 -- a frame's number has five bits
 pub frame_in-number : (kind : ℕ → Option Kind) (i : ℕ) (e : Entry) (f : Frame) → frame_in kind i e ≡ Some f → f.number < most_frames
-frame_in-number kind i e f is =
-    let of = frame_of_packet kind i e f is in
-    let header = slice_index_or of.packet.payload 0 0 in
-    let number : header % most_frames ≡ f.number = ap (λ (f : Frame). f.number) of.is in
-    omega (arith, number)
+frame_in-number kind i e f is = grind (arith, frame_of_packet kind i e f is)
 
 -- the frames of entries are a log
 pub frames-log : (kind : ℕ → Option Kind) (es : List Entry) → IsLog (length es) (frames kind es)
@@ -47,47 +42,22 @@ frames-log kind es =
       keys = all-map (λ (f : Frame). frame_at f.line (frames kind es) ≡ Some f) (λ (f : Frame). key_at f.line (frames kind es) ≡ Some f.key) (frames kind es) (λ f h. ap (option_map (λ (f : Frame). f.key)) h) (look-all line_of 1 (frames kind es) rises);
     }
 
-cons_option-append : {X : Type 0} (o : Option X) (xs ys : List X) → cons_option o (xs ++ ys) ≡ cons_option o xs ++ ys
-cons_option-append None xs ys = refl
-cons_option-append (Some x) xs ys = refl
-
 -- the frames of entries, and of others behind them
 pub frames_from-append : (kind : ℕ → Option Kind) (line : ℕ) (es fs : List Entry)
     → frames_from kind line (es ++ fs) ≡ frames_from kind line es ++ frames_from kind (line + length es) fs
 frames_from-append kind line [] fs = let e : line ≡ line + 0 = omega arith in ap (λ n. frames_from kind n fs) e
-frames_from-append kind line (e ∷ es) fs =
-    let same : (line + 1) + length es ≡ line + suc (length es) = omega arith in
-    let rest = frames_from-append kind (line + 1) es fs ∙ ap (λ n. frames_from kind (line + 1) es ++ frames_from kind n fs) same in
-    ap (cons_option (frame_in kind line e)) rest
-    ∙ cons_option-append (frame_in kind line e) (frames_from kind (line + 1) es) (frames_from kind (line + suc (length es)) fs)
-
-cons_option-list : {X : Type 0} (o : Option X) → cons_option o [] ≡ option_to_list o
-cons_option-list None = refl
-cons_option-list (Some x) = refl
+frames_from-append kind line (e ∷ es) fs = grind (arith, frames_from-append kind (line + 1) es fs)
 
 -- one entry more
 pub frames-push : (kind : ℕ → Option Kind) (es : List Entry) (e : Entry) → frames kind (es ++ e ∷ []) ≡ frames kind es ++ option_to_list (frame_in kind (length es + 1) e)
-frames-push kind es e =
-    let at : 1 + length es ≡ length es + 1 = omega arith in
-    frames_from-append kind 1 es (e ∷ [])
-    ∙ ap (λ fs. frames kind es ++ fs) (cons_option-list (frame_in kind (1 + length es) e))
-    ∙ ap (λ k. frames kind es ++ option_to_list (frame_in kind k e)) at
-
-slice_get-before : {X : Type 0} (xs : List X) (x : X) (i : ℕ) → i < length xs → slice_get (xs ++ x ∷ []) i ≡ slice_get xs i
-slice_get-before [] x i l = absurd (omega (arith, l))
-slice_get-before (y ∷ ys) x zero l = refl
-slice_get-before (y ∷ ys) x (suc i) l = slice_get-before ys x i (omega (arith, l))
-
-slice_get-last : {X : Type 0} (xs : List X) (x : X) → slice_get (xs ++ x ∷ []) (length xs) ≡ Some x
-slice_get-last [] x = refl
-slice_get-last (y ∷ ys) x = slice_get-last ys x
+frames-push kind es e = grind (arith, frames_from-append)
 
 pub entry_at-before : (es : List Entry) (e : Entry) (i : ℕ) → 1 ≤ i → i ≤ length es → entry_at (es ++ e ∷ []) i ≡ entry_at es i
 entry_at-before es e zero l u = absurd (omega arith)
-entry_at-before es e (suc i) l u = slice_get-before es e i (omega arith)
+entry_at-before es e (suc i) l u = slice_get-front es e i (omega arith)
 
 pub entry_at-last : (es : List Entry) (e : Entry) → entry_at (es ++ e ∷ []) (length es + 1) ≡ Some e
-entry_at-last es e = let at : length es + 1 ≡ suc (length es) = omega arith in ap (entry_at (es ++ e ∷ [])) at ∙ slice_get-last es e
+entry_at-last es e = let at : length es + 1 ≡ suc (length es) = omega arith in ap (entry_at (es ++ e ∷ [])) at ∙ slice_get-push es e
 
 -- what a frame of the next line leaves as it was, an entry more does
 frames-before : {X : Type 0} (F : List Frame → X) (kind : ℕ → Option Kind) (es : List Entry) (e : Entry)
@@ -97,17 +67,13 @@ frames-before F kind es e stays = grind (arith, frames-push, frame_in-line, appe
 
 -- earlier lines keep what they gave
 gathered-before : (ends : EndTest) (kind : ℕ → Option Kind) (es : List Entry) (e : Entry) (i : ℕ) → i ≤ length es → gathered ends (frames kind (es ++ e ∷ [])) i ≡ gathered ends (frames kind es) i
-gathered-before ends kind es e i u =
-    frames-before (λ fs. gathered ends fs i) kind es e
-    (λ x at. gathered-stays ends (frames kind es) x i (λ t. omega (arith, t, at, u)))
+gathered-before ends kind es e i u = grind (arith, frames-before (λ fs. gathered ends fs i) kind es e (λ x at. gathered-stays ends (frames kind es) x i (λ t. omega (arith, t, at, u))))
 
 pub message-before : (ends : EndTest) (kind : ℕ → Option Kind) (es : List Entry) (e : Entry) (i : ℕ) → 1 ≤ i → i ≤ length es → message_with ends kind (es ++ e ∷ []) i ≡ message_with ends kind es i
 message-before ends kind es e i l u = λ j. option_or (option_map (λ (m : Keyed). m.message) (gathered-before ends kind es e i u j)) (option_and_then (alone kind) (entry_at-before es e i l u j))
 
 pub broken-before : (w : Window) → 0 < w.lines → (kind : ℕ → Option Kind) (es : List Entry) (e : Entry) (i : ℕ) → i ≤ length es → broken_with w (frames kind (es ++ e ∷ [])) i ≡ broken_with w (frames kind es) i
-broken-before w some kind es e i u =
-    frames-before (λ fs. broken_with w fs i) kind es e
-    (λ x at. broken-stays w some (length es) (frames kind es) x i (frames-log kind es) (omega (arith, at, u)))
+broken-before w some kind es e i u = grind (arith, frames-before (λ fs. broken_with w fs i) kind es e (λ x at. broken-stays w some (length es) (frames kind es) x i (frames-log kind es) (omega (arith, at, u))))
 
 -- sums over a range, of what agrees there
 pub sum_by-range : (f g : ℕ → ℕ) (a n : ℕ) → ((i : ℕ) → a ≤ i → i < a + n → f i ≡ g i) → sum_by f (range_with_len a n) ≡ sum_by g (range_with_len a n)

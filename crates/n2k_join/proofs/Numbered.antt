@@ -1,8 +1,6 @@
 -- The sequences that a splitter holds, as its map of streams keeps them.
-use Rattle.std.proofs.Common.{◌≡◌, ℕ, ◌+◌, ◌%◌, ◌<◌, Bool, true, false, cond, ◌&&◌, List, Option, Some, refl, sym, ap, ◌∙◌, arith}
-use Rattle.std.specs.Prelude.{unwrap_or}
+use Rattle.std.proofs.Common.{◌≡◌, ℕ, ◌+◌, ◌%◌, ◌<◌, true, cond, ◌&&◌, List, Option, Some, sym, ◌∙◌, arith, unwrap_or}
 use Rattle.std.specs.Map.{lookup}
-use Rattle.std.proofs.lemmas.Bool.{and_parts, eqb-true}
 use Rattle.n2k_table.specs.declared.definition.Kind.{Kind}
 use Rattle.n2k_table.specs.declared.definition.Kind.TheVariants.{Single, Fast}
 use Rattle.n2k_join.specs.Pieces.{Stream, same_stream, Sequences, is_fast, raised}
@@ -11,20 +9,13 @@ use Rattle.n2k_join.specs.Inner.Stored.{AreSequences}
 
 pub same_stream-true : (a b : Stream) → same_stream a b ≡ true → a ≡ b
 unfolding same_stream
-same_stream-true a b e =
-    let one = and_parts _ _ e in
-    let two = and_parts _ _ one.1 in
-    λ i. record { src = eqb-true a.src b.src one.0 i; pgn = eqb-true a.pgn b.pgn two.0 i; dst = eqb-true a.dst b.dst two.1 i }
+same_stream-true a b e = grind arith
 
 -- what a stream's sequence is, once that of one stream was raised
 pub raised_by_map : (held : List (Stream × ℕ)) (stream other : Stream) (n : ℕ) (found : Option ℕ) → n ≡ sequences held stream
     → found ≡ cond (same_stream stream other) (Some ((n + 1) % 8)) (lookup (same_stream other) held)
     → unwrap_or found 0 ≡ cond (same_stream stream other) ((sequences held other + 1) % 8) (sequences held other)
-raised_by_map held stream other n found e f = ap (λ o. unwrap_or o 0) f ∙ by (same_stream stream other) refl
-  where
-    by : (b : Bool) → same_stream stream other ≡ b → unwrap_or (cond b (Some ((n + 1) % 8)) (lookup (same_stream other) held)) 0 ≡ cond b ((sequences held other + 1) % 8) (sequences held other)
-    by true same = ap (λ m. (m + 1) % 8) (e ∙ ap (sequences held) (same_stream-true stream other same))
-    by false same = refl
+raised_by_map held stream other n found e f = grind (arith, same_stream-true)
 
 -- and it is below 8 still
 pub raised_below : (held : List (Stream × ℕ)) (stream other : Stream) (after : ℕ) → AreSequences held → after ≡ cond (same_stream stream other) ((sequences held other + 1) % 8) (sequences held other) → after < 8

@@ -1,22 +1,20 @@
 -- The open groups of a list of frames, and those of a list with one frame more.
-use Rattle.std.proofs.Common.{◌≡◌, ◌==◌, ◌≤◌, ◌<◌, ◌+◌, ℕ, Bool, true, false, cond, ◌||◌, List, [], ◌∷◌, ◌++◌, length, refl, sym, ap, ◌∙◌, subst, arith, Option, Some, None, option_map, option_and_then, option_to_list, filter_map}
-use Rattle.std.specs.Prelude.{is_some, IfSome}
+use Rattle.std.proofs.Common.{◌≡◌, ◌==◌, ◌≤◌, ◌<◌, ◌+◌, ℕ, true, false, cond, List, [], ◌∷◌, ◌++◌, length, refl, sym, ap, ◌∙◌, subst, arith, Option, Some, None, option_map, option_and_then, option_to_list, filter_map, is_some, IfSome, append-nil}
 use Rattle.std.specs.Option.{option_or}
-use Rattle.std.specs.List.{range_with_len, last_or, AllByRecursion}
-use Rattle.std.proofs.lemmas.List.{length-append, append-nil}
+use Rattle.std.specs.List.{range_with_len, AllByRecursion}
 use Rattle.std.proofs.lemmas.List.Folds.{find-append}
-use Rattle.std.proofs.lemmas.Bool.{eqb-true, eq-eqb, ne_eqb, or_parts, false≢true, false_from_ne_true}
-use Rattle.std.proofs.lemmas.Option.{none-some, same_Some, option_and_then_some, cond_some}
+use Rattle.std.proofs.lemmas.Bool.{eq-eqb, ne_eqb, false≢true}
+use Rattle.std.proofs.lemmas.Option.{none-some}
 use Rattle.n2k_join.specs.Frames.{Key, same_key, Frame, of_key, frame_at, most_frames}
-use Rattle.n2k_join.specs.Groups.{EndTest, closes, complete, cut, has_number, has_twice, first, incomplete, open_of}
+use Rattle.n2k_join.specs.Groups.{EndTest, complete, has_twice, first, incomplete, open_of}
 use Rattle.n2k_join.specs.Open.{Group, group_of, where_begun, begun_at, open_groups}
 use Rattle.n2k_join.specs.State.{held_of}
-use Rattle.n2k_join.proofs.Advanced.{with_frame, joined, taken, started, of_the_key, opened, advanced}
+use Rattle.n2k_join.proofs.Advanced.{with_frame, taken, started, of_the_key, opened, advanced}
 use Rattle.n2k_join.proofs.Carried.{carried-push, complete-same, pieces_of-same, has_twice-push}
 use Rattle.n2k_join.proofs.Cuts.{IsEnding, next, so_far, so_far-push, so_far-all, so_far-keeps, last-cut}
 use Rattle.n2k_join.proofs.Held.{AreNumbered, carried-kept, has_twice-kept, first-kept}
 use Rattle.n2k_join.proofs.Keys.{same_key-true, same_key-refl, same_key-sym, of_key-same, of_key-other, of_key-keeps}
-use Rattle.n2k_join.proofs.Rising.{range-push, filter_map-push, filter_map-fused, filter_map-range, find-passes, find-all, find-none, look, look-filter_map, all-range, all-map, passes_none, option_map_some, all_with, of_cond}
+use Rattle.n2k_join.proofs.Rising.{range-push, filter_map-push, filter_map-fused, filter_map-range, find-passes, find-all, find-none, look, look-filter_map, all-range, all-map, passes_none}
 
 -- the key of the frame at a line
 abbrev pub key_at : ℕ → List Frame → Option Key
@@ -48,12 +46,7 @@ first-push [] x some = absurd (omega (arith, some))
 first-push (f ∷ g) x some = refl
 
 both : {X : Type 0} (P Q : X → Type 0) (o : Option X) → IfSome o P → IfSome o Q → IfSome o (λ x. P x × Q x)
-both P Q None p q = tt
-both P Q (Some x) p q = (p, q)
-
-on_some : {X : Type 0} (P Q : X → Type 0) (o : Option X) → ((x : X) → P x → Q x) → IfSome o P → IfSome o Q
-on_some P Q None f p = tt
-on_some P Q (Some x) f p = f x p
+both P Q o p q = grind arith
 
 -- ---- where frames stand
 
@@ -77,16 +70,10 @@ pub complete-kept : (k : Key) (g : List Frame) → IsFine g → complete (held_o
 complete-kept k g fine = complete-same (held_of (group_of k g)) g (carried-kept k g fine.numbers) (has_twice-kept k g ∙ sym fine.once)
 
 pub complete-kept_push : (k : Key) (g : List Frame) (x : Frame) → IsFine g → complete (held_of (group_of k g) ++ x ∷ []) ≡ complete (g ++ x ∷ [])
-complete-kept_push k g x fine =
-    complete-same (held_of (group_of k g) ++ x ∷ []) (g ++ x ∷ []) (carried-push (held_of (group_of k g)) g x (carried-kept k g fine.numbers))
-    (has_twice-push (held_of (group_of k g)) x (has_twice-kept k g) ∙ ap (λ (c : ℕ → Option (List ℕ)). is_some (c x.number)) (carried-kept k g fine.numbers) ∙ sym (has_twice-push g x fine.once))
+complete-kept_push k g x fine = grind (arith, complete-same (held_of (group_of k g) ++ x ∷ []) (g ++ x ∷ []) (carried-push (held_of (group_of k g)) g x (carried-kept k g fine.numbers)) (has_twice-push (held_of (group_of k g)) x (has_twice-kept k g) ∙ ap (λ (c : ℕ → Option (List ℕ)). is_some (c x.number)) (carried-kept k g fine.numbers) ∙ sym (has_twice-push g x fine.once)))
 
 pub with_frame-kept : (k : Key) (g : List Frame) (x : Frame) → IsFine g → with_frame (group_of k g) x ≡ group_of k (g ++ x ∷ [])
-with_frame-kept k g x fine = λ i. record {
-  first = sym (first-push g x fine.nonempty) i;
-  key = k;
-  pieces = pieces_of-same (held_of (group_of k g) ++ x ∷ []) (g ++ x ∷ []) (carried-push (held_of (group_of k g)) g x (carried-kept k g fine.numbers)) i;
-}
+with_frame-kept k g x fine = grind (arith, carried-push (held_of (group_of k g)) g x (carried-kept k g fine.numbers), pieces_of-same)
 
 pub numbers_of_key : (k : Key) (fs : List Frame) → AreNumbered fs → AreNumbered (of_key k fs)
 numbers_of_key k fs all = all-map _ (λ (f : Frame). f.number < most_frames) (of_key k fs) (λ f h. h.0) (of_key-keeps (λ (f : Frame). f.number < most_frames) k fs all)
@@ -98,9 +85,7 @@ module _ (ends : EndTest) (is_ending : IsEnding ends) where
 
   pub begun_at-key : (fs : List Frame) (i : ℕ) → begun_at ends fs i ≡ option_and_then (λ (k : Key). open_at k fs i) (key_at i fs)
   unfolding begun_at
-  begun_at-key fs i =
-      elim (frame_at i fs) as (λ o. option_and_then (λ (f : Frame). option_and_then (where_begun i f.key) (open_of ends f.key fs)) o ≡ option_and_then (λ (k : Key). open_at k fs i) (option_map (λ (f : Frame). f.key) o))
-      [ None ↦ refl | Some f ↦ refl ]
+  begun_at-key fs i = grind arith
 
   pub open_of-so_far : (k : Key) (fs : List Frame) → open_of ends k fs ≡ option_and_then incomplete (so_far ends (of_key k fs))
   open_of-so_far k fs = ap (option_and_then incomplete) (last-cut ends (of_key k fs))
@@ -111,125 +96,56 @@ module _ (ends : EndTest) (is_ending : IsEnding ends) where
   open_is k fs g e = grind (arith, so_far, open_of-so_far, none-some)
 
   so_far-once : (fs : List Frame) → IfSome (so_far ends fs) (λ g. (has_twice g ≡ false) × (0 < length g))
-  so_far-once fs = so_far-keeps ends (λ g. (has_twice g ≡ false) × (0 < length g)) (λ x. (refl, omega arith)) more fs
-    where
-      more : (g : List Frame) (x : Frame) → closes ends g x ≡ false → (has_twice g ≡ false) × (0 < length g) → (has_twice (g ++ x ∷ []) ≡ false) × (0 < length (g ++ x ∷ []))
-      more g x c h =
-          let new : has_number x.number g ≡ false = false_from_ne_true (has_number x.number g) (λ e. false≢true (sym (or_parts (complete g) (ends g x) c).1 ∙ is_ending.repeated g x e)) in
-          (has_twice-push g x h.0 ∙ new, omega (arith, length-append g (x ∷ []), h.1))
+  so_far-once fs = grind (arith, so_far-keeps, has_twice-push)
 
   pub so_far-fine : (fs : List Frame) → AreNumbered fs → IfSome (so_far ends fs) IsFine
-  so_far-fine fs numbers =
-      on_some _ _ (so_far ends fs) (λ g h. record { numbers = h.0; once = h.1.0; nonempty = h.1.1 })
-      (both AreNumbered (λ g. (has_twice g ≡ false) × (0 < length g)) (so_far ends fs) (so_far-all ends (λ (f : Frame). f.number < most_frames) fs numbers) (so_far-once fs))
+  so_far-fine fs numbers = grind (arith, so_far-once fs, so_far-all)
 
   -- and ends as the group does
   pub ends-kept : (k : Key) (g : List Frame) (x : Frame) → IsFine g → ends (held_of (group_of k g)) x ≡ ends g x
   ends-kept k g x fine = is_ending.alike (held_of (group_of k g)) g x (carried-kept k g fine.numbers) (first-kept k g fine.numbers fine.nonempty)
 
   taken-ended : (k : Key) (g : List Frame) (x : Frame) → IsFine g → same_key x.key k ≡ true → ends g x ≡ true → taken ends x (group_of k g) ≡ None
-  taken-ended k g x fine same e =
-      ap (λ b. cond b (joined ends x (group_of k g)) (Some (group_of k g))) same
-      ∙ ap (λ b. cond b None (cond (complete (held_of (group_of k g) ++ x ∷ [])) None (Some (with_frame (group_of k g) x)))) (ends-kept k g x fine ∙ e)
+  taken-ended k g x fine same e = grind (arith, ends-kept)
 
   taken-joined : (k : Key) (g : List Frame) (x : Frame) → IsFine g → same_key x.key k ≡ true → ends g x ≡ false → taken ends x (group_of k g) ≡ cond (complete (g ++ x ∷ [])) None (Some (group_of k (g ++ x ∷ [])))
-  taken-joined k g x fine same e =
-      ap (λ b. cond b (joined ends x (group_of k g)) (Some (group_of k g))) same
-      ∙ ap (λ b. cond b None (cond (complete (held_of (group_of k g) ++ x ∷ [])) None (Some (with_frame (group_of k g) x)))) (ends-kept k g x fine ∙ e)
-      ∙ ap (λ b. cond b None (Some (with_frame (group_of k g) x))) (complete-kept_push k g x fine)
-      ∙ ap (λ o. cond (complete (g ++ x ∷ [])) None (Some o)) (with_frame-kept k g x fine)
+  taken-joined k g x fine same e = grind (arith, ends-kept, complete-kept_push, with_frame-kept)
 
   -- a group of the frame alone begins at the frame's line only
   not_here : (k : Key) (x : Frame) (i : ℕ) → (x.line ≡ i → ⊥) → option_and_then (where_begun i k) (incomplete (x ∷ [])) ≡ None
-  not_here k x i other =
-      elim (complete (x ∷ [])) as (λ b. option_and_then (where_begun i k) (cond b None (Some (x ∷ []))) ≡ None)
-      [ true ↦ refl | false ↦ ap (λ b. cond b (Some (group_of k (x ∷ []))) None) (ne_eqb x.line i other) ]
+  not_here k x i other = grind arith
 
   here : (x : Frame) → option_and_then (where_begun x.line x.key) (incomplete (x ∷ [])) ≡ started x
-  here x =
-      elim (complete (x ∷ [])) as (λ b. option_and_then (where_begun x.line x.key) (cond b None (Some (x ∷ []))) ≡ cond b None (Some (group_of x.key (x ∷ []))))
-      [ true ↦ refl | false ↦ ap (λ b. cond b (Some (group_of x.key (x ∷ []))) None) (eq-eqb x.line x.line refl) ]
-
-  both_none : (b : Bool) → ◌≡◌ {A = Option Group} (cond b None None) None
-  both_none true = refl
-  both_none false = refl
+  here x = grind arith
 
   -- A key's group so far with a frame more, seen at another line than the frame's.
   stays_or_goes : (k : Key) (x : Frame) (i : ℕ) → same_key x.key k ≡ true → (x.line ≡ i → ⊥) → (s : Option (List Frame)) → IfSome s IsFine
       → option_and_then (where_begun i k) (incomplete (next ends s x)) ≡ option_and_then (taken ends x) (option_and_then (where_begun i k) (option_and_then incomplete s))
-  stays_or_goes k x i same other None fine = not_here k x i other
-  stays_or_goes k x i same other (Some g) fine = grind (arith, first-push, not_here, taken-ended, both_none, taken-joined)
+  stays_or_goes k x i same other s fine = grind (arith, not_here, taken-ended, taken-joined)
 
   -- and at the frame's own
   is_opened : (x : Frame) (s : Option (List Frame)) → IfSome s IsFine → IfSome s (λ g. first g ≡ x.line → ⊥)
       → option_and_then (where_begun x.line x.key) (incomplete (next ends s x)) ≡ opened ends x (option_map (group_of x.key) (option_and_then incomplete s))
-  is_opened x None fine past = here x
-  is_opened x (Some g) fine past = by (complete g) (ends g x) refl
-    where
-      h : List Frame
-      h = g ++ x ∷ []
-
-      by : (c e : Bool) → ends g x ≡ e → option_and_then (where_begun x.line x.key) (incomplete (cond (c || e) (x ∷ []) h)) ≡ opened ends x (option_map (group_of x.key) (cond c None (Some g)))
-      by true e t = here x
-      by false true t = here x ∙ sym (ap (λ b. cond b (started x) None) (ends-kept x.key g x fine ∙ t))
-      by false false t =
-          of_cond (option_and_then (where_begun x.line x.key)) (complete h) None (Some h)
-          ∙ ap (λ b. cond (complete h) None (cond b (Some (group_of x.key h)) None)) (ap (λ n. n == x.line) (first-push g x fine.nonempty) ∙ ne_eqb (first g) x.line past)
-          ∙ both_none (complete h)
-          ∙ sym (ap (λ b. cond b (started x) None) (ends-kept x.key g x fine ∙ t))
+  is_opened x s fine past = grind (arith, here, ends-kept)
 
   open_at-push : (k : Key) (fs : List Frame) (x : Frame) (i : ℕ) → AreNumbered fs → (x.line ≡ i → ⊥) → open_at k (fs ++ x ∷ []) i ≡ option_and_then (taken ends x) (open_at k fs i)
-  open_at-push k fs x i numbers other = by (same_key x.key k) refl
-    where
-      by : (b : Bool) → same_key x.key k ≡ b → open_at k (fs ++ x ∷ []) i ≡ option_and_then (taken ends x) (open_at k fs i)
-      by true same =
-          ap (option_and_then (where_begun i k)) (open_of-so_far k (fs ++ x ∷ []) ∙ ap (λ t. option_and_then incomplete (so_far ends t)) (of_key-same k fs x (same_key-sym k x.key ∙ same)) ∙ ap (option_and_then incomplete) (so_far-push ends (of_key k fs) x))
-          ∙ stays_or_goes k x i same other (so_far ends (of_key k fs)) (so_far-fine (of_key k fs) (numbers_of_key k fs numbers))
-          ∙ ap (λ o. option_and_then (taken ends x) (option_and_then (where_begun i k) o)) (sym (open_of-so_far k fs))
-      by false differs =
-          ap (λ t. option_and_then (where_begun i k) (option_and_then incomplete (last_or None (cut ends t)))) (of_key-other k fs x (same_key-sym k x.key ∙ differs))
-          ∙ sym (untouched (open_of ends k fs))
-        where
-          untouched : (o : Option (List Frame)) → option_and_then (taken ends x) (option_and_then (where_begun i k) o) ≡ option_and_then (where_begun i k) o
-          untouched None = refl
-          untouched (Some g) =
-              of_cond (option_and_then (taken ends x)) (first g == i) (Some (group_of k g)) None ∙ ap (λ b. cond (first g == i) (cond b (joined ends x (group_of k g)) (Some (group_of k g))) None) differs
+  open_at-push k fs x i numbers other = grind (arith, open_of-so_far, of_key-same, same_key-sym, so_far-push, stays_or_goes, so_far-fine, numbers_of_key, of_key-other)
 
   begun_at-push : (fs : List Frame) (x : Frame) (i : ℕ) → AreNumbered fs → (x.line ≡ i → ⊥) → begun_at ends (fs ++ x ∷ []) i ≡ option_and_then (taken ends x) (begun_at ends fs i)
-  begun_at-push fs x i numbers other =
-      begun_at-key (fs ++ x ∷ []) i
-      ∙ ap (λ o. option_and_then (λ (k : Key). open_at k (fs ++ x ∷ []) i) (option_map (λ (f : Frame). f.key) o)) (at_line i fs x other)
-      ∙ by (key_at i fs)
-      ∙ ap (option_and_then (taken ends x)) (sym (begun_at-key fs i))
-    where
-      by : (o : Option Key) → option_and_then (λ (k : Key). open_at k (fs ++ x ∷ []) i) o ≡ option_and_then (taken ends x) (option_and_then (λ (k : Key). open_at k fs i) o)
-      by None = refl
-      by (Some k) = open_at-push k fs x i numbers other
+  begun_at-push fs x i numbers other = grind (arith, begun_at-key, at_line, open_at-push)
 
   -- ---- the open group of a key is found among the open groups
 
   pub begun_at-is : (fs : List Frame) (i : ℕ) (o : Group) → begun_at ends fs i ≡ Some o → (o.first ≡ i) × (option_map (group_of o.key) (open_of ends o.key fs) ≡ Some o)
   unfolding begun_at
-  begun_at-is fs i o e =
-      option_and_then_some (λ (f : Frame). option_and_then (where_begun i f.key) (open_of ends f.key fs))
-      (frame_at i fs) o e (λ f stands e.
-      option_and_then_some (where_begun i f.key) (open_of ends f.key fs) o e (λ g is e.
-      let parts = cond_some (first g == i) (group_of f.key g) o e in (
-        ap (λ (o : Group). o.first) (sym parts.1) ∙ eqb-true (first g) i parts.0,
-        subst (λ (o : Group). option_map (group_of o.key) (open_of ends o.key fs) ≡ Some o) parts.1 (ap (option_map (group_of f.key)) is),
-      )))
+  begun_at-is fs i o e = grind arith
 
   pub open_groups-each : (n : ℕ) (fs : List Frame) → AllByRecursion (λ (o : Group). option_map (group_of o.key) (open_of ends o.key fs) ≡ Some o) (open_groups ends n fs)
   unfolding open_groups
   open_groups-each n fs = all-range (λ (o : Group). option_map (group_of o.key) (open_of ends o.key fs) ≡ Some o) (begun_at ends fs) 1 n (λ i o l u e. (begun_at-is fs i o e).1)
 
   pub begun_group : (fs : List Frame) (i : ℕ) (o : Group) → begun_at ends fs i ≡ Some o → IsBegun ends fs o
-  begun_group fs i o e =
-      option_map_some (group_of o.key) (open_of ends o.key fs) o (begun_at-is fs i o e).1 (λ g is same.
-      let left = open_is o.key fs g is in
-      let alone : (has_twice g ≡ false) × (0 < length g) =
-      subst (λ s. IfSome s (λ g. (has_twice g ≡ false) × (0 < length g))) left.0 (so_far-once (of_key o.key fs)) in
-      record { group = g; so_far_is = left.0; once = alone.0; nonempty = alone.1; left = left.1; is = same })
+  begun_group fs i o e = grind (arith, begun_at-is fs i o e, so_far-once (of_key o.key fs), open_is)
 
   -- what holds of all frames holds of those of such a group, and they have its key
   pub begun_all : (P : Frame → Type 0) (fs : List Frame) (o : Group) (begun : IsBegun ends fs o) → AllByRecursion P fs
@@ -240,25 +156,11 @@ module _ (ends : EndTest) (is_ending : IsEnding ends) where
 
   -- a group of a key's cut begins at a line of the log, where a frame of that key stands
   pub so_far-begins : (n : ℕ) (k : Key) (fs : List Frame) → IsLog n fs → IfSome (so_far ends (of_key k fs)) (λ g. (1 ≤ first g) × (first g ≤ n) × (key_at (first g) fs ≡ Some k))
-  so_far-begins n k fs log =
-      on_some _ _ (so_far ends (of_key k fs)) (λ g h. at_first g h.0 h.1.nonempty)
-      (both (AllByRecursion P) IsFine (so_far ends (of_key k fs)) (so_far-all ends P (of_key k fs) of_it) (so_far-fine (of_key k fs) (numbers_of_key k fs log.numbers)))
-    where
-      P : Frame → Type 0
-      P f = (1 ≤ f.line) × (f.line ≤ n) × (key_at f.line fs ≡ Some k)
-
-      of_it : AllByRecursion P (of_key k fs)
-      of_it = all-map _ P (of_key k fs) (λ f h. (h.0.0, h.0.1, h.0.2 ∙ ap Some h.1)) (of_key-keeps (λ (f : Frame). (1 ≤ f.line) × (f.line ≤ n) × (key_at f.line fs ≡ Some f.key)) k fs (all_with (λ (f : Frame). (1 ≤ f.line) × (f.line ≤ n)) (λ (f : Frame). key_at f.line fs ≡ Some f.key) _ (λ f a b. (a.0, a.1, b)) fs log.lines log.keys))
-
-      at_first : (g : List Frame) → AllByRecursion P g → 0 < length g → (1 ≤ first g) × (first g ≤ n) × (key_at (first g) fs ≡ Some k)
-      at_first [] all some = absurd (omega (arith, some))
-      at_first (f ∷ g) all some = all.0
+  so_far-begins n k fs log = grind (arith, so_far-fine (of_key k fs) (numbers_of_key k fs log.numbers), so_far-all, of_key-keeps)
 
   open_of-begins : (n : ℕ) (k : Key) (fs : List Frame) (g : List Frame) → IsLog n fs → open_of ends k fs ≡ Some g
       → (1 ≤ first g) × (first g ≤ n) × (key_at (first g) fs ≡ Some k)
-  open_of-begins n k fs g log e =
-      subst (λ s. IfSome s (λ g. (1 ≤ first g) × (first g ≤ n) × (key_at (first g) fs ≡ Some k))) (open_is k fs g e).0
-      (so_far-begins n k fs log)
+  open_of-begins n k fs g log e = grind (arith, open_is k fs g e, so_far-begins n k fs log)
 
   pub found-open : (n : ℕ) (k : Key) (fs : List Frame) → IsLog n fs → of_the_key k (open_groups ends n fs) ≡ option_map (group_of k) (open_of ends k fs)
   unfolding open_groups
@@ -286,20 +188,10 @@ module _ (ends : EndTest) (is_ending : IsEnding ends) where
 
   pub open_groups-none : (n : ℕ) (fs : List Frame) → IsLog n fs → open_groups ends (n + 1) fs ≡ open_groups ends n fs
   unfolding open_groups
-  open_groups-none n fs log =
-      ap (filter_map (begun_at ends fs)) (range-push 1 n) ∙ filter_map-push (begun_at ends fs) (range_with_len 1 n) (1 + n)
-      ∙ ap (λ o. filter_map (begun_at ends fs) (range_with_len 1 n) ++ option_to_list o) (begun_at-key fs (1 + n) ∙ ap (λ o. option_and_then (λ (k : Key). open_at k fs (1 + n)) (option_map (λ (f : Frame). f.key) o)) (none_at n (1 + n) fs log (omega arith)))
-      ∙ append-nil (filter_map (begun_at ends fs) (range_with_len 1 n))
+  open_groups-none n fs log = grind (arith, range-push, filter_map-push, begun_at-key, none_at, append-nil)
 
   begun_at-last : (n : ℕ) (fs : List Frame) (x : Frame) → IsLog n fs → n < x.line → begun_at ends (fs ++ x ∷ []) x.line ≡ opened ends x (of_the_key x.key (open_groups ends n fs))
-  begun_at-last n fs x log l =
-      begun_at-key (fs ++ x ∷ []) x.line
-      ∙ ap (λ o. option_and_then (λ (k : Key). open_at k (fs ++ x ∷ []) x.line) (option_map (λ (f : Frame). f.key) o)) (at_last n fs x log l)
-      ∙ ap (option_and_then (where_begun x.line x.key)) (open_of-so_far x.key (fs ++ x ∷ []) ∙ ap (λ t. option_and_then incomplete (so_far ends t)) (of_key-same x.key fs x (same_key-refl x.key)) ∙ ap (option_and_then incomplete) (so_far-push ends (of_key x.key fs) x))
-      ∙ is_opened x (so_far ends (of_key x.key fs)) (so_far-fine (of_key x.key fs) (numbers_of_key x.key fs log.numbers))
-      (on_some (λ g. (1 ≤ first g) × (first g ≤ n) × (key_at (first g) fs ≡ Some x.key)) (λ g. first g ≡ x.line → ⊥) (so_far ends (of_key x.key fs)) (λ g h e. omega (arith, h.1, e)) (so_far-begins n x.key fs log))
-      ∙ ap (λ o. opened ends x (option_map (group_of x.key) o)) (sym (open_of-so_far x.key fs))
-      ∙ ap (opened ends x) (sym (found-open n x.key fs log))
+  begun_at-last n fs x log l = grind (arith, begun_at-key (fs ++ x ∷ []) x.line, at_last n fs x log l, open_of-so_far x.key (fs ++ x ∷ []), open_of-so_far x.key fs, of_key-same x.key fs x (same_key-refl x.key), so_far-fine (of_key x.key fs) (numbers_of_key x.key fs log.numbers), so_far-begins n x.key fs log, found-open n x.key fs log, so_far-push, is_opened)
 
   -- one frame more: the open groups advance
   pub open_groups-push : (n : ℕ) (fs : List Frame) (x : Frame) → IsLog n fs → x.line ≡ n + 1 → open_groups ends (n + 1) (fs ++ x ∷ []) ≡ advanced ends (open_groups ends n fs) x

@@ -1,10 +1,9 @@
 -- The open groups in their list: which places it has, and what a step makes of it.
-use Rattle.std.proofs.Common.{◌≡◌, ℕ, zero, suc, ◌+◌, ◌<◌, ◌≤◌, ◌==◌, ◌⊎◌, inl, inr, Bool, true, false, cond, List, [], ◌∷◌, ◌++◌, length, map, take, get_or, slice_get, slice_set, swap_remove, ◌-◌, refl, sym, ap, ◌∙◌, subst, arith, Option, Some, None, IfSome, option_map, filter_map}
-use Rattle.std.specs.Prelude.{is_some}
+use Rattle.std.proofs.Common.{◌≡◌, ℕ, zero, suc, ◌+◌, ◌<◌, ◌≤◌, ◌==◌, ◌⊎◌, inl, inr, cond, List, [], ◌∷◌, ◌++◌, length, map, take, slice_get, slice_set, swap_remove, refl, sym, ap, ◌∙◌, subst, arith, Option, Some, None, IfSome, option_map, is_some}
 use mathlib.Core.Path.{fun_ext}
 use Rattle.std.specs.List.{cons_option}
 use Rattle.std.specs.Option.{option_map_or}
-use Rattle.std.proofs.lemmas.Bool.{eq-eqb, ne_eqb, cases_lt}
+use Rattle.std.proofs.lemmas.Bool.{cases_eq, eq-eqb, ne_eqb, cases_lt}
 use Rattle.std.proofs.lemmas.Option.{none-some, same_Some, slice_get_past, slice_get-get_or}
 use Rattle.std.proofs.lemmas.List.Elements.{filter_map-append}
 use Rattle.std.proofs.lemmas.List.{length-append, length-map}
@@ -19,7 +18,7 @@ use Rattle.n2k_join.specs.Open.{Group}
 use Rattle.n2k_join.specs.Inner.Slots.{group_at}
 use Rattle.n2k_join.specs.Inner.Places.{nowhere, Path, times, AreLinked, put}
 use Rattle.n2k_join.specs.Inner.Order.{Entries, item, item_in, item_at, IsPlace, beside, behind_of, before_of, places_from, places, groups_at, listed, RiseBelow, IsKept, AreRelinked}
-use Rattle.n2k_join.proofs.Places.{is-or-not, times-here, put-here, put-other, unlinked, pushed, renamed, dropped, moved, in-list, no-loop, Inverse}
+use Rattle.n2k_join.proofs.Places.{times-here, unlinked, pushed, renamed, dropped, moved, in-list, no-loop}
 
 pub there : {X : Type 0} (xs : List X) (i : ℕ) → i < length xs → (x : X) × (slice_get xs i ≡ Some x)
 there [] i l = absurd (omega (arith, l))
@@ -30,55 +29,36 @@ there (x ∷ xs) (suc i) l = there xs i (omega (arith, l))
 
 module _ (side : Linked → ℕ) (end : ℕ) (es : Entries) where
   pub beside-at : (at : ℕ) (e : FrameKey × Linked) → (at ≡ nowhere → ⊥) → slice_get es at ≡ Some e → beside side end es at ≡ side e.1
-  beside-at at e other is =
-      ap (λ b. cond b end (option_map_or (λ (e : FrameKey × Linked). side e.1) (slice_get es at) at)) (ne_eqb at nowhere other)
-      ∙ ap (λ o. option_map_or (λ (e : FrameKey × Linked). side e.1) o at) is
+  beside-at at e other is = grind arith
 
   -- where there is no entry, itself
   pub beside-past : (at : ℕ) → (at ≡ nowhere → ⊥) → length es ≤ at → beside side end es at ≡ at
-  beside-past at other past =
-      ap (λ b. cond b end (option_map_or (λ (e : FrameKey × Linked). side e.1) (slice_get es at) at)) (ne_eqb at nowhere other)
-      ∙ ap (λ o. option_map_or (λ (e : FrameKey × Linked). side e.1) o at) (slice_get_past es at past)
+  beside-past at other past = grind (arith, slice_get_past)
 
   pub beside-same : (end' : ℕ) (es' : Entries) (at : ℕ) → (at ≡ nowhere → ⊥) → slice_get es' at ≡ slice_get es at → beside side end' es' at ≡ beside side end es at
-  beside-same end' es' at other same =
-      ap (λ b. cond b end' (option_map_or (λ (e : FrameKey × Linked). side e.1) (slice_get es' at) at)) (ne_eqb at nowhere other)
-      ∙ ap (λ o. option_map_or (λ (e : FrameKey × Linked). side e.1) o at) same
-      ∙ sym (ap (λ b. cond b end (option_map_or (λ (e : FrameKey × Linked). side e.1) (slice_get es at) at)) (ne_eqb at nowhere other))
+  beside-same end' es' at other same = grind arith
 
   -- another end
   pub beside-end : (to at : ℕ) → beside side to es at ≡ put nowhere to (beside side end es) at
-  beside-end to at = elim (at == nowhere) as (λ b. cond b to (option_map_or (λ (e : FrameKey × Linked). side e.1) (slice_get es at) at)
-      ≡ cond b to (cond b end (option_map_or (λ (e : FrameKey × Linked). side e.1) (slice_get es at) at))) [ true ↦ refl | false ↦ refl ]
+  beside-end to at = grind arith
 
 -- A place to which another one leads is one.
 pub leads-place : (n at to : ℕ) (f : ℕ → ℕ) → ((j : ℕ) → (j ≡ nowhere → ⊥) → n ≤ j → f j ≡ j) → f at ≡ to → IsPlace n to → IsPlace n at
-leads-place n at to f fixed leads is = by (is-or-not at nowhere) (cases_lt at n)
-  where
-    by : (at ≡ nowhere) ⊎ (at ≡ nowhere → ⊥) → (at < n) ⊎ (n ≤ at) → IsPlace n at
-    by (inl e) l = inr e
-    by (inr e) (inl l) = inl l
-    by (inr e) (inr l) = subst (IsPlace n) (sym (sym (fixed at e l) ∙ leads)) is
+leads-place n at to f fixed leads is = grind arith
 
 pub later-place : (n m at : ℕ) → n ≤ m → IsPlace n at → IsPlace m at
-later-place n m at l (inl h) = inl (omega (arith, h, l))
-later-place n m at l (inr e) = inr e
+later-place n m at l h = grind arith
 
 -- what stands beside places of the list are places
 module _ (next : ℕ) (g : OpenGroups) (kept : IsKept next g) where
   pub before-place : (at : ℕ) → IsPlace (length g.groups.entries) at → IsPlace (length g.groups.entries) (before_of g at)
-  before-place at is = leads-place (length g.groups.entries) (before_of g at) at (behind_of g) (λ j o p. beside-past (λ l. l.behind) g.first g.groups.entries j o p) (kept.linked.forth at (not-count is)).0 is
-    where
-      not-count : IsPlace (length g.groups.entries) at → at ≡ length g.groups.entries → ⊥
-      not-count (inl l) e = omega (arith, l, e)
-      not-count (inr h) e = omega (arith, kept.few, sym h ∙ e)
+  before-place at is = grind (arith, beside-past)
 
   pub behind-place : (at : ℕ) → IsPlace (length g.groups.entries) at → IsPlace (length g.groups.entries) (behind_of g at)
   behind-place at is = leads-place (length g.groups.entries) (behind_of g at) at (before_of g) (λ j o p. beside-past (λ l. l.before) g.last g.groups.entries j o p) (kept.linked.back at (not-count is)).0 is
     where
       not-count : IsPlace (length g.groups.entries) at → at ≡ length g.groups.entries → ⊥
-      not-count (inl l) e = omega (arith, l, e)
-      not-count (inr h) e = omega (arith, kept.few, sym h ∙ e)
+      not-count h e = grind arith
 
 -- ---- an entry written
 
@@ -96,20 +76,11 @@ slot-other (e ∷ es) (suc i) w (suc j) n = slot-other es i w j (λ s. n (ap suc
 
 module _ (es : Entries) (at : ℕ) (k : FrameKey) (v w : Linked) (is : slice_get es at ≡ Some (k, v)) (inside : at ≡ nowhere → ⊥) where
   pub beside-written : (side : Linked → ℕ) (end j : ℕ) → beside side end (set_value_at es at w) j ≡ put at (side w) (beside side end es) j
-  beside-written side end j = by (is-or-not j nowhere) (is-or-not j at)
-    where
-      by : (j ≡ nowhere) ⊎ (j ≡ nowhere → ⊥) → (j ≡ at) ⊎ (j ≡ at → ⊥) → beside side end (set_value_at es at w) j ≡ put at (side w) (beside side end es) j
-      by (inl e) q = subst (λ i. beside side end (set_value_at es at w) i ≡ put at (side w) (beside side end es) i) (sym e) (sym (put-other at (side w) (beside side end es) nowhere (λ s. inside (sym s))))
-      by (inr e) (inl q) = beside-at side end (set_value_at es at w) j (k, w) e (ap (slice_get (set_value_at es at w)) q ∙ slot-here es at k v w is) ∙ sym (put-here at (side w) (beside side end es) j q)
-      by (inr e) (inr q) = beside-same side end es end (set_value_at es at w) j e (slot-other es at w j q) ∙ sym (put-other at (side w) (beside side end es) j q)
+  beside-written side end j = grind (arith, slot-here, slot-other)
 
   -- and on a side that says the same
   pub beside-kept : (side : Linked → ℕ) (end j : ℕ) → side w ≡ side v → beside side end (set_value_at es at w) j ≡ beside side end es j
-  beside-kept side end j same = beside-written side end j ∙ by (is-or-not j at)
-    where
-      by : (j ≡ at) ⊎ (j ≡ at → ⊥) → put at (side w) (beside side end es) j ≡ beside side end es j
-      by (inl q) = put-here at (side w) (beside side end es) j q ∙ same ∙ sym (ap (beside side end es) q ∙ beside-at side end es at (k, v) inside is)
-      by (inr q) = put-other at (side w) (beside side end es) j q
+  beside-kept side end j same = grind (arith, beside-written)
 
   pub item-here : item_in (set_value_at es at w) at ≡ Some (k, w.group)
   item-here = ap (option_map item) (slot-here es at k v w is)
@@ -118,11 +89,7 @@ module _ (es : Entries) (at : ℕ) (k : FrameKey) (v w : Linked) (is : slice_get
   item-other j e = ap (option_map item) (slot-other es at w j e)
 
   pub item-kept : (j : ℕ) → w.group ≡ v.group → item_in (set_value_at es at w) j ≡ item_in es j
-  item-kept j same = by (is-or-not j at)
-    where
-      by : (j ≡ at) ⊎ (j ≡ at → ⊥) → item_in (set_value_at es at w) j ≡ item_in es j
-      by (inl q) = ap (item_in (set_value_at es at w)) q ∙ item-here ∙ ap (λ g. Some (k, g)) same ∙ sym (ap (item_in es) q ∙ ap (option_map item) is)
-      by (inr q) = item-other j q
+  item-kept j same = grind (arith, item-here, item-other)
 
 -- ---- the list
 
@@ -134,28 +101,12 @@ places-are es end a [] n few within l h = ap (places_from es n) h ∙ none n
     none zero = refl
     none (suc n) = ap (λ o. option_map_or (λ (e : FrameKey × Linked). nowhere ∷ places_from es n e.1.behind) o []) (slice_get_past es nowhere (omega (arith, few)))
 places-are es end a (p ∷ ps) zero few within l h = absurd (omega (arith, l))
-places-are es end a (p ∷ ps) (suc n) few within l h =
-    let low = within p (omega (arith, times-here p ps)) in
-    let e = there es p low in
-    ap (places_from es (suc n)) h.0
-    ∙ ap (λ o. option_map_or (λ (e : FrameKey × Linked). p ∷ places_from es n e.1.behind) o []) e.1
-    ∙ ap (λ q. p ∷ places_from es n q) (sym (beside-at (λ l. l.behind) end es p e.0 (λ s. omega (arith, low, few, s)) e.1))
-    ∙ ap (λ qs. p ∷ qs) (places-are es end p ps n few (λ at more. within at (omega (arith, more))) (omega (arith, l)) h.1)
+places-are es end a (p ∷ ps) (suc n) few within l h = grind (arith, places-are es end p ps n few (λ at more. within at (omega (arith, more))) (omega (arith, l)) h.1, times-here p ps, there es p (within p (omega (arith, times-here p ps))))
 
 -- a list that is linked is the list
 pub kept-by : (next : ℕ) (g : OpenGroups) (order : List ℕ) → length g.groups.entries < nowhere → AreLinked (length g.groups.entries) (length g.groups.entries) (behind_of g) (before_of g) order
     → length order ≡ length g.groups.entries → RiseBelow 1 next (groups_at (item_at g) order) → IsKept next g × (listed g ≡ groups_at (item_at g) order)
-kept-by next g order few linked counted rise =
-    let n = length g.groups.entries in
-    let is : places g ≡ order = places-are g.groups.entries g.first nowhere order n few (λ at more. (linked.within at more).0) (omega (arith, counted)) linked.path in (
-      record {
-        few = few;
-        linked = subst (AreLinked n n (behind_of g) (before_of g)) (sym is) linked;
-        counted = ap length is ∙ counted;
-        rise = subst (λ ps. RiseBelow 1 next (groups_at (item_at g) ps)) (sym is) rise;
-      },
-      ap (groups_at (item_at g)) is,
-    )
+kept-by next g order few linked counted rise = grind (arith, places-are g.groups.entries g.first nowhere order (length g.groups.entries) few (λ at more. (linked.within at more).0) (omega (arith, counted)) linked.path)
 
 -- ---- the groups at places
 
@@ -199,11 +150,11 @@ kept-later next more g l kept = record { few = kept.few; linked = kept.linked; c
 
 -- ---- an entry more, and one less
 
-slice_get-push : {X : Type 0} (xs : List X) (x : X) → slice_get (xs ++ x ∷ []) (length xs) ≡ Some x
+pub slice_get-push : {X : Type 0} (xs : List X) (x : X) → slice_get (xs ++ x ∷ []) (length xs) ≡ Some x
 slice_get-push [] x = refl
 slice_get-push (y ∷ xs) x = slice_get-push xs x
 
-slice_get-front : {X : Type 0} (xs : List X) (x : X) (j : ℕ) → j < length xs → slice_get (xs ++ x ∷ []) j ≡ slice_get xs j
+pub slice_get-front : {X : Type 0} (xs : List X) (x : X) (j : ℕ) → j < length xs → slice_get (xs ++ x ∷ []) j ≡ slice_get xs j
 slice_get-front [] x j l = absurd (omega (arith, l))
 slice_get-front (y ∷ xs) x zero l = refl
 slice_get-front (y ∷ xs) x (suc j) l = slice_get-front xs x j (omega (arith, l))
@@ -234,21 +185,7 @@ pub record AreLeft (es es' : Entries) (m p : ℕ) : Type 0 where
   pub others : (j : ℕ) → (j ≡ p → ⊥) → (j ≡ m → ⊥) → slice_get es' j ≡ slice_get es j
 
 pub are-left : (es : Entries) (m p : ℕ) (d : FrameKey × Linked) → length es ≡ suc m → p < suc m → length (swap_remove es p d) ≡ m → AreLeft es (swap_remove es p d) m p
-are-left es m p d was low is = record {
-  was = was;
-  is = is;
-  here = λ l. slice_get-take (length es - 1) (slice_set es p (get_or es (length es - 1) d)) p (omega (arith, l, was)) ∙ slice_get-set es p (get_or es (length es - 1) d) (omega (arith, low, was))
-      ∙ sym (slice_get-get_or es (length es - 1) d (omega (arith, was))) ∙ ap (slice_get es) (omega (arith, was));
-  others = λ j n o. by j n o (cases_lt j m);
-}
-  where
-    by : (j : ℕ) → (j ≡ p → ⊥) → (j ≡ m → ⊥) → (j < m) ⊎ (m ≤ j) → slice_get (swap_remove es p d) j ≡ slice_get es j
-    by j n o (inl l) = slice_get-take (length es - 1) (slice_set es p (get_or es (length es - 1) d)) j (omega (arith, l, was)) ∙ slice_get-set_other es p (get_or es (length es - 1) d) j n
-    by j n o (inr l) = slice_get_past (swap_remove es p d) j (omega (arith, l, is)) ∙ sym (slice_get_past es j (past (cases_lt m j)))
-      where
-        past : (m < j) ⊎ (j ≤ m) → length es ≤ j
-        past (inl h) = omega (arith, h, was)
-        past (inr h) = absurd (o (omega (arith, h, l)))
+are-left es m p d was low is = grind (arith, slice_get-take, slice_get-set, slice_get-get_or, slice_get-set_other, slice_get_past)
 
 -- as the map leaves them
 pub removed-left : (es es' : Entries) (p : ℕ) → p < length es → (o : Option (FrameKey × Linked)) → o ≡ slice_get es p → IfSome o (λ d. es' ≡ swap_remove es p d) → length es' + cond (is_some o) 1 0 ≡ length es → AreLeft es es' (length es') p
@@ -290,28 +227,13 @@ at-end next f g s r p order items e low few fix linked counted behind before oth
 -- an entry more
 module _ (es : Entries) (e : FrameKey × Linked) (few : length es < nowhere) where
   pub pushed-side : (side : Linked → ℕ) (end j : ℕ) → beside side end (es ++ e ∷ []) j ≡ put (length es) (side e.1) (beside side end es) j
-  pushed-side side end j = by (is-or-not j nowhere) (is-or-not j (length es)) (cases_lt j (length es))
-    where
-      by : (j ≡ nowhere) ⊎ (j ≡ nowhere → ⊥) → (j ≡ length es) ⊎ (j ≡ length es → ⊥) → (j < length es) ⊎ (length es ≤ j) → beside side end (es ++ e ∷ []) j ≡ put (length es) (side e.1) (beside side end es) j
-      by (inl h) q l = subst (λ i. beside side end (es ++ e ∷ []) i ≡ put (length es) (side e.1) (beside side end es) i) (sym h) (sym (put-other (length es) (side e.1) (beside side end es) nowhere (λ s. omega (arith, few, s))))
-      by (inr h) (inl q) l = beside-at side end (es ++ e ∷ []) j e h (ap (slice_get (es ++ e ∷ [])) q ∙ slice_get-push es e) ∙ sym (put-here (length es) (side e.1) (beside side end es) j q)
-      by (inr h) (inr q) (inl l) = beside-same side end es end (es ++ e ∷ []) j h (slice_get-front es e j l) ∙ sym (put-other (length es) (side e.1) (beside side end es) j q)
-      by (inr h) (inr q) (inr l) = beside-past side end (es ++ e ∷ []) j h (past (cases_lt (length es) j)) ∙ sym (beside-past side end es j h l) ∙ sym (put-other (length es) (side e.1) (beside side end es) j q)
-        where
-          past : (length es < j) ⊎ (j ≤ length es) → length (es ++ e ∷ []) ≤ j
-          past (inl m) = omega (arith, m, length-append es (e ∷ []))
-          past (inr m) = absurd (q (omega (arith, l, m)))
+  pushed-side side end j = grind (arith, slice_get-push, slice_get-front, beside-past, length-append)
 
   pub pushed-here : item_in (es ++ e ∷ []) (length es) ≡ Some (item e)
   pushed-here = ap (option_map item) (slice_get-push es e)
 
   pub pushed-other : (j : ℕ) → (j ≡ length es → ⊥) → item_in (es ++ e ∷ []) j ≡ item_in es j
-  pushed-other j q = by (cases_lt j (length es)) (cases_lt (length es) j)
-    where
-      by : (j < length es) ⊎ (length es ≤ j) → (length es < j) ⊎ (j ≤ length es) → item_in (es ++ e ∷ []) j ≡ item_in es j
-      by (inl l) m = ap (option_map item) (slice_get-front es e j l)
-      by (inr l) (inl m) = ap (option_map item) (slice_get_past (es ++ e ∷ []) j (omega (arith, m, length-append es (e ∷ []))) ∙ sym (slice_get_past es j l))
-      by (inr l) (inr m) = absurd (q (omega (arith, l, m)))
+  pushed-other j q = grind (arith, slice_get-front, slice_get_past, length-append)
 
 -- a group of a key that has none
 pub inserted : (next : ℕ) (g s r : OpenGroups) (k : FrameKey) (l : Linked) (at : ℕ) → at ≡ length g.groups.entries → IsKept next g → s.groups.entries ≡ g.groups.entries ++ (k, l) ∷ [] → s.first ≡ g.first → s.last ≡ g.last → length s.groups.entries < nowhere
@@ -335,39 +257,11 @@ inserted next g s r k l at here kept is fs ls few before behind first =
     (λ j q. ap (λ es. item_in es j) is ∙ pushed-other g.groups.entries (k, l) kept.few j q) (ap (λ es. item_in es n) is ∙ pushed-here g.groups.entries (k, l) kept.few) first kept.rise)
   where
     below : (at : ℕ) → at < suc (length g.groups.entries) → (at ≡ length g.groups.entries → ⊥) → (at < length g.groups.entries) ⊎ (length g.groups.entries ≤ at) → at < length g.groups.entries
-    below at less other (inl h) = h
-    below at less other (inr h) = absurd (other (omega (arith, h, less)))
+    below at less other h = grind arith
 
 -- none
 pub empty-kept : (g : OpenGroups) → g.groups.entries ≡ [] → g.first ≡ nowhere → g.last ≡ nowhere → (listed g ≡ []) × ((next : ℕ) → 0 < next → IsKept next g)
-empty-kept g none first last = ((all 1 (omega arith)).1, λ next l. (all next l).0)
-  where
-    own : (side : Linked → ℕ) (end j : ℕ) → end ≡ nowhere → beside side end g.groups.entries j ≡ j
-    own side end j e = (λ i. beside side (e i) (none i) j) ∙ by (is-or-not j nowhere)
-      where
-        by : (j ≡ nowhere) ⊎ (j ≡ nowhere → ⊥) → beside side nowhere [] j ≡ j
-        by (inl h) = ap (beside side nowhere []) h ∙ sym h
-        by (inr h) = beside-past side nowhere [] j h (omega arith)
-
-    inverse : (f h : ℕ → ℕ) (n : ℕ) → ((j : ℕ) → f j ≡ j) → ((j : ℕ) → h j ≡ j) → Inverse f h n
-    inverse f h n fs hs j other = (hs (f j) ∙ fs j, λ e. other (sym (fs j) ∙ e))
-
-    behinds : (j : ℕ) → behind_of g j ≡ j
-    behinds j = own (λ l. l.behind) g.first j first
-
-    befores : (j : ℕ) → before_of g j ≡ j
-    befores j = own (λ l. l.before) g.last j last
-
-    all : (next : ℕ) → 0 < next → IsKept next g × (listed g ≡ [])
-    all next l =
-        let count : length g.groups.entries ≡ 0 = ap length none in
-        kept-by next g [] (omega (arith, count)) (record {
-          path = behinds nowhere;
-          back = inverse (behind_of g) (before_of g) (length g.groups.entries) behinds befores;
-          forth = inverse (before_of g) (behind_of g) (length g.groups.entries) befores behinds;
-          within = λ at more. absurd (omega (arith, more));
-          once = λ at less other. absurd (omega (arith, less, count));
-        }) (sym count) (omega (arith, l))
+empty-kept g none first last = grind arith
 
 -- as many groups are listed as there are places
 pub length-listed : (next : ℕ) (g : OpenGroups) → IsKept next g → length (listed g) ≡ length g.groups.entries
@@ -375,9 +269,7 @@ length-listed next g kept = by (places g) (λ at more. (kept.linked.within at mo
   where
     by : (ps : List ℕ) → ((at : ℕ) → 0 < times at ps → at < length g.groups.entries) → length (groups_at (item_at g) ps) ≡ length ps
     by [] low = refl
-    by (p ∷ ps) low =
-        let e = there g.groups.entries p (low p (omega (arith, times-here p ps))) in
-        ap (λ o. length (cons_option (option_map group_at (option_map item o)) (groups_at (item_at g) ps))) e.1 ∙ ap suc (by ps (λ at more. low at (omega (arith, more))))
+    by (p ∷ ps) low = grind (arith, by ps (λ at more. low at (omega (arith, more))), there g.groups.entries p (low p (omega (arith, times-here p ps))))
 
 -- ---- a group taken out of the list
 
@@ -442,7 +334,7 @@ module _ (next : ℕ) (g s : OpenGroups) (at : ℕ) (xs ys : List ℕ) (kept : I
       small = omega (arith, kept.few, many)
 
       beside-others : (side : Linked → ℕ) (end end' j : ℕ) → end' ≡ end → (j ≡ at → ⊥) → (j ≡ m → ⊥) → beside side end' t.groups.entries j ≡ beside side end s.groups.entries j
-      beside-others side end end' j same o o' = by (is-or-not j nowhere)
+      beside-others side end end' j same o o' = by (cases_eq j nowhere)
         where
           by : (j ≡ nowhere) ⊎ (j ≡ nowhere → ⊥) → beside side end' t.groups.entries j ≡ beside side end s.groups.entries j
           by (inl e) = ap (beside side end' t.groups.entries) e ∙ same ∙ sym (ap (beside side end s.groups.entries) e)
@@ -477,7 +369,7 @@ module _ (next : ℕ) (g s : OpenGroups) (at : ℕ) (xs ys : List ℕ) (kept : I
           loop e = omega (arith, small, no-loop (behind_of s) m nowhere (xs ++ ys) nowhere linked-left.path e (linked-left.once m (omega (arith, many)) other))
 
           place : (f h : ℕ → ℕ) → ((j : ℕ) → (j ≡ nowhere → ⊥) → suc m ≤ j → h j ≡ j) → h (f m) ≡ m → (f m ≡ m → ⊥) → IsPlace m (f m)
-          place f h fix inverse never = by (is-or-not (f m) nowhere) (cases_lt (f m) m) (cases_lt m (f m))
+          place f h fix inverse never = by (cases_eq (f m) nowhere) (cases_lt (f m) m) (cases_lt m (f m))
             where
               by : (f m ≡ nowhere) ⊎ (f m ≡ nowhere → ⊥) → (f m < m) ⊎ (m ≤ f m) → (m < f m) ⊎ (f m ≤ m) → IsPlace m (f m)
               by (inl e) l q = inr e
@@ -494,7 +386,7 @@ module _ (next : ℕ) (g s : OpenGroups) (at : ℕ) (xs ys : List ℕ) (kept : I
           (subst (λ k. AreLinked k at (behind_of s) (before_of s) (xs ++ ys)) many linked-left) in
           let l' = subst (λ h. AreLinked m m h (before_of u) (map (renamed m at) (xs ++ ys))) (fun_ext (λ j. ap (λ q. put q at (behind_of t) j) (sym bm) ∙ sym (told.behind j)))
           (subst (λ h. AreLinked m m (put (before_of s m) at (behind_of t)) h (map (renamed m at) (xs ++ ys))) (fun_ext (λ j. ap (λ q. put q at (before_of t) j) (sym hm) ∙ sym (told.before j))) l) in
-          let groups = groups-renamed (item_at s) (item_at u) (renamed m at) (xs ++ ys) (λ j more. told.items (renamed m at j) ∙ named j (linked-left.within j more).1 (is-or-not j m)) ∙ groups-left in
+          let groups = groups-renamed (item_at s) (item_at u) (renamed m at) (xs ++ ys) (λ j more. told.items (renamed m at j) ∙ named j (linked-left.within j more).1 (cases_eq j m)) ∙ groups-left in
           let k = kept-by next u (map (renamed m at) (xs ++ ys)) (omega (arith, small, left.is, told.count)) (subst (λ k. AreLinked k k (behind_of u) (before_of u) (map (renamed m at) (xs ++ ys))) (sym (told.count ∙ left.is)) l')
           (omega (arith, counted-left, many, left.is, told.count, length-map (xs ++ ys) (renamed m at))) (subst (RiseBelow 1 next) (sym groups) rise-left) in
           (k.0, k.1 ∙ groups)
@@ -518,24 +410,11 @@ module _ (g : OpenGroups) (at : ℕ) (k : FrameKey) (v w : Linked) (is : slice_g
   told-side : (side : Linked → ℕ) (end end' j : ℕ) → end' ≡ end → beside side end' t.groups.entries j ≡ put at (side w) (beside side end g.groups.entries) j
   told-side side end end' j e = (λ i. beside side (e i) (entries i) j) ∙ beside-written g.groups.entries at k v w is inside side end j
 
-  kept-side : (side : Linked → ℕ) (end end' j : ℕ) → end' ≡ end → side w ≡ side v → beside side end' t.groups.entries j ≡ beside side end g.groups.entries j
-  kept-side side end end' j e s = (λ i. beside side (e i) (entries i) j) ∙ beside-kept g.groups.entries at k v w is inside side end j s
-
   pub told-behind : w.before ≡ v.before → AreRelinked g t (put at w.behind (behind_of g)) (before_of g)
-  told-behind s = record {
-    count = ap length entries ∙ length-set_value_at g.groups.entries at w;
-    items = told-items;
-    behind = λ j. told-side (λ l. l.behind) g.first t.first j first;
-    before = λ j. kept-side (λ l. l.before) g.last t.last j last s;
-  }
+  told-behind s = grind (arith, length-set_value_at, told-items, told-side)
 
   pub told-before : w.behind ≡ v.behind → AreRelinked g t (behind_of g) (put at w.before (before_of g))
-  told-before s = record {
-    count = ap length entries ∙ length-set_value_at g.groups.entries at w;
-    items = told-items;
-    behind = λ j. kept-side (λ l. l.behind) g.first t.first j first s;
-    before = λ j. told-side (λ l. l.before) g.last t.last j last;
-  }
+  told-before s = grind (arith, length-set_value_at, told-items, told-side)
 
 -- the group at a place is another, of the same line
 pub record IsWritten (next : ℕ) (g t : OpenGroups) (xs ys : List ℕ) (e : FrameKey × OpenGroup) : Type 0 where
@@ -587,31 +466,12 @@ module _ (next : ℕ) (g : OpenGroups) (at : ℕ) (xs ys : List ℕ) (kept : IsK
 -- ---- an end told
 
 module _ (g : OpenGroups) (at to : ℕ) (past : length g.groups.entries ≤ at) (is : IsPlace (length g.groups.entries) at) where
-  no-entry : IsPlace (length g.groups.entries) at → at ≡ nowhere
-  no-entry (inl l) = absurd (omega (arith, l, past))
-  no-entry (inr e) = e
-
   pub told-first : AreRelinked g (record g { first = to }) (put at to (behind_of g)) (before_of g)
-  told-first = record {
-    count = refl;
-    items = λ j. refl;
-    behind = λ j. beside-end (λ l. l.behind) g.first g.groups.entries to j ∙ ap (λ i. put i to (behind_of g) j) (sym (no-entry is));
-    before = λ j. refl;
-  }
+  told-first = grind arith
 
   pub told-last : AreRelinked g (record g { last = to }) (behind_of g) (put at to (before_of g))
-  told-last = record {
-    count = refl;
-    items = λ j. refl;
-    behind = λ j. refl;
-    before = λ j. beside-end (λ l. l.before) g.last g.groups.entries to j ∙ ap (λ i. put i to (before_of g) j) (sym (no-entry is));
-  }
+  told-last = grind arith
 
 -- one told on each side
 pub both-told : (g s t : OpenGroups) (b x h y : ℕ) → AreRelinked g s (put b x (behind_of g)) (before_of g) → AreRelinked s t (behind_of s) (put h y (before_of s)) → AreRelinked g t (put b x (behind_of g)) (put h y (before_of g))
-both-told g s t b x h y one two = record {
-  count = two.count ∙ one.count;
-  items = λ j. two.items j ∙ one.items j;
-  behind = λ j. two.behind j ∙ one.behind j;
-  before = λ j. two.before j ∙ ap (λ q. cond (j == h) y q) (one.before j);
-}
+both-told g s t b x h y one two = grind arith

@@ -1,23 +1,20 @@
 -- What is broken at a line: the groups whose window ends there, and then the one that a frame can't join.
-use Rattle.std.proofs.Common.{◌≡◌, ◌==◌, ◌≤◌, ◌<◌, ◌+◌, ℕ, Bool, true, false, cond, not, ◌||◌, ◌&&◌, nat_le, List, [], ◌∷◌, ◌++◌, length, map, refl, sym, ap, ◌∙◌, arith, Option, Some, None, option_map, option_to_list, filter, filter_map}
+use Rattle.std.proofs.Common.{◌≡◌, ◌≤◌, ◌<◌, ◌+◌, ℕ, Bool, true, false, cond, List, [], ◌∷◌, ◌++◌, length, map, refl, ap, ◌∙◌, arith, Some, None, option_map, option_to_list, filter_map, length-append}
 use Rattle.std.specs.List.{cons_option, AllByRecursion}
-use Rattle.std.proofs.lemmas.List.{length-append}
 use Rattle.std.proofs.lemmas.Bool.{eq-eqb, ne_eqb, lt-leb, le-leb, ltb-true, ltb-false, or_right}
-use Rattle.n2k_join.specs.declared.step.Broken.{Broken}
 use Rattle.n2k_join.specs.Frames.{Key, same_key, Frame}
-use Rattle.n2k_join.specs.Groups.{misfits, is_late, within, complete}
+use Rattle.n2k_join.specs.Groups.{misfits, within, complete}
 use Rattle.n2k_join.specs.Open.{Group, is_waiting, waiting, ended}
 use Rattle.n2k_join.specs.Messages.{broken_of, as_broken}
 use Rattle.n2k_join.specs.State.{held_of, Rise, IsOpen, AreApart}
 use Rattle.n2k_join.specs.Inner.Stored.{lost}
-use Rattle.n2k_join.proofs.Advanced.{with_frame, taken, of_the_key, opened, advanced}
+use Rattle.n2k_join.proofs.Advanced.{with_frame, taken, of_the_key, advanced}
 use Rattle.n2k_join.proofs.BrokenGroups.{runs_out, breaks, told_if}
 use Rattle.n2k_join.proofs.Cuts.{next}
 use Rattle.n2k_join.proofs.Keys.{same_key-true}
 use Rattle.n2k_join.proofs.Rising.{all-map}
 use Rattle.n2k_join.proofs.Windows.{ended-ends, waits-ends, misfits-rejects, later-wait, key-waiting}
 use Rattle.n2k_join.specs.Window.{Window}
-use Rattle.std.proofs.Math.Bool.{and-true}
 use Rattle.std.proofs.lemmas.List.Filters.{length-filter_both}
 use Rattle.n2k_join.proofs.JoinLemmas.{broken-held}
 
@@ -40,11 +37,7 @@ module _ (w : Window) (some : 0 < w.lines) where
   breaks-now n x o at is e f = grind (arith, ltb-true, ltb-false, le-leb, eq-eqb, ended-ends)
 
   pub breaks-later : (x : Frame) (o : Group) → IsOpen o → is_waiting w x.line o ≡ true → breaks w some x o ≡ cond (same_key x.key o.key) (misfits w (held_of o) x) false
-  breaks-later x o is e =
-      let l : x.line < o.first + w.lines = ltb-true _ _ e in
-      let up_to : nat_le x.line (o.first + w.lines) ≡ true = le-leb x.line (o.first + w.lines) (omega (arith, l)) in
-      let other : (o.first + w.lines == x.line) ≡ false = ne_eqb (o.first + w.lines) x.line (λ f. omega (arith, l, f)) in
-      (λ i. cond (same_key x.key o.key) (waits-ends w x o is e i && up_to i) (other i)) ∙ ap (λ b. cond (same_key x.key o.key) b false) (and-true (misfits w (held_of o) x))
+  breaks-later x o is e = grind (arith, ne_eqb, waits-ends)
 
   -- ---- the groups that are told
 
@@ -81,12 +74,8 @@ module _ (w : Window) (some : 0 < w.lines) where
   one-broken x [] each wait begun apart = refl
   one-broken x (g ∷ gs) each wait begun apart = by (same_key x.key g.key) refl (one-broken x gs each.1 wait.1 begun.1 apart.1)
     where
-      rest : List Broken
-      rest = filter_map (told_if w some (breaks w some x)) gs
-
       by_test : (r : Bool) → as_broken g ≡ broken_of x.key (held_of g) → cons_option (cond r (Some (as_broken g)) None) [] ≡ option_to_list (cond r (Some (broken_of x.key (held_of g))) None)
-      by_test true e = ap (λ b. b ∷ []) e
-      by_test false e = refl
+      by_test r e = grind arith
 
       by : (b : Bool) → same_key x.key g.key ≡ b → filter_map (told_if w some (breaks w some x)) gs ≡ option_to_list (lost w.in_order x (of_the_key x.key gs))
           → filter_map (told_if w some (breaks w some x)) (g ∷ gs) ≡ option_to_list (lost w.in_order x (cond b (Some g) (of_the_key x.key gs)))
@@ -96,9 +85,7 @@ module _ (w : Window) (some : 0 < w.lines) where
           ∙ ap (λ b. cons_option (cond b (Some (as_broken g)) None) []) (breaks-later x g each.0 wait.0 ∙ ap (λ b. cond b (misfits w (held_of g) x) false) e)
           ∙ by_test (misfits w (held_of g) x) (broken-held g x.key each.0 (same_key-true x.key g.key e))
           ∙ ap (λ r. option_to_list (cond r (Some (broken_of x.key (held_of g))) None)) (misfits-rejects w x g each.0 begun.0)
-      by false e later =
-          ap (λ b. cons_option (cond b (Some (as_broken g)) None) (filter_map (told_if w some (breaks w some x)) gs)) (breaks-later x g each.0 wait.0 ∙ ap (λ b. cond b (misfits w (held_of g) x) false) e)
-          ∙ later
+      by false e later = grind arith
 
   -- ---- the group that a frame joins or begins
 
@@ -113,8 +100,7 @@ module _ (w : Window) (some : 0 < w.lines) where
 
   pub ended-counted : (line : ℕ) (gs : List Group) → length (ended w line gs) + length (waiting w line gs) ≡ length gs
   unfolding waiting ended
-  ended-counted line gs =
-      omega (arith, length-filter_both (is_waiting w line) (λ (g : Group). not (is_waiting w line g)) (λ g. refl) gs)
+  ended-counted line gs = grind (arith, length-filter_both)
 
   -- a group that a frame breaks goes
   broken-go : (x : Frame) (gs : List Group) → AllByRecursion IsOpen gs → AllByRecursion (λ o. is_waiting w x.line o ≡ true) gs

@@ -1,9 +1,7 @@
 -- The seven bytes of a frame, by their places in it.
-use Rattle.std.proofs.Common.{◌≡◌, ℕ, zero, suc, ◌+◌, ◌-◌, ◌*◌, ◌≤◌, List, [], ◌∷◌, length, get_or, take, drop, map, refl, ap, sym, ◌∙◌, add_assoc, add-zero, arith}
-use Rattle.std.specs.Prelude.{slice_index_or}
+use Rattle.std.proofs.Common.{◌≡◌, ℕ, zero, suc, ◌+◌, ◌*◌, ◌≤◌, List, [], ◌∷◌, length, get_or, take, drop, map, refl, ap, ◌∙◌, add_assoc, add-zero, arith, slice_index_or, length-drop}
 use Rattle.std.specs.List.{range_with_len}
 use Rattle.std.proofs.Math.Seq.{drop-cons}
-use Rattle.std.proofs.lemmas.List.{length-drop}
 use Rattle.n2k_join.specs.Frames.{filler}
 use Rattle.n2k_join.specs.Pieces.{sent_byte, piece_bytes}
 
@@ -17,20 +15,12 @@ bytes_by_place payload n first e = rw e (ap (map (sent_byte payload)) (places (7
 -- the elements of a list from a place on, one by one
 window : (xs : List ℕ) (start count : ℕ) → start + count ≤ length xs → map (λ i. slice_index_or xs i filler) (range_with_len start count) ≡ take count (drop start xs)
 window xs start zero within = refl
-window xs start (suc count) within =
-    let one : drop start xs ≡ get_or xs start filler ∷ drop (suc start) xs = drop-cons xs start filler (omega (arith, within)) in
-    let next : suc start ≡ start + 1 = omega arith in
-    let rest : map (λ i. slice_index_or xs i filler) (range_with_len (start + 1) count) ≡ take count (drop (suc start) xs) = rw next (window xs (start + 1) count (omega (arith, within))) in
-    ap (λ (t : List ℕ). slice_index_or xs start filler ∷ t) rest ∙ ap (take (suc count)) (sym one)
+window xs start (suc count) within = grind (arith, window xs (start + 1) count (omega (arith, within)), drop-cons)
 
 -- a later frame that the data fill
 pub later_bytes : (payload behind seven : List ℕ) (n first : ℕ) → first + 1 ≡ 7 * n → behind ≡ drop first payload → 7 ≤ length behind → seven ≡ take 7 behind → seven ≡ piece_bytes payload n
 unfolding piece_bytes
-later_bytes payload behind seven n first e rest enough is =
-    let long : length behind ≡ length payload - first = ap length rest ∙ length-drop first payload in
-    let start : 7 * n ≡ suc first = omega (arith, e) in
-    let all = window (length payload ∷ payload) (suc first) 7 (omega (arith, long, enough)) in
-    is ∙ ap (take 7) rest ∙ sym (rw start all)
+later_bytes payload behind seven n first e rest enough is = grind (arith, window (length payload ∷ payload) (suc first) 7 (omega (arith, (ap length rest ∙ length-drop first payload), enough)))
 
 -- frame 0, where the data fill it
 pub first_bytes : (payload six : List ℕ) → 6 ≤ length payload → six ≡ take 6 payload → length payload ∷ get_or six 0 0 ∷ get_or six 1 0 ∷ get_or six 2 0 ∷ get_or six 3 0 ∷ get_or six 4 0 ∷ get_or six 5 0 ∷ [] ≡ piece_bytes payload 0
@@ -40,6 +30,4 @@ first_bytes (a ∷ b ∷ []) six enough is = absurd (omega (arith, enough))
 first_bytes (a ∷ b ∷ c ∷ []) six enough is = absurd (omega (arith, enough))
 first_bytes (a ∷ b ∷ c ∷ d ∷ []) six enough is = absurd (omega (arith, enough))
 first_bytes (a ∷ b ∷ c ∷ d ∷ e ∷ []) six enough is = absurd (omega (arith, enough))
-first_bytes (a ∷ b ∷ c ∷ d ∷ e ∷ f ∷ more) six enough is =
-    let payload = a ∷ b ∷ c ∷ d ∷ e ∷ f ∷ more in
-    (rw is refl) ∙ sym (bytes_by_place payload 0 0 refl)
+first_bytes (a ∷ b ∷ c ∷ d ∷ e ∷ f ∷ more) six enough is = grind (arith, bytes_by_place)

@@ -1,7 +1,6 @@
 -- A list of places: one put behind the last, one taken out, and the last place moved into that of one taken out.
-use Rattle.std.proofs.Common.{◌≡◌, ℕ, zero, suc, ◌+◌, ◌<◌, ◌≤◌, ◌==◌, ◌⊎◌, inl, inr, Bool, true, false, cond, List, [], ◌∷◌, ◌++◌, map, refl, sym, ap, ◌∙◌, subst, arith}
-use Rattle.std.proofs.lemmas.List.{append-nil}
-use Rattle.std.proofs.lemmas.Bool.{eqb-true, eq-eqb, ne_eqb, false≢true, cases_lt}
+use Rattle.std.proofs.Common.{◌≡◌, ℕ, zero, suc, ◌+◌, ◌<◌, ◌≤◌, ◌==◌, ◌⊎◌, inl, inr, Bool, true, false, cond, List, [], ◌∷◌, ◌++◌, map, refl, sym, ap, ◌∙◌, subst, arith, append-nil}
+use Rattle.std.proofs.lemmas.Bool.{cases_eq, eqb-true, eq-eqb, ne_eqb, cases_lt}
 use Rattle.n2k_join.specs.Inner.Places.{nowhere, Path, times, AreLinked, put}
 
 pub times-append : (at : ℕ) (xs ys : List ℕ) → times at (xs ++ ys) ≡ times at xs + times at ys
@@ -62,15 +61,13 @@ no-loop f j a (x ∷ xs) z h e t = by (x == j) refl t (no-loop f j x xs z h.1 e)
 path-changed : (f f' : ℕ → ℕ) (but t u : ℕ) → ((j : ℕ) → (j ≡ but → ⊥) → f j ≡ t → f' j ≡ u) → ((j : ℕ) → (j ≡ but → ⊥) → (f j ≡ t → ⊥) → f' j ≡ f j)
     → (a : ℕ) (xs : List ℕ) → (a ≡ but → ⊥) → times but xs ≡ 0 → times t xs ≡ 0 → Path f a xs t → Path f' a xs u
 path-changed f f' but t u at other a [] n b c h = at a n h
-path-changed f f' but t u at other a (x ∷ xs) n b c h =
-    (other a n (λ e. not-first x t xs c (sym h.0 ∙ e)) ∙ h.0, path-changed f f' but t u at other x xs (not-first x but xs b) (omega (arith, b)) (omega (arith, c)) h.1)
+path-changed f f' but t u at other a (x ∷ xs) n b c h = grind (arith, path-changed f f' but t u at other x xs (not-first x but xs b) (omega (arith, b)) (omega (arith, c)) h.1)
 
 -- and one that doesn't lead there
 path-same : (f f' : ℕ → ℕ) (but t : ℕ) → ((j : ℕ) → (j ≡ but → ⊥) → (f j ≡ t → ⊥) → f' j ≡ f j)
     → (a : ℕ) (xs : List ℕ) (z : ℕ) → (a ≡ but → ⊥) → (z ≡ t → ⊥) → times but xs ≡ 0 → times t xs ≡ 0 → Path f a xs z → Path f' a xs z
 path-same f f' but t other a [] z n m b c h = other a n (λ e. m (sym h ∙ e)) ∙ h
-path-same f f' but t other a (x ∷ xs) z n m b c h =
-    (other a n (λ e. not-first x t xs c (sym h.0 ∙ e)) ∙ h.0, path-same f f' but t other x xs z (not-first x but xs b) m (omega (arith, b)) (omega (arith, c)) h.1)
+path-same f f' but t other a (x ∷ xs) z n m b c h = grind (arith, path-same f f' but t other x xs z (not-first x but xs b) m (omega (arith, b)) (omega (arith, c)) h.1)
 
 -- ---- what stands beside a place
 
@@ -80,20 +77,13 @@ put-here at to f j e = ap (λ b. cond b to (f j)) (eq-eqb j at e)
 pub put-other : (at to : ℕ) (f : ℕ → ℕ) (j : ℕ) → (j ≡ at → ⊥) → put at to f j ≡ f j
 put-other at to f j e = ap (λ b. cond b to (f j)) (ne_eqb j at e)
 
-pub is-or-not : (j k : ℕ) → (j ≡ k) ⊎ (j ≡ k → ⊥)
-is-or-not j k = by (j == k) refl
-  where
-    by : (b : Bool) → (j == k) ≡ b → (j ≡ k) ⊎ (j ≡ k → ⊥)
-    by true e = inl (eqb-true j k e)
-    by false e = inr (λ is. false≢true (sym e ∙ eq-eqb j k is))
-
 -- A place is what stands on the other side of what stands on one side, and that isn't `but`.
 abbrev pub Inverse : (ℕ → ℕ) → (ℕ → ℕ) → ℕ → Type 0
 Inverse f g but = (j : ℕ) → (j ≡ but → ⊥) → (g (f j) ≡ j) × (f j ≡ but → ⊥)
 
 -- one is taken out
 out : (f g : ℕ → ℕ) (p : ℕ) → ((j : ℕ) → g (f j) ≡ j) → Inverse (put (g p) (f p) f) (put (f p) (g p) g) p
-out f g p back j other = by (is-or-not j (g p))
+out f g p back j other = by (cases_eq j (g p))
   where
     by : (j ≡ g p) ⊎ (j ≡ g p → ⊥) → (put (f p) (g p) g (put (g p) (f p) f j) ≡ j) × (put (g p) (f p) f j ≡ p → ⊥)
     by (inl e) =
@@ -106,21 +96,7 @@ out f g p back j other = by (is-or-not j (g p))
 -- one is put between two
 between : (f g : ℕ → ℕ) (p n u v : ℕ) → Inverse f g p → g v ≡ u → (p ≡ u → ⊥) → (p ≡ v → ⊥) → (p ≡ n → ⊥) → (v ≡ n → ⊥) → g n ≡ n
     → Inverse (put u p (put p v f)) (put v p (put p u g)) n
-between f g p n u v back gv pu pv pn vn gn j other = by (is-or-not j u) (is-or-not j p)
-  where
-    by : (j ≡ u) ⊎ (j ≡ u → ⊥) → (j ≡ p) ⊎ (j ≡ p → ⊥) → (put v p (put p u g) (put u p (put p v f) j) ≡ j) × (put u p (put p v f) j ≡ n → ⊥)
-    by (inl e) q =
-        let at = put-here u p (put p v f) j e in
-        (ap (put v p (put p u g)) at ∙ put-other v p (put p u g) p pv ∙ put-here p u g p refl ∙ sym e, λ to. pn (sym at ∙ to))
-    by (inr e) (inl q) =
-        let at = put-other u p (put p v f) j e ∙ put-here p v f j q in
-        (ap (put v p (put p u g)) at ∙ put-here v p (put p u g) v refl ∙ sym q, λ to. vn (sym at ∙ to))
-    by (inr e) (inr q) =
-        let at = put-other u p (put p v f) j e ∙ put-other p v f j q in
-        let b = back j q in (
-          ap (put v p (put p u g)) at ∙ put-other v p (put p u g) (f j) (λ to. e (sym b.0 ∙ ap g to ∙ gv)) ∙ put-other p u g (f j) b.1 ∙ b.0,
-          λ to. other (sym b.0 ∙ ap g (sym at ∙ to) ∙ gn),
-        )
+between f g p n u v back gv pu pv pn vn gn j other = grind arith
 
 -- another name of one
 abbrev pub renamed : ℕ → ℕ → ℕ → ℕ
@@ -133,33 +109,14 @@ module _ (f g f1 : ℕ → ℕ) (p m : ℕ) (back : Inverse f g p) (forth : Inve
   told = put (g m) p f1
 
   moved-beside : (j : ℕ) → (j ≡ p → ⊥) → told (renamed m p j) ≡ renamed m p (f j)
-  moved-beside j other = by (is-or-not j m) (is-or-not j (g m))
-    where
-      name : (k : ℕ) → (k ≡ m → ⊥) → renamed m p k ≡ k
-      name k e = ap (λ b. cond b p k) (ne_eqb k m e)
-
-      by : (j ≡ m) ⊎ (j ≡ m → ⊥) → (j ≡ g m) ⊎ (j ≡ g m → ⊥) → told (renamed m p j) ≡ renamed m p (f j)
-      by (inl e) q =
-          ap told (ap (λ b. cond b p j) (eq-eqb j m e))
-          ∙ put-other (g m) p f1 p (λ to. (forth m (λ s. pm (sym s))).1 (sym to))
-          ∙ here ∙ sym (name (f m) loop) ∙ ap (λ k. renamed m p (f k)) (sym e)
-      by (inr e) (inl q) =
-          ap told (name j e) ∙ put-here (g m) p f1 j q
-          ∙ sym (ap (λ b. cond b p (f j)) (eq-eqb (f j) m (ap f q ∙ (forth m (λ s. pm (sym s))).0)))
-      by (inr e) (inr q) =
-          ap told (name j e) ∙ put-other (g m) p f1 j q ∙ others j other e
-          ∙ sym (name (f j) (λ to. q (sym (back j other).0 ∙ ap g to)))
+  moved-beside j other = grind arith
 
 -- ---- taken out
 
 module _ (n : ℕ) (f g : ℕ → ℕ) (xs : List ℕ) (p : ℕ) (ys : List ℕ) (few : n < nowhere) (fn : f n ≡ n) (gn : g n ≡ n) where
   -- where none is left out, each has its inverse
   all-back : (f g : ℕ → ℕ) → f n ≡ n → g n ≡ n → Inverse f g n → (j : ℕ) → g (f j) ≡ j
-  all-back f g fn gn back j = by (is-or-not j n)
-    where
-      by : (j ≡ n) ⊎ (j ≡ n → ⊥) → g (f j) ≡ j
-      by (inl e) = ap (λ i. g (f i)) e ∙ ap g fn ∙ gn ∙ sym e
-      by (inr e) = (back j e).0
+  all-back f g fn gn back j = grind arith
 
   module _ (l : AreLinked n n f g (xs ++ p ∷ ys)) where
     pub in-list : (p < n) × (times p xs ≡ 0) × (times p ys ≡ 0)
@@ -171,20 +128,14 @@ module _ (n : ℕ) (f g : ℕ → ℕ) (xs : List ℕ) (p : ℕ) (ys : List ℕ)
         (low, omega (arith, at, here, once), omega (arith, at, here, once))
 
     absent : (zs : List ℕ) → (0 < times n zs → 0 < times n (xs ++ p ∷ ys)) → times n zs ≡ 0
-    absent zs more = by (times n zs) more
-      where
-        by : (k : ℕ) → (0 < k → 0 < times n (xs ++ p ∷ ys)) → k ≡ 0
-        by zero more = refl
-        by (suc k) more = absurd ((l.within n (more (omega arith))).1 refl)
+    absent zs more = grind arith
 
     abbrev went : ℕ → ℕ
     went = put (g p) (f p) f
 
     path-left : (zs : List ℕ) → times p zs ≡ 0 → times n zs ≡ 0 → Path went nowhere xs (f p) → Path f p zs nowhere → Path went nowhere (xs ++ zs) nowhere
     path-left [] t u front h = subst (λ ws. Path went nowhere ws nowhere) (sym (append-nil xs)) (subst (Path went nowhere xs) h front)
-    path-left (q ∷ zs) t u front h =
-        path-from went nowhere xs q zs nowhere (subst (Path went nowhere xs) h.0 front)
-        (path-same f went n p (λ j i e. put-other (g p) (f p) f j (λ at. e (ap f at ∙ all-back g f gn fn l.forth p))) q zs nowhere (not-first q n zs u) (λ e. omega (arith, few, e, in-list.0)) (omega (arith, u)) (omega (arith, t)) h.1)
+    path-left (q ∷ zs) t u front h = grind (arith, path-from, path-same, in-list)
 
     pub unlinked : AreLinked n p (put (g p) (f p) f) (put (f p) (g p) g) (xs ++ ys)
     unlinked = record {
@@ -215,11 +166,7 @@ module _ (n : ℕ) (f g : ℕ → ℕ) (p : ℕ) (order : List ℕ) (low : p < n
   ends = l.forth nowhere (λ e. p-where (sym e))
 
   none : (at : ℕ) → ((at < n) × (at ≡ p → ⊥) → ⊥) → times at order ≡ 0
-  none at not-there = by (times at order) (l.within at)
-    where
-      by : (k : ℕ) → (0 < k → (at < n) × (at ≡ p → ⊥)) → k ≡ 0
-      by zero there = refl
-      by (suc k) there = absurd (not-there (there (omega arith)))
+  none at not-there = grind arith
 
   pub pushed : AreLinked n n (put last p (put p nowhere f)) (put nowhere p (put p last g)) (order ++ p ∷ [])
   pushed = record {
@@ -231,8 +178,8 @@ module _ (n : ℕ) (f g : ℕ → ℕ) (p : ℕ) (order : List ℕ) (low : p < n
         (put-other last p (put p nowhere f) p (λ e. ends.1 (sym e)) ∙ put-here p nowhere f p refl);
     back = between f g p n last nowhere l.back refl (λ e. ends.1 (sym e)) p-where (λ e. omega (arith, low, e)) (λ e. omega (arith, few, e)) gn;
     forth = between g f p n nowhere last l.forth ends.0 p-where (λ e. ends.1 (sym e)) (λ e. omega (arith, low, e)) (λ e. omega (arith, few, sym (ap f e ∙ fn) ∙ ends.0)) fn;
-    within = λ at more. within at (is-or-not p at) more;
-    once = λ at less other. once at less (is-or-not p at);
+    within = λ at more. within at (cases_eq p at) more;
+    once = λ at less other. once at less (cases_eq p at);
   }
     where
       within : (at : ℕ) → (p ≡ at) ⊎ (p ≡ at → ⊥) → 0 < times at (order ++ p ∷ []) → (at < n) × (at ≡ n → ⊥)
@@ -285,14 +232,10 @@ module _ (m : ℕ) (f g f1 g1 : ℕ → ℕ) (order : List ℕ) (few : suc m < n
     new-name j e = ap (λ b. cond b p j) (eq-eqb j m e)
 
     never-last : (j : ℕ) → renamed m p j ≡ m → ⊥
-    never-last j e = by (is-or-not j m)
-      where
-        by : (j ≡ m) ⊎ (j ≡ m → ⊥) → ⊥
-        by (inl h) = pm (sym (new-name j h) ∙ e)
-        by (inr h) = h (sym (kept-name j h) ∙ e)
+    never-last j e = grind arith
 
     renamed-back : (h k : ℕ → ℕ) (h' k' : ℕ → ℕ) → ((j : ℕ) → (j ≡ p → ⊥) → h' (renamed m p j) ≡ renamed m p (h j)) → ((j : ℕ) → (j ≡ p → ⊥) → k' (renamed m p j) ≡ renamed m p (k j)) → Inverse h k p → Inverse h' k' m
-    renamed-back h k h' k' hs ks back j other = by (is-or-not j p)
+    renamed-back h k h' k' hs ks back j other = by (cases_eq j p)
       where
         named : (i : ℕ) → renamed m p i ≡ j → (i ≡ p → ⊥) → (k' (h' j) ≡ j) × (h' j ≡ m → ⊥)
         named i is n =
@@ -305,19 +248,11 @@ module _ (m : ℕ) (f g f1 g1 : ℕ → ℕ) (order : List ℕ) (few : suc m < n
 
     times-kept : (at : ℕ) → (at ≡ m → ⊥) → (at ≡ p → ⊥) → (xs : List ℕ) → times at (map (renamed m p) xs) ≡ times at xs
     times-kept at am ap' [] = refl
-    times-kept at am ap' (x ∷ xs) = by (is-or-not x m) (times-kept at am ap' xs)
-      where
-        by : (x ≡ m) ⊎ (x ≡ m → ⊥) → times at (map (renamed m p) xs) ≡ times at xs → times at (renamed m p x ∷ map (renamed m p) xs) ≡ times at (x ∷ xs)
-        by (inl e) rest = ap (λ y. times at (y ∷ map (renamed m p) xs)) (new-name x e) ∙ times-other p at (map (renamed m p) xs) (λ s. ap' (sym s)) ∙ rest ∙ sym (times-other x at xs (λ s. am (sym s ∙ e)))
-        by (inr e) rest = ap (λ y. times at (y ∷ map (renamed m p) xs)) (kept-name x e) ∙ omega (arith, rest)
+    times-kept at am ap' (x ∷ xs) = grind (arith, times-kept at am ap' xs)
 
     times-moved : (xs : List ℕ) → times p xs ≡ 0 → times p (map (renamed m p) xs) ≡ times m xs
     times-moved [] none = refl
-    times-moved (x ∷ xs) none = by (is-or-not x m) (times-moved xs (omega (arith, none)))
-      where
-        by : (x ≡ m) ⊎ (x ≡ m → ⊥) → times p (map (renamed m p) xs) ≡ times m xs → times p (renamed m p x ∷ map (renamed m p) xs) ≡ times m (x ∷ xs)
-        by (inl e) rest = ap (λ y. times p (y ∷ map (renamed m p) xs)) (new-name x e) ∙ times-here p (map (renamed m p) xs) ∙ omega (arith, rest, subst (λ y. times m (y ∷ xs) ≡ 1 + times m xs) (sym e) (times-here m xs))
-        by (inr e) rest = ap (λ y. times p (y ∷ map (renamed m p) xs)) (kept-name x e) ∙ times-other x p (map (renamed m p) xs) (not-first x p xs none) ∙ rest ∙ sym (times-other x m xs e)
+    times-moved (x ∷ xs) none = grind (arith, times-moved xs (omega (arith, none)))
 
     times-last : (xs : List ℕ) → times m (map (renamed m p) xs) ≡ 0
     times-last [] = refl
@@ -334,11 +269,7 @@ module _ (m : ℕ) (f g f1 g1 : ℕ → ℕ) (order : List ℕ) (few : suc m < n
       g-moved = moved-beside g f g1 p m l.forth l.back (λ e. loop (ap f (sym e) ∙ (l.forth m (λ s. pm (sym s))).0)) pm g-here g-others
 
       out-of-it : times p order ≡ 0
-      out-of-it = by (times p order) (l.within p)
-        where
-          by : (k : ℕ) → (0 < k → (p < suc m) × (p ≡ p → ⊥)) → k ≡ 0
-          by zero there = refl
-          by (suc k) there = absurd ((there (omega arith)).1 refl)
+      out-of-it = grind arith
 
       pub moved : AreLinked m m (put (g m) p f1) (put (f m) p g1) (map (renamed m p) order)
       moved = record {
@@ -347,8 +278,8 @@ module _ (m : ℕ) (f g f1 g1 : ℕ → ℕ) (order : List ℕ) (few : suc m < n
             subst (λ z. Path (put (g m) p f1) z (map (renamed m p) order) z) same (path-renamed f (put (g m) p f1) (renamed m p) p f-moved nowhere order nowhere (λ e. omega (arith, low, few, e)) out-of-it l.path);
         back = renamed-back f g (put (g m) p f1) (put (f m) p g1) f-moved g-moved l.back;
         forth = renamed-back g f (put (f m) p g1) (put (g m) p f1) g-moved f-moved l.forth;
-        within = λ at more. within at more (is-or-not at m) (is-or-not at p);
-        once = λ at less other. once at less other (is-or-not at p);
+        within = λ at more. within at more (cases_eq at m) (cases_eq at p);
+        once = λ at less other. once at less other (cases_eq at p);
       }
         where
           within : (at : ℕ) → 0 < times at (map (renamed m p) order) → (at ≡ m) ⊎ (at ≡ m → ⊥) → (at ≡ p) ⊎ (at ≡ p → ⊥) → (at < m) × (at ≡ m → ⊥)

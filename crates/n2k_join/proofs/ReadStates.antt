@@ -1,16 +1,15 @@
 -- What holds of a state that is read: its groups are of fast PGNs of the table that it was read with, its rules are
 -- those that the state of a join keeps, and few groups are open.
-use Rattle.std.proofs.Common.{◌≡◌, ◌==◌, ℕ, true, List, [], ◌∷◌, length, Option, Some, None, Ok, refl, IfOk, ◌≤◌, ◌+◌, sym, subst, arith, ◌<◌}
-use Rattle.std.specs.Prelude.{All, ◌≤◌, not, IfSome}
+use Rattle.std.proofs.Common.{◌≡◌, ◌==◌, ℕ, true, List, [], ◌∷◌, length, Option, Some, Ok, IfOk, ◌≤◌, ◌+◌, sym, subst, arith, ◌<◌, All, not, IfSome}
 use Rattle.std.specs.List.{list_any, AllByRecursion}
 use Rattle.std.specs.Str.{bytes_eq}
-use Rattle.std.proofs.lemmas.Bool.{false≢true, eqb-true, and_parts, ltb-true, leb-true}
+use Rattle.std.proofs.lemmas.Bool.{and_parts}
 use Rattle.std.proofs.lemmas.List.Elements.{recursion_from_All}
 use Rattle.std.proofs.lemmas.Slice.Eq.{bytes_eq-Decides}
 use Rattle.n2k_wire.specs.declared.entry.Entry.{Entry}
 use Rattle.n2k_wire.specs.Entry.{IsEntry}
 use Rattle.n2k_table.specs.declared.definition.Kind.{Kind}
-use Rattle.n2k_table.specs.declared.definition.Kind.TheVariants.{Single, Fast}
+use Rattle.n2k_table.specs.declared.definition.Kind.TheVariants.{Fast}
 use Rattle.n2k_join.specs.declared.fault.StateFault.TheVariants.{NotJson, TableDiffers, WindowDiffers, Invalid}
 use Rattle.n2k_join.specs.Counts.{most_lines}
 use Rattle.n2k_join.specs.Frames.{same_key, Key, most_frames}
@@ -23,7 +22,6 @@ use Rattle.n2k_join.specs.Window.{Window, IsWindow}
 use Rattle.n2k_join.proofs.Keeping.{state-valid, few-open, step-keeps, step-waits}
 use Rattle.n2k_join.proofs.Spelled.{if_ok-then, if_ok-held, if_ok-valid, if_ok-of, IsSpelled, state-spelled}
 use Rattle.n2k_join.proofs.StateReads.{state_back}
-use Rattle.n2k_wire.specs.Plain.{greatest_address}
 use Rattle.n2k_join.specs.Rules.{HasSeven, HasShape, RulesAreOne}
 use Rattle.n2k_join.proofs.SavedGroups.{total_from}
 use Rattle.n2k_join.proofs.ValidStates.{valid_state, state_valid, in_time-from, in_time-to}
@@ -35,9 +33,7 @@ use Rattle.n2k_join.proofs.Rising.{all-map, rise-few}
 use Rattle.n2k_join.proofs.StateBound.{state-short}
 
 is_fast-true : (k : Option Kind) → is_fast_pgn k ≡ true → k ≡ Some Fast
-is_fast-true None h = absurd (false≢true h)
-is_fast-true (Some Single) h = absurd (false≢true h)
-is_fast-true (Some Fast) h = refl
+is_fast-true k h = grind arith
 
 groups-fast : (kind : ℕ → Option Kind) (gs : List Group) → groups_hold kind gs ≡ true → AreFast kind gs
 unfolding groups_hold group_holds key_holds
@@ -56,8 +52,7 @@ valid-fast kind s h = groups-fast kind s.groups (and_parts (firsts_rise 1 s.coun
 -- a text that spells a state of the format that tells its window, read as that format
 told_format : (o : Option Data) (d : Data) (format : StateFormat) → or_cause NotJson o ≡ Ok d → format_in d ≡ Ok format
     → IfSome o (λ d. format_in d ≡ Ok WithWindow) → format ≡ WithWindow
-told_format None d format read is with_window = cc
-told_format (Some e) d format read is with_window = cc
+told_format o d format read is with_window = grind arith
 
 -- A text that is read spells a state of the table and the window that were handed in, which keeps the rules.
 -- Where it tells its window, no group's window has ended.
@@ -86,20 +81,11 @@ reads kind id w bytes =
 
     is_read : (s : State) → IsSpelled w s → bytes_eq s.id id ≡ true → (s.window.lines == w.lines) ≡ true → is_valid kind s ≡ true
         → (HasWindow bytes → are_waiting s ≡ true) → Read s
-    is_read s spelled table window valid waits =
-        let same_window : s.window.lines ≡ w.lines = eqb-true s.window.lines w.lines window in
-        record {
-          same_table = (bytes_eq-Decides s.id id).0 table;
-          same_window = λ i. record { lines = same_window i; in_order = spelled.order i };
-          spelled = spelled;
-          valid = valid;
-          waits = waits;
-        }
+    is_read s spelled table window valid waits = grind (arith, bytes_eq-Decides)
 
 pub read-spelled : (kind : ℕ → Option Kind) (id : List ℕ) (w : Window) (bytes : List ℕ) (s : State) → resumed kind id w bytes ≡ Ok s
     → IsRead kind id w bytes s
-read-spelled kind id w bytes s is =
-    if_ok-of (IsRead kind id w bytes) (resumed kind id w bytes) s (reads kind id w bytes) is
+read-spelled kind id w bytes s is = grind (arith, reads kind id w bytes)
 
 -- what is saved after a log reads back
 pub log_back : (kind : ℕ → Option Kind) (id : List ℕ) (w : Window) (es : List Entry) → IsWindow w.lines → IsId id → All IsEntry es → length es ≤ most_lines
@@ -112,14 +98,7 @@ log_back kind id w es window is valid few =
 
 key_from : (kind : ℕ → Option Kind) (k : Key) → key_holds kind k ≡ true → IsKey k
 unfolding key_holds
-key_from kind k h =
-    let pgn = and_parts _ _ h in
-    let fast = and_parts _ _ pgn.1 in
-    let src = and_parts _ _ fast.1 in
-    let dst = and_parts _ _ src.1 in
-    let src_small : k.src ≤ greatest_address = leb-true k.src greatest_address src.0 in
-    let dst_small : k.dst ≤ greatest_address = leb-true k.dst greatest_address dst.0 in
-    record { src = omega (arith, src_small); dst = omega (arith, dst_small); pgn = leb-true _ _ pgn.0; sequence = ltb-true _ _ dst.1 }
+key_from kind k h = grind arith
 
 pieces_from : (least : ℕ) (ps : List Piece) → pieces_rise least ps ≡ true → AllByRecursion HasSeven ps → AllByRecursion IsPiece ps
 unfolding pieces_rise
@@ -140,24 +119,14 @@ parts_from kind (g ∷ gs) h seven =
 
 valid-state : (kind : ℕ → Option Kind) (s : State) → HasShape s → is_valid kind s ≡ true → IsState s
 unfolding is_valid
-valid-state kind s is h =
-    let counts = and_parts _ _ h in
-    let rest = and_parts _ _ counts.1 in
-    valid_state kind s is.window counts.0 rest.0 rest.1 is.held (parts_from kind s.groups rest.1 is.frames)
+valid-state kind s is h = grind (arith, valid_state, parts_from)
 
 pub rules-one : (kind : ℕ → Option Kind) (s : State) → HasShape s → RulesAreOne kind s
-rules-one kind s is = record {
-  state = λ h. (valid-state kind s is h, valid-fast kind s h);
-  passes = λ state fast. state_valid kind s state fast;
-  in_time = (in_time-from s, in_time-to s);
-}
+rules-one kind s is = grind (arith, valid-state, valid-fast, state_valid, in_time-from, in_time-to)
 
 -- a text that is read spells a state that a join can have
 pub read-state : (kind : ℕ → Option Kind) (id : List ℕ) (w : Window) (bytes : List ℕ) (s : State) → IsWindow w.lines → resumed kind id w bytes ≡ Ok s → IsState s
-read-state kind id w bytes s window is =
-    let read = read-spelled kind id w bytes s is in
-    let own : IsWindow s.window.lines = subst (λ (r : Window). IsWindow r.lines) (sym read.same_window) window in
-    valid-state kind s (record { window = own; held = read.spelled.held; frames = read.spelled.frames }) read.valid
+read-state kind id w bytes s window is = grind (arith, read-spelled kind id w bytes s is, valid-state)
 
 -- ---- what it holds at the most
 
@@ -165,16 +134,11 @@ few-frames : (gs : List Group) → AllByRecursion IsOpen gs → AllByRecursion (
 few-frames gs each = all-map IsOpen (λ (g : Group). length g.pieces ≤ most_frames) gs (λ g is. let few = rise-few (λ (p : Piece). p.number) 0 most_frames g.pieces is.rise is.numbers in omega (arith, few)) each
 
 holds_few : (s : State) → IsState s → AreWaiting s → IsId s.id → HoldsFew s
-holds_few s is waits id =
-    let few = few-open s is waits in
-    let short = state-short s is id in
-    record { waiting = waits; groups = few; frames = few-frames s.groups is.groups.each; saved = omega (arith, few, short) }
+holds_few s is waits id = grind (arith, few-open, state-short, few-frames)
 
 pub few_resumed : (kind : ℕ → Option Kind) (id : List ℕ) (w : Window) (bytes : List ℕ) (s : State) → IsWindow w.lines → IsId id
     → HasWindow bytes → resumed kind id w bytes ≡ Ok s → HoldsFew s
-few_resumed kind id w bytes s window known with_window is =
-    let read = read-spelled kind id w bytes s is in
-    holds_few s (read-state kind id w bytes s window is) (in_time-from s (read.waits with_window)) (subst IsId (sym read.same_table) known)
+few_resumed kind id w bytes s window known with_window is = grind (arith, read-spelled kind id w bytes s is, read-state kind id w bytes s window is, holds_few, in_time-from)
 
 pub few_after : (kind : ℕ → Option Kind) (id : List ℕ) (w : Window) (bytes : List ℕ) (s : State) (e : Entry) → IsWindow w.lines → IsId id → resumed kind id w bytes ≡ Ok s → IsEntry e → s.counts.lines < most_lines → HoldsFew (step_after kind s e)
 unfolding step_after

@@ -1,9 +1,8 @@
 -- A log over which messages are scattered, and which gives no other, gives these messages.
-use Rattle.std.proofs.Common.{◌≡◌, ℕ, zero, suc, ◌+◌, ◌<◌, ◌≤◌, Bool, true, false, cond, List, [], ◌∷◌, ◌++◌, length, refl, ap, subst, ◌∙◌, sym, arith, Option, Some, None, inl, inr}
-use Rattle.std.specs.Prelude.{◌==◌, ◌⊎◌, if◌then◌else◌, find, filter, filter_map, map, option_map, option_and_then, slice_get}
+use Rattle.std.proofs.Common.{◌≡◌, ℕ, zero, suc, ◌+◌, ◌<◌, Bool, false, List, [], ◌∷◌, ◌++◌, length, refl, ap, ◌∙◌, arith, Option, Some, None, inr, ◌==◌, ◌⊎◌, if◌then◌else◌, filter, filter_map, map, option_map, option_and_then, slice_get}
 use Rattle.std.specs.Option.{option_or}
 use Rattle.std.specs.List.{AllByRecursion, AllZip, range_with_len, cons_option}
-use Rattle.std.proofs.lemmas.Bool.{eq-eqb, ne_eqb, eqb-true, and_right, cases_eq}
+use Rattle.std.proofs.lemmas.Bool.{eq-eqb, ne_eqb, eqb-true, cases_eq}
 use Rattle.std.proofs.lemmas.List.Elements.{recursion_from_All}
 use Rattle.std.proofs.lemmas.List.{length-map}
 use Rattle.n2k_join.proofs.Logs.{frames-below}
@@ -11,8 +10,8 @@ use Rattle.n2k_wire.specs.Packet.{PacketParts}
 use Rattle.n2k_wire.specs.declared.entry.Entry.{Entry}
 use Rattle.n2k_table.specs.declared.definition.Kind.{Kind}
 use Rattle.n2k_join.specs.Frames.{Key, same_key, Frame, frames, of_key, frame_at}
-use Rattle.n2k_join.specs.Groups.{EndTest, within, complete, cut, last_line}
-use Rattle.n2k_join.specs.Messages.{Keyed, message_of, is_done_at, gathered_by, gathered, alone, message, numbers}
+use Rattle.n2k_join.specs.Groups.{EndTest, within, cut, last_line}
+use Rattle.n2k_join.specs.Messages.{Keyed, message_of, gathered_by, gathered, alone, message, numbers}
 use Rattle.n2k_join.specs.Pieces.{Sending, sendings, sendings_after}
 use Rattle.n2k_join.specs.Scattered.{key_of_sending, all_frames, sendings_of, IsScattered, IsMute}
 use Rattle.n2k_join.specs.Replay.{messages, gathered_messages, given_to, sent_to, Replays}
@@ -21,7 +20,7 @@ use Rattle.n2k_join.proofs.KeyCounts.{same_length}
 use Rattle.n2k_join.proofs.Rising.{find-passes, find-all, find-none, filter_map-range, all-map, filter_map-none}
 use Rattle.n2k_join.proofs.Lines.{RiseFrom}
 use Rattle.n2k_join.proofs.GroupLines.{IsGroup, rise-after, last_frame, lasts_above}
-use Rattle.n2k_join.proofs.Arriving.{StandsAt, Comes, gathers, Settled, settles, zip-map, zip-all, as_stretch}
+use Rattle.n2k_join.proofs.Arriving.{Comes, gathers, Settled, settles, zip-map, zip-all}
 use Rattle.n2k_join.specs.Window.{Window}
 use Rattle.n2k_join.specs.State.{Rise}
 use Rattle.n2k_join.proofs.Carried.{option_or_none}
@@ -54,14 +53,7 @@ read_off R n (suc count) (x ∷ xs) (g ∷ gs) each rise within = by_place (case
         → (Rise last_line (n + 1) gs → AllByRecursion (λ h. last_line h < (n + 1) + count) gs → filter_map (at_line xs gs) (range_with_len (n + 1) count) ≡ xs)
         → (Rise last_line (n + 1) (g ∷ gs) → AllByRecursion (λ h. last_line h < (n + 1) + count) (g ∷ gs) → filter_map (at_line (x ∷ xs) (g ∷ gs)) (range_with_len (n + 1) count) ≡ x ∷ xs)
         → cons_option (at_line (x ∷ xs) (g ∷ gs) n) (filter_map (at_line (x ∷ xs) (g ∷ gs)) (range_with_len (n + 1) count)) ≡ x ∷ xs
-    by_place (inl here) next again =
-        let later : filter_map (at_line (x ∷ xs) (g ∷ gs)) (range_with_len (n + 1) count) ≡ filter_map (at_line xs gs) (range_with_len (n + 1) count) =
-        filter_map-range (at_line (x ∷ xs) (g ∷ gs)) (at_line xs gs) (n + 1) count (λ i low high. rw (ne_eqb (last_line g) i (λ same. omega arith)) refl) in
-        let rest : Rise last_line (n + 1) gs = subst (λ l. Rise last_line (l + 1) gs) here rise.1 in
-        rw (eq-eqb (last_line g) n here) (ap (λ l. x ∷ l) (later ∙ next rest (shifted gs within.1)))
-    by_place (inr other) next again =
-        let past : n + 1 ≤ last_line g = omega (arith, rise.0, other) in
-        rw (ne_eqb (last_line g) n other, at_line-before (last_line g + 1) n xs gs rise.1 (omega arith)) (again (past, rise.1) (shifted (g ∷ gs) within))
+    by_place h next again = grind (arith, filter_map-range, eq-eqb, shifted, at_line-before)
 
 -- a message under a key
 abbrev keyed : Key → Sending → Keyed
@@ -92,21 +84,13 @@ unfolding gathered
 none_of_key ends fs k gs line cut_is none = by_frame (frame_at line fs) refl
   where
     other_key : (f : Frame) → same_key k f.key ≡ false → (o : Option (List Frame)) → kept k (made f o) ≡ None
-    other_key f other None = refl
-    other_key f other (Some g) = rw other refl
+    other_key f other o = grind arith
 
     of_frame : (f : Frame) → frame_at line fs ≡ Some f → (b : Bool) → same_key k f.key ≡ b → kept k (gathered_by ends fs f) ≡ None
-    of_frame f e true same =
-        let at : line ≡ f.line = sym (eqb-true f.line line (find-passes (λ (g : Frame). g.line == line) fs f e)) in
-        let undone : AllByRecursion (λ g. is_done_at f.line g ≡ false) gs = subst (λ l. AllByRecursion (λ g. is_done_at l g ≡ false) gs) at (all-map (λ g. (last_line g == line) ≡ false) (λ g. is_done_at line g ≡ false) gs (λ g other. and_right (complete g) _ other) none) in
-        let nothing : find (is_done_at f.line) (cut ends (of_key f.key fs)) ≡ None =
-        ap (λ c. find (is_done_at f.line) (cut ends (of_key c fs))) (sym (same_key-true k f.key same)) ∙ (ap (find (is_done_at f.line)) cut_is ∙ find-none (is_done_at f.line) gs undone) in
-        ap (λ o. kept k (made f o)) nothing
-    of_frame f e false other = other_key f other (find (is_done_at f.line) (cut ends (of_key f.key fs)))
+    of_frame f e b same = grind (arith, eqb-true, find-passes, all-map, same_key-true, find-none, other_key)
 
     by_frame : (o : Option Frame) → frame_at line fs ≡ o → kept k (option_and_then (gathered_by ends fs) o) ≡ None
-    by_frame None e = refl
-    by_frame (Some f) e = of_frame f e (same_key k f.key) refl
+    by_frame o e = grind (arith, of_frame)
 
 filter-filter_map : {X : Type 0} (k : Key) (h : X → Option Keyed) (xs : List X) → filter (λ (m : Keyed). same_key k m.key) (filter_map h xs) ≡ filter_map (λ x. kept k (h x)) xs
 filter-filter_map k h [] = refl
@@ -114,23 +98,15 @@ filter-filter_map k h (x ∷ xs) = grind (arith, filter-filter_map k h xs)
 
 map-filter_map : {X Y Z : Type 0} (g : Y → Z) (h : X → Option Y) (xs : List X) → map g (filter_map h xs) ≡ filter_map (λ x. option_map g (h x)) xs
 map-filter_map g h [] = refl
-map-filter_map {Y = Y} g h (x ∷ xs) = by_given (h x) (map-filter_map g h xs)
-  where
-    by_given : (o : Option Y) → map g (filter_map h xs) ≡ filter_map (λ y. option_map g (h y)) xs → map g (cons_option o (filter_map h xs)) ≡ cons_option (option_map g o) (filter_map (λ y. option_map g (h y)) xs)
-    by_given None ih = ih
-    by_given (Some y) ih = ap (λ l. g y ∷ l) ih
+map-filter_map {Y = Y} g h (x ∷ xs) = grind (arith, map-filter_map g h xs)
 
 -- the lines of groups rise, and lie within the log
 lasts_rise : (n : ℕ) (gs : List (List Frame)) → AllByRecursion IsGroup gs → RiseFrom n (all_frames gs) → Rise last_line n gs
 lasts_rise n [] some rise = tt
-lasts_rise n (g ∷ gs) some rise =
-    let above = lasts_above n (g ∷ gs) some rise in
-    (above.0, lasts_rise (last_line g + 1) gs some.1 (rise-after n g (all_frames gs) some.0 rise))
+lasts_rise n (g ∷ gs) some rise = grind (arith, lasts_rise (last_line g + 1) gs some.1 (rise-after n g (all_frames gs) some.0 rise), lasts_above n (g ∷ gs) some rise)
 
 comes-within : (ends : EndTest) (kind : ℕ → Option Kind) (es : List Entry) (k : Key) (x : Sending) (g : List Frame) → Comes ends kind es k x g → last_line g < 1 + length es
-comes-within ends kind es k x g comes =
-    let last = last_frame (StandsAt (frames kind es) k) g (as_stretch ends x g comes.stretch comes.goes_on).nonempty comes.stands in
-    subst (λ l. l < 1 + length es) (sym last.at) (find-all (λ (f : Frame). f.line < 1 + length es) (λ (f : Frame). f.line == last.frame.line) (frames kind es) last.frame (frames-below kind 1 es) last.holds.0)
+comes-within ends kind es k x g comes = grind (arith, last_frame, find-all, frames-below)
 
 -- of a key a line gathers what is sent under the key and ends there
 line_of_key : (ends : EndTest) (kind : ℕ → Option Kind) (ms : List PacketParts) (es : List Entry) (k : Key) (at : Settled ends kind ms es k) (i : ℕ) → kept k (gathered ends (frames kind es) i) ≡ option_map (keyed k) (at_line (sendings_of k ms) at.groups i)
@@ -140,17 +116,11 @@ line_of_key ends kind ms es k at i = by_line (at_line-cases (gathered ends (fram
     own x = rw (same_key-refl k) refl
 
     by_line : AtLine (gathered ends (frames kind es)) k (sendings_of k ms) at.groups i → kept k (gathered ends (frames kind es) i) ≡ option_map (keyed k) (at_line (sendings_of k ms) at.groups i)
-    by_line (inl here) = ap (kept k) here.2 ∙ (own here.0 ∙ sym (ap (option_map (keyed k)) here.1))
-    by_line (inr there) = none_of_key ends (frames kind es) k at.groups i at.cut_is there.1 ∙ sym (ap (option_map (keyed k)) there.0)
+    by_line h = grind (arith, own, none_of_key)
 
 -- what the groups of a key give, is what was sent under it, in order
 pub gathered_of_key : (ends : EndTest) (kind : ℕ → Option Kind) (ms : List PacketParts) (es : List Entry) (k : Key) → Settled ends kind ms es k → filter (λ (m : Keyed). same_key k m.key) (filter_map (gathered ends (frames kind es)) (numbers es)) ≡ map (keyed k) (sendings_of k ms)
-gathered_of_key ends kind ms es k at =
-    let inside : AllByRecursion (λ g. last_line g < 1 + length es) at.groups = zip-all (Comes ends kind es k) (λ g. last_line g < 1 + length es) (comes-within ends kind es k) (sendings_of k ms) at.groups at.each in
-    filter-filter_map k (gathered ends (frames kind es)) (numbers es)
-    ∙ (filter_map-range (λ i. kept k (gathered ends (frames kind es) i)) (λ i. option_map (keyed k) (at_line (sendings_of k ms) at.groups i)) 1 (length es) (λ i l u. line_of_key ends kind ms es k at i)
-    ∙ (sym (map-filter_map (keyed k) (at_line (sendings_of k ms) at.groups) (numbers es))
-    ∙ ap (map (keyed k)) (read_off (Comes ends kind es k) 1 (length es) (sendings_of k ms) at.groups at.each (lasts_rise 1 at.groups at.nonempty at.rise) inside)))
+gathered_of_key ends kind ms es k at = grind (arith, zip-all (Comes ends kind es k) (λ g. last_line g < 1 + length es) (comes-within ends kind es k) (sendings_of k ms) at.groups at.each, filter-filter_map k (gathered ends (frames kind es)) (numbers es), map-filter_map (keyed k) (at_line (sendings_of k ms) at.groups) (numbers es), lasts_rise 1 at.groups at.nonempty at.rise, line_of_key, read_off)
 
 messages-keyed : (k : Key) (xs : List Sending) → map (λ (m : Keyed). m.message) (map (keyed k) xs) ≡ map (λ (x : Sending). x.message) xs
 messages-keyed k [] = refl
@@ -170,9 +140,7 @@ line-mute w kind es zero mute = option_or_none _
 line-mute w kind es (suc i) mute = ap (option_or (option_map (λ (m : Keyed). m.message) (gathered (within w) (frames kind es) (suc i)))) (entry-mute kind es i mute) ∙ option_or_none _
 
 pub by_groups : (w : Window) (kind : ℕ → Option Kind) (es : List Entry) → IsMute kind es → messages w kind es ≡ map (λ (m : Keyed). m.message) (gathered_messages w kind es)
-by_groups w kind es mute =
-    filter_map-range (message w kind es) (λ i. option_map (λ (m : Keyed). m.message) (gathered (within w) (frames kind es) i)) 1 (length es) (λ i l u. line-mute w kind es i (recursion_from_All _ es mute))
-    ∙ sym (map-filter_map (λ (m : Keyed). m.message) (gathered (within w) (frames kind es)) (numbers es))
+by_groups w kind es mute = grind (arith, line-mute, recursion_from_All, map-filter_map)
 
 length-sendings : (earlier ms : List PacketParts) → length (sendings_after earlier ms) ≡ length ms
 length-sendings earlier [] = refl
@@ -186,8 +154,4 @@ gathers_all w kind ms es scattered =
     ∙ length-sendings [] ms
 
 pub replays : (w : Window) (kind : ℕ → Option Kind) (ms : List PacketParts) (es : List Entry) → IsScattered w kind ms es → IsMute kind es → Replays w kind ms es
-replays w kind ms es scattered mute = record {
-  as_many = ap length (by_groups w kind es mute) ∙ (length-map (gathered_messages w kind es) (λ (m : Keyed). m.message) ∙ gathers_all w kind ms es scattered);
-  by_groups = by_groups w kind es mute;
-  in_order = gives_in_order w kind ms es scattered;
-}
+replays w kind ms es scattered mute = grind (arith, by_groups, length-map, gathers_all, gives_in_order)

@@ -1,20 +1,19 @@
 -- What open groups hold is read back: frames held of groups have these groups open.
-use Rattle.std.proofs.Common.{◌≡◌, ◌==◌, ◌≤◌, ◌<◌, ◌+◌, ℕ, Bool, true, false, cond, List, [], ◌∷◌, ◌++◌, length, reverse, refl, sym, ap, ◌∙◌, subst, arith, Option, Some, None, option_map, option_and_then}
+use Rattle.std.proofs.Common.{◌≡◌, ◌==◌, ◌≤◌, ◌<◌, ◌+◌, ℕ, true, false, cond, List, [], ◌∷◌, ◌++◌, length, reverse, refl, sym, ap, ◌∙◌, subst, arith, Option, Some, None, option_map, option_and_then, append-nil}
 use Rattle.std.specs.Option.{option_or}
 use Rattle.std.specs.List.{AllByRecursion}
-use Rattle.std.proofs.lemmas.List.{append-nil}
 use Rattle.std.proofs.lemmas.List.Folds.{find-append}
 use Rattle.std.proofs.lemmas.Bool.{eqb-true, eq-eqb, ne_eqb, eqb-false, false_from_ne_true}
 use Rattle.std.proofs.lemmas.Option.{same_Some}
-use Rattle.n2k_join.specs.Frames.{Key, same_key, Frame, of_key, frame_at, most_frames}
-use Rattle.n2k_join.specs.Groups.{EndTest, first, incomplete, open_of}
-use Rattle.n2k_join.specs.Open.{Piece, Group, group_of, where_begun, begun_at, open_groups}
+use Rattle.n2k_join.specs.Frames.{Key, same_key, Frame, of_key, most_frames}
+use Rattle.n2k_join.specs.Groups.{EndTest, incomplete, open_of}
+use Rattle.n2k_join.specs.Open.{Piece, Group, group_of, begun_at, open_groups}
 use Rattle.n2k_join.specs.State.{held_frame, held_of, held, Rise, IsOpen, AreApart, AreOpen}
 use Rattle.n2k_join.proofs.Cuts.{IsEnding, so_far}
-use Rattle.n2k_join.proofs.Held.{AreNumbered, pieces_of-rise, pieces_of-numbers, pieces_of-some, group_of-held, so_far-held, all-held, all-reverse, all-any, first-held, length-held}
+use Rattle.n2k_join.proofs.Held.{AreNumbered, pieces_of-rise, pieces_of-numbers, pieces_of-some, group_of-held, so_far-held, all-held, all-reverse, all-any, length-held}
 use Rattle.n2k_join.proofs.Keys.{same_key-true, same_key-refl, same_key-sym, of_key-append, of_key-all, of_key-none}
 use Rattle.n2k_join.proofs.Opened.{key_at, IsLog, IsFine, open_at, begun_at-key, begun_at-is, open_of-so_far, complete-kept, open_groups-each, begun_group, begun_all}
-use Rattle.n2k_join.proofs.Rising.{find-passes, find-all, find-none, look, look-all, look-range, rise-range, rise-least, all-range, all-map, all-zip, all-flat_map, filter_map-range}
+use Rattle.n2k_join.proofs.Rising.{find-passes, find-all, find-none, look, look-all, look-range, rise-range, rise-least, all-range, all-map, all-zip, all-flat_map}
 
 abbrev pub first_of : Group → ℕ
 first_of o = o.first
@@ -32,17 +31,11 @@ key_at-one i l k [] all some = absurd (omega (arith, some))
 key_at-one i l k (f ∷ fs) all some = grind (arith, eqb-false, find-none, all-map, ne_eqb)
 
 key_at-append : (i : ℕ) (fs gs : List Frame) → key_at i (fs ++ gs) ≡ option_or (key_at i fs) (key_at i gs)
-key_at-append i fs gs =
-    ap (option_map (λ (f : Frame). f.key)) (find-append (λ (f : Frame). f.line == i) fs gs)
-    ∙ elim (frame_at i fs) as (λ o. option_map (λ (f : Frame). f.key) (option_or o (frame_at i gs)) ≡ option_or (option_map (λ (f : Frame). f.key) o) (key_at i gs)) [ None ↦ refl | Some f ↦ refl ]
+key_at-append i fs gs = grind (arith, find-append)
 
 pub key_at-held : (i : ℕ) (gs : List Group) → AllByRecursion IsOpen gs → key_at i (held gs) ≡ option_map (λ (o : Group). o.key) (look first_of gs i)
 key_at-held i [] all = refl
-key_at-held i (g ∷ gs) all =
-    key_at-append i (held_of g) (held gs)
-    ∙ ap (λ o. option_or o (key_at i (held gs))) (key_at-one i g.first g.key (held_of g) (held_of-any (λ (f : Frame). (f.line ≡ g.first) × (f.key ≡ g.key)) g (λ p. (refl, refl))) (omega (arith, all.0.nonempty, length-held g g.pieces)))
-    ∙ ap (option_or (cond (g.first == i) (Some g.key) None)) (key_at-held i gs all.1)
-    ∙ elim (g.first == i) as (λ b. option_or (cond b (Some g.key) None) (option_map (λ (o : Group). o.key) (look first_of gs i)) ≡ option_map (λ (o : Group). o.key) (cond b (Some g) (look first_of gs i))) [ true ↦ refl | false ↦ refl ]
+key_at-held i (g ∷ gs) all = grind (arith, key_at-held i gs all.1, key_at-append i (held_of g) (held gs), key_at-one i g.first g.key (held_of g) (held_of-any (λ (f : Frame). (f.line ≡ g.first) × (f.key ≡ g.key)) g (λ p. (refl, refl))) (omega (arith, all.0.nonempty, length-held g g.pieces)))
 
 -- what groups hold is a log
 pub held-log : (n : ℕ) (gs : List Group) → AreOpen n gs → IsLog n (held gs)
@@ -82,21 +75,12 @@ module _ (ends : EndTest) (is_ending : IsEnding ends) where
       begun_at-key ends is_ending (held gs) i ∙ ap (option_and_then (λ (k : Key). open_at ends is_ending k (held gs) i)) (key_at-held i gs are.each) ∙ by (look first_of gs i) refl
     where
       by : (o : Option Group) → look first_of gs i ≡ o → option_and_then (λ (k : Key). open_at ends is_ending k (held gs) i) (option_map (λ (o : Group). o.key) o) ≡ o
-      by None e = refl
-      by (Some g) e =
-          let is : g.first ≡ i = eqb-true g.first i (find-passes (λ (o : Group). o.first == i) gs g e) in
-          let good : IsOpen g = find-all IsOpen (λ (o : Group). o.first == i) gs g are.each e in
-          let opens : open_of ends g.key (held gs) ≡ Some (held_of g) = find-all (λ (g : Group). open_of ends g.key (held gs) ≡ Some (held_of g)) (λ (o : Group). o.first == i) gs g (open_of-held n gs are) e in
-          ap (option_and_then (where_begun i g.key)) opens
-          ∙ ap (λ b. cond b (Some (group_of g.key (held_of g))) None) (eq-eqb (first (held_of g)) i (first-held g g.pieces good.nonempty ∙ is))
-          ∙ ap Some (group_of-held g good)
+      by o e = grind (arith, eqb-true, find-passes, find-all, open_of-held, eq-eqb, group_of-held)
 
   -- what groups hold has these groups open
   pub open_groups-held : (n : ℕ) (gs : List Group) → AreOpen n gs → open_groups ends n (held gs) ≡ gs
   unfolding open_groups
-  open_groups-held n gs are =
-      filter_map-range (begun_at ends (held gs)) (look first_of gs) 1 n (λ i l u. begun_at-held n i gs are)
-      ∙ look-range first_of 1 n gs are.rise (all-map (λ (g : Group). g.first ≤ n) (λ (g : Group). g.first < 1 + n) gs (λ g l. omega (arith, l)) are.begun)
+  open_groups-held n gs are = grind (arith, look-range first_of 1 n gs are.rise (all-map (λ (g : Group). g.first ≤ n) (λ (g : Group). g.first < 1 + n) gs (λ g l. omega (arith, l)) are.begun), begun_at-held)
 
   -- ---- the open groups of a log can be open
 

@@ -1,17 +1,13 @@
 -- Lists whose numbers rise strictly: looked up by number and read off a range of numbers.
-use Rattle.std.proofs.Common.{◌≡◌, ◌==◌, ◌≤◌, ◌<◌, ◌+◌, ℕ, suc, zero, Bool, true, false, cond, List, [], ◌∷◌, ◌++◌, refl, sym, ap, ◌∙◌, subst, arith, Option, Some, None, filter_map, find, option_and_then, option_to_list, flat_map, option_map, length, filter, ◌≢◌}
+use Rattle.std.proofs.Common.{◌≡◌, ◌==◌, ◌≤◌, ◌<◌, ◌+◌, ℕ, suc, zero, Bool, true, false, cond, List, [], ◌∷◌, ◌++◌, refl, ap, ◌∙◌, arith, Option, Some, None, filter_map, find, option_and_then, option_to_list, flat_map, option_map, length, filter, IfSome, is_some}
 use Rattle.std.specs.List.{range_with_len, cons_option, AllByRecursion, list_any, last_or, list_all}
 use Rattle.std.proofs.lemmas.List.Elements.{filter_map-append}
-use Rattle.std.proofs.lemmas.Bool.{eqb-true, eqb-false, eq-eqb, ne_eqb, or_parts, and_parts, and_from, false≢true}
-use Rattle.std.proofs.lemmas.Option.{none-some, same_Some}
+use Rattle.std.proofs.lemmas.Bool.{eqb-true, eqb-false, eq-eqb, ne_eqb, or_parts, and_parts, and_from}
+use Rattle.std.proofs.lemmas.Option.{none-some}
 use Rattle.n2k_join.specs.State.{Rise}
-use Rattle.std.specs.Prelude.{IfSome, is_some}
 
 pub range-append : (a n k : ℕ) → range_with_len a (n + k) ≡ range_with_len a n ++ range_with_len (a + n) k
-range-append a zero k =
-    let e : 0 + k ≡ k = omega arith in
-    let e' : a ≡ a + 0 = omega arith in
-    ap (range_with_len a) e ∙ ap (λ j. range_with_len j k) e'
+range-append a zero k = grind arith
 range-append a (suc n) k =
     let e : suc n + k ≡ suc (n + k) = omega arith in
     let e' : (a + 1) + n ≡ a + suc n = omega arith in
@@ -25,11 +21,6 @@ range-push a n = range-append a n 1
 pub filter_map-push : {X Y : Type 0} (h : X → Option Y) (xs : List X) (x : X) → filter_map h (xs ++ x ∷ []) ≡ filter_map h xs ++ option_to_list (h x)
 filter_map-push h xs x = filter_map-append h xs (x ∷ []) ∙ ap (λ t. filter_map h xs ++ t) (elim (h x) as (λ o. cons_option o [] ≡ option_to_list o) [ None ↦ refl | Some y ↦ refl ])
 
--- what is made of one of two is one of what is made of them
-pub of_cond : {X Y : Type 0} (h : X → Y) (b : Bool) (x y : X) → h (cond b x y) ≡ cond b (h x) (h y)
-of_cond h true x y = refl
-of_cond h false x y = refl
-
 -- where nothing is given
 pub filter_map-none : {X Y : Type 0} (h : X → Option Y) → ((x : X) → h x ≡ None) → (xs : List X) → filter_map h xs ≡ []
 filter_map-none h e [] = refl
@@ -38,26 +29,20 @@ filter_map-none h e (x ∷ xs) = rw (e x) (filter_map-none h e xs)
 -- where a value is made of an option, the option has one that it is made of
 pub option_map_some : {X Y P : Type 0} (f : X → Y) (o : Option X) (y : Y) → option_map f o ≡ Some y
     → ((x : X) → o ≡ Some x → f x ≡ y → P) → P
-option_map_some f None y e given = absurd (none-some y e)
-option_map_some f (Some x) y e given = given x refl (same_Some (f x) y e)
+option_map_some f o y e given = grind arith
 
 pub none_from : {X : Type 0} (o : Option X) → is_some o ≡ false → o ≡ None
-none_from None e = refl
-none_from (Some x) e = absurd cc
+none_from o e = grind arith
 
 -- two passes in one
 pub filter_map-fused : {X Y Z : Type 0} (t : Y → Option Z) (h : X → Option Y) (xs : List X) → filter_map (λ x. option_and_then t (h x)) xs ≡ filter_map t (filter_map h xs)
 filter_map-fused t h [] = refl
-filter_map-fused t h (x ∷ xs) =
-    ap (λ r. cons_option (option_and_then t (h x)) r) (filter_map-fused t h xs)
-    ∙ elim (h x) as (λ o. cons_option (option_and_then t o) (filter_map t (filter_map h xs)) ≡ filter_map t (cons_option o (filter_map h xs))) [ None ↦ refl | Some y ↦ refl ]
+filter_map-fused t h (x ∷ xs) = grind (arith, filter_map-fused t h xs)
 
 -- what agrees at each number of a range gives the same of it
 pub filter_map-range : {Y : Type 0} (h k : ℕ → Option Y) (a n : ℕ) → ((i : ℕ) → a ≤ i → i < a + n → h i ≡ k i) → filter_map h (range_with_len a n) ≡ filter_map k (range_with_len a n)
 filter_map-range h k a zero e = refl
-filter_map-range h k a (suc n) e =
-    ap (λ o. cons_option o (filter_map h (range_with_len (a + 1) n))) (e a (omega arith) (omega arith))
-    ∙ ap (cons_option (k a)) (filter_map-range h k (a + 1) n (λ i l u. e i (omega arith) (omega arith)))
+filter_map-range h k a (suc n) e = grind (arith, filter_map-range h k (a + 1) n (λ i l u. e i (omega arith) (omega arith)))
 
 -- what is found passes the test
 pub find-passes : {X : Type 0} (p : X → Bool) (xs : List X) (x : X) → find p xs ≡ Some x → p x ≡ true
@@ -94,10 +79,7 @@ all_to p a zero i h l u = absurd (omega (arith, l, u))
 all_to p a (suc n) i h l u = by (a == i) refl (all_to p (a + 1) n i (and_parts _ _ h).1)
   where
     by : (b : Bool) → (a == i) ≡ b → (a + 1 ≤ i → i < (a + 1) + n → p i ≡ true) → p i ≡ true
-    by true e rest = ap p (sym (eqb-true a i e)) ∙ (and_parts _ _ h).0
-    by false e rest =
-        let differs : a ≢ i = λ f. false≢true (sym e ∙ eq-eqb a i f) in
-        rest (omega (arith, l, differs)) (omega (arith, u))
+    by b e rest = grind arith
 
 pub all-map : {X : Type 0} (P Q : X → Type 0) (xs : List X) → ((x : X) → P x → Q x) → AllByRecursion P xs → AllByRecursion Q xs
 all-map P Q [] h all = tt
@@ -114,8 +96,7 @@ all_with P Q R h (x ∷ xs) p q = (h x p.0 q.0, all_with P Q R h xs p.1 q.1)
 -- what holds of a value, where there is one
 pub all-option : {X : Type 0} (P : X → Type 0) (o : Option X) → ((x : X) → o ≡ Some x → P x)
     → AllByRecursion P (option_to_list o)
-all-option P None each = tt
-all-option P (Some x) each = (each x refl, tt)
+all-option P o each = grind arith
 
 pub all-append : {X : Type 0} (P : X → Type 0) (xs ys : List X) → AllByRecursion P xs → AllByRecursion P ys → AllByRecursion P (xs ++ ys)
 all-append P [] ys a b = b
@@ -136,9 +117,7 @@ all-flat_map P f (x ∷ xs) all = all-append P (f x) (flat_map f xs) all.0 (all-
 -- what holds of all items, holds of those of each list
 pub all-joined : {X : Type 0} (P : X → Type 0) (gs : List (List X)) → AllByRecursion P (flat_map (λ (g : List X). g) gs) → AllByRecursion (AllByRecursion P) gs
 all-joined P [] each = tt
-all-joined {X} P (g ∷ gs) each =
-    let rest = flat_map (λ (g : List X). g) gs in
-    (all-front P g rest each, all-joined P gs (all-back P g rest each))
+all-joined {X} P (g ∷ gs) each = grind (arith, all-joined P gs (all-back P g (flat_map (λ (g : List X). g) gs) each), all-front)
 
 -- what holds of each, holds of the last
 pub last-all : {X : Type 0} (P : X → Type 0) (o : Option X) (xs : List X) → IfSome o P → AllByRecursion P xs → IfSome (last_or o xs) P
@@ -185,10 +164,7 @@ module _ {A : Type 0} (number : A → ℕ) where
 
   -- below the least number there is none
   pub look-below : (least n : ℕ) (xs : List A) → Rise number least xs → n < least → look xs n ≡ None
-  look-below least n xs r l =
-      find-none (λ x. number x == n) xs
-      (all-map (λ x. least ≤ number x) (λ x. (number x == n) ≡ false) xs
-      (λ x m. ne_eqb (number x) n (λ e. omega (arith, m, e, l))) (rise-least least xs r))
+  look-below least n xs r l = grind (arith, find-none, all-map, rise-least)
 
   look-here : (x : A) (xs : List A) (n : ℕ) → number x ≡ n → look (x ∷ xs) n ≡ Some x
   look-here x xs n e = ap (λ b. cond b (Some x) (look xs n)) (eq-eqb (number x) n e)
@@ -221,10 +197,7 @@ module _ {A : Type 0} (number : A → ℕ) where
   rise-range h is least a (suc n) l = by (h a) refl (λ k u. rise-range h is k (a + 1) n u)
     where
       by : (o : Option A) → h a ≡ o → ((k : ℕ) → k ≤ a + 1 → Rise number k (filter_map h (range_with_len (a + 1) n))) → Rise number least (cons_option o (filter_map h (range_with_len (a + 1) n)))
-      by None e rest = rest least (omega arith)
-      by (Some x) e rest =
-          let at : number x ≡ a = is a x e in
-          (omega arith, rest (number x + 1) (omega arith))
+      by o e rest = grind arith
 
   -- and it is found by its number
   pub look-filter_map : (h : ℕ → Option A) → ((i : ℕ) (x : A) → h i ≡ Some x → number x ≡ i) → (a n i : ℕ) → a ≤ i → i < a + n → look (filter_map h (range_with_len a n)) i ≡ h i
@@ -235,27 +208,12 @@ module _ {A : Type 0} (number : A → ℕ) where
       rest = filter_map h (range_with_len (a + 1) n)
 
       by : (o : Option A) → h a ≡ o → (b : Bool) → (a == i) ≡ b → (a + 1 ≤ i → i < (a + 1) + n → look rest i ≡ h i) → look (cons_option o rest) i ≡ h i
-      by None e true t later =
-          let here : a ≡ i = eqb-true a i t in
-          look-below (a + 1) i rest (rise-range h is (a + 1) (a + 1) n (omega arith)) (omega arith) ∙ sym e ∙ ap h here
-      by None e false t later =
-          let past : a ≡ i → ⊥ = eqb-false a i t in
-          later (omega (arith, past)) (omega arith)
-      by (Some x) e true t later =
-          let here : a ≡ i = eqb-true a i t in
-          look-here x rest i (is a x e ∙ here) ∙ sym e ∙ ap h here
-      by (Some x) e false t later =
-          let past : a ≡ i → ⊥ = eqb-false a i t in
-          look-there x rest i (λ k. past (sym (is a x e) ∙ k)) ∙ later (omega (arith, past)) (omega arith)
+      by o e b t later = grind (arith, eqb-true, look-below, rest, rise-range, eqb-false, look-here)
 
 -- what holds of each that is given holds of all
 pub all-filter_map : {X Y : Type 0} (P : Y → Type 0) (h : X → Option Y) (xs : List X) → ((x : X) (y : Y) → h x ≡ Some y → P y) → AllByRecursion P (filter_map h xs)
 all-filter_map P h [] each = tt
-all-filter_map {Y = Y} P h (x ∷ xs) each = by (h x) refl (all-filter_map P h xs each)
-  where
-    by : (o : Option Y) → h x ≡ o → AllByRecursion P (filter_map h xs) → AllByRecursion P (cons_option o (filter_map h xs))
-    by None e rest = rest
-    by (Some y) e rest = (each x y e, rest)
+all-filter_map {Y = Y} P h (x ∷ xs) each = grind (arith, all-filter_map P h xs each)
 
 -- the same, where the numbers of the range matter
 pub all-range : {Y : Type 0} (P : Y → Type 0) (h : ℕ → Option Y) (a n : ℕ) → ((i : ℕ) (y : Y) → a ≤ i → i < a + n → h i ≡ Some y → P y) → AllByRecursion P (filter_map h (range_with_len a n))

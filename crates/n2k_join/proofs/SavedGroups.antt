@@ -1,10 +1,9 @@
 -- Pieces by rising number, as a saved state has them, taken into a group one by one.
-use Rattle.std.proofs.Common.{◌≡◌, ◌≤◌, ◌<◌, ◌+◌, ◌==◌, ℕ, zero, suc, Bool, true, false, not, ◌&&◌, cond, length, take, drop, subst, List, [], ◌∷◌, ◌++◌, map, reverse, get_or, Option, Some, None, option_map, refl, sym, ap, ◌∙◌, arith, slice_index_or}
-use mathlib.Core.Path.{fun_ext}
-use Rattle.std.specs.Option.{option_or}
+use Rattle.std.proofs.lemmas.Grind.{common_steps}
+use Rattle.std.proofs.Common.{◌≡◌, ◌≤◌, ◌<◌, ◌+◌, ℕ, zero, suc, true, false, not, ◌&&◌, length, take, drop, subst, List, [], ◌∷◌, ◌++◌, get_or, Option, None, sym, ap, ◌∙◌, arith, slice_index_or}
 use Rattle.std.specs.List.{AllByRecursion}
-use Rattle.std.proofs.lemmas.Bool.{eqb-true, ltb-true, ne_eqb, and_parts, leb-true, and_right}
-use Rattle.std.proofs.lemmas.List.{map-append, reverse-append, take_more, drop_more, drop_all}
+use Rattle.std.proofs.lemmas.Bool.{ltb-true, and_parts, leb-true, and_right}
+use Rattle.std.proofs.lemmas.List.{reverse-append, take_more, drop_more, drop_all}
 use Rattle.n2k_table.specs.declared.definition.Kind.{Kind}
 use Rattle.n2k_join.specs.declared.piece.OpenGroup.{OpenGroup}
 use Rattle.n2k_wire.specs.Packet.{longest_message}
@@ -14,7 +13,7 @@ use Rattle.n2k_join.specs.Open.{Piece, Group, pieces_of}
 use Rattle.n2k_join.specs.Resumed.{pieces_rise, piece_holds, total_holds, key_holds, is_some_list, group_holds}
 use Rattle.n2k_join.specs.State.{Rise, IsPiece, held_frame, held_of}
 use Rattle.n2k_join.specs.Inner.Slots.{slot_of, group_in}
-use Rattle.n2k_join.proofs.Carried.{carried-append, option_or_none, pieces_of-same}
+use Rattle.n2k_join.proofs.Carried.{carried-append, pieces_of-same}
 use Rattle.n2k_join.proofs.Held.{carried-held, held_frames, pieces-held, number_of}
 use Rattle.n2k_join.proofs.Rising.{find-none, all-map, all-append}
 use Rattle.n2k_join.proofs.SlotLemmas.{carried-slots}
@@ -51,34 +50,13 @@ rise-last least (q ∷ ps) p rise below l = (rise.0, rise-last (q.number + 1) ps
 
 -- nothing is carried under a number that all others are below
 pub carried-past : (o : Group) (ps : List Piece) (n : ℕ) → Rise number_of 0 ps → AllByRecursion (λ (q : Piece). q.number < n) ps → carried (held_frames o ps) n ≡ None
-carried-past o ps n rise below =
-    carried-held o 0 ps n rise
-    ∙ ap (option_map (λ (p : Piece). p.bytes)) (find-none (λ (p : Piece). p.number == n) ps (all-map (λ (q : Piece). q.number < n) (λ (q : Piece). (q.number == n) ≡ false) ps (λ q l. ne_eqb q.number n (λ e. omega (arith, e, l))) below))
+carried-past o ps n rise below = grind (arith, carried-held, find-none, all-map)
 
 -- The piece that follows those of a group is its last.
 pub piece-last : (o : Group) (ps : List Piece) (p : Piece) → o.pieces ≡ ps → Rise number_of 0 ps → AllByRecursion (λ (q : Piece). q.number < p.number) ps
     → AllByRecursion (λ (q : Piece). q.number < most_frames) ps → p.number < most_frames
     → pieces_of (held_of o ++ held_frame o p ∷ []) ≡ ps ++ p ∷ []
-piece-last o ps p is rise below small fits =
-    let held : held_of o ≡ held_frames o ps = ap (held_frames o) is in
-    ap (λ fs. pieces_of (fs ++ held_frame o p ∷ [])) held
-    ∙ ap pieces_of (sym (map-append (held_frame o) (reverse ps) (p ∷ [])))
-    ∙ pieces_of-same (map (held_frame o) (reverse ps ++ p ∷ [])) (held_frames o (ps ++ p ∷ [])) (fun_ext carry)
-    ∙ pieces-held o (ps ++ p ∷ []) (rise-last 0 ps p rise below (omega arith)) (all-append (λ (q : Piece). q.number < most_frames) ps (p ∷ []) small (fits, tt))
-  where
-    turned : held_frames o (ps ++ p ∷ []) ≡ held_frame o p ∷ held_frames o ps
-    turned = ap (map (held_frame o)) (reverse-append ps (p ∷ []))
-
-    by : (n : ℕ) (b : Bool) → (p.number == n) ≡ b → option_or (carried (held_frames o ps) n) (cond b (Some p.bytes) None) ≡ cond b (Some p.bytes) (carried (held_frames o ps) n)
-    by n true e = ap (λ (c : Option (List ℕ)). option_or c (Some p.bytes)) (ap (carried (held_frames o ps)) (sym (eqb-true p.number n e)) ∙ carried-past o ps p.number rise below)
-    by n false e = option_or_none (carried (held_frames o ps) n)
-
-    carry : (n : ℕ) → carried (map (held_frame o) (reverse ps ++ p ∷ [])) n ≡ carried (held_frames o (ps ++ p ∷ [])) n
-    carry n =
-        ap (λ fs. carried fs n) (map-append (held_frame o) (reverse ps) (p ∷ []))
-        ∙ carried-append (held_frames o ps) (held_frame o p ∷ []) n
-        ∙ by n (p.number == n) refl
-        ∙ ap (λ fs. carried fs n) (sym turned)
+piece-last o ps p is rise below small fits = grind (arith, pieces-held o (ps ++ p ∷ []) (rise-last 0 ps p rise below (omega arith)) (all-append (λ (q : Piece). q.number < most_frames) ps (p ∷ []) small (fits, tt)), reverse-append ps (p ∷ []), carried-past o ps p.number rise below, pieces_of-same, carried-append)
 
 -- ---- the pieces of a list, taken in turn
 
@@ -87,8 +65,7 @@ take_next ps i p lt at = take_more ps i p lt ∙ ap (λ q. take i ps ++ q ∷ []
 
 -- an empty slot for a number that all pieces are below
 pub slot-past : (v : OpenGroup) (g : Group) (key : Key) (n : ℕ) → group_in key v ≡ g → Rise number_of 0 g.pieces → AllByRecursion (λ (q : Piece). q.number < n) g.pieces → n < most_frames → slot_of v n ≡ None
-slot-past v g key n is rise below fits =
-    sym (carried-slots key v n fits) ∙ ap (λ (h : Group). carried (held_of h) n) is ∙ carried-past g g.pieces n rise below
+slot-past v g key n is rise below fits = grind (arith, carried-slots key v n fits, carried-past g g.pieces n rise below)
 
 module _ (ps : List Piece) (i least : ℕ) (p : Piece) (lt : i < length ps) (at : p ≡ get_or ps i p) (holds : piece_holds least p ≡ true) where
   above : least ≤ p.number
@@ -102,18 +79,13 @@ module _ (ps : List Piece) (i least : ℕ) (p : Piece) (lt : i < length ps) (at 
 
   pub left-next : pieces_rise least (drop i ps) ≡ pieces_rise 0 ps → pieces_rise (p.number + 1) (drop (i + 1) ps) ≡ pieces_rise 0 ps
   unfolding pieces_rise
-  left-next left =
-      ap (λ b. b && pieces_rise (p.number + 1) (drop (i + 1) ps)) (sym holds)
-      ∙ sym (ap (pieces_rise least) (drop_more ps i p lt ∙ ap (λ q. q ∷ drop (i + 1) ps) (sym at)))
-      ∙ left
+  left-next left = grind (arith, drop_more)
 
   pub rise-next : Rise number_of 0 (take i ps) → AllByRecursion (λ (q : Piece). q.number < least) (take i ps) → Rise number_of 0 (take (i + 1) ps)
   rise-next rise below = subst (Rise number_of 0) (sym (take_next ps i p lt at)) (rise-last 0 (take i ps) p rise (below-next below) (omega arith))
 
   pub all-next : AllByRecursion (λ (q : Piece). q.number < least) (take i ps) → AllByRecursion (λ (q : Piece). q.number < p.number + 1) (take (i + 1) ps)
-  all-next below =
-      let before = all-map (λ (q : Piece). q.number < p.number) (λ (q : Piece). q.number < p.number + 1) (take i ps) (λ q l. omega (arith, l)) (below-next below) in
-      subst (AllByRecursion (λ (q : Piece). q.number < p.number + 1)) (sym (take_next ps i p lt at)) (all-append (λ (q : Piece). q.number < p.number + 1) (take i ps) (p ∷ []) before (omega arith, tt))
+  all-next below = grind (arith, all-map, take_next, all-append, common_steps)
 
   pub parts-next : AllByRecursion IsPiece (take i ps) → IsPiece p → AllByRecursion IsPiece (take (i + 1) ps)
   parts-next parts one = subst (AllByRecursion IsPiece) (sym (take_next ps i p lt at)) (all-append IsPiece (take i ps) (p ∷ []) parts (one, tt))
@@ -121,10 +93,7 @@ module _ (ps : List Piece) (i least : ℕ) (p : Piece) (lt : i < length ps) (at 
   -- the group with the next piece
   pub kept-next : (o q : Group) (r : Piece) (first : ℕ) (key : Key) → r ≡ p → o ≡ record { first = first; key = key; pieces = take i ps } → q ≡ record o { pieces = pieces_of (held_of o ++ held_frame o r ∷ []) }
       → Rise number_of 0 (take i ps) → AllByRecursion (λ (x : Piece). x.number < least) (take i ps) → q ≡ record { first = first; key = key; pieces = take (i + 1) ps }
-  kept-next o q r first key same is taken rise below =
-      let small = all-map (λ (x : Piece). x.number < p.number) (λ (x : Piece). x.number < most_frames) (take i ps) (λ x l. omega (arith, l, fits)) (below-next below) in
-      let pieces = ap (λ (x : Piece). pieces_of (held_of o ++ held_frame o x ∷ [])) same ∙ piece-last o (take i ps) p (ap (λ (g : Group). g.pieces) is) rise (below-next below) small fits ∙ sym (take_next ps i p lt at) in
-      taken ∙ (λ j. let h : Group = is j in record { first = h.first; key = h.key; pieces = pieces j })
+  kept-next o q r first key same is taken rise below = grind (arith, all-map, piece-last, take_next)
 
 -- all are taken
 pub all-taken : (ps : List Piece) (i least : ℕ) → length ps ≤ i → pieces_rise least (drop i ps) ≡ pieces_rise 0 ps → pieces_rise 0 ps ≡ true

@@ -1,6 +1,6 @@
 -- The text of a state, as its parts are written one after the other.
-use Rattle.std.proofs.Common.{arith, ◌≡◌, ℕ, ◌+◌, Bool, true, false, List, [], ◌∷◌, ◌++◌, Option, Some, None, option_to_list, filter_map, flat_map, refl, sym, ap, ◌∙◌, append_assoc, append-nil, zero-add, codes}
-use Rattle.std.proofs.lemmas.Grind.{flat_map-append}
+use Rattle.std.proofs.lemmas.Grind.{common_steps, flat_map-append}
+use Rattle.std.proofs.Common.{arith, ◌≡◌, ℕ, ◌+◌, Bool, List, [], ◌∷◌, ◌++◌, Option, filter_map, flat_map, refl, sym, ap, ◌∙◌, append_assoc, append-nil, zero-add, codes}
 use Rattle.std.specs.List.{range_with_len}
 use Rattle.json.specs.Print.{print}
 use Rattle.json.specs.Token.{Token}
@@ -9,7 +9,7 @@ use Rattle.n2k_join.specs.declared.counts.Counts.{Counts}
 use Rattle.n2k_join.specs.declared.piece.OpenGroup.{OpenGroup}
 use Rattle.n2k_join.specs.Frames.{Key, most_frames}
 use Rattle.n2k_join.specs.Open.{Piece, Group, piece_at}
-use Rattle.n2k_join.specs.Saved.{are_waiting, tree_by, piece_tree, group_tree, state_tree, state_text}
+use Rattle.n2k_join.specs.Saved.{are_waiting, tree_by, group_tree, state_tree, state_text}
 use Rattle.n2k_join.specs.Inner.SavedTokens.{tokens_of, count_tokens, piece_tokens, pieces_tokens, frames_tokens, key_tokens, groups_tokens, open_tokens, front_tokens, lines_tokens, table_tokens, back_tokens, window_tokens}
 use Rattle.n2k_join.specs.State.{State}
 use Rattle.n2k_join.specs.Inner.Slots.{slot_of, pieces_in, group_in}
@@ -52,9 +52,7 @@ pub frames_written : (o o1 o2 o3 o4 : List Token) (ps : List Piece)
     → o1 ≡ o ++ Token.key (codes "frames") ∷ [] → o2 ≡ o1 ++ Token.begin_array ∷ [] → o3 ≡ o2 ++ pieces_tokens ps → o4 ≡ o3 ++ Token.end_array ∷ []
     → o4 ≡ o ++ frames_tokens ps
 unfolding pieces_tokens
-frames_written o o1 o2 o3 o4 ps p1 p2 p3 p4 =
-    six_written o (Token.key (codes "frames") ∷ []) (Token.begin_array ∷ []) (pieces_tokens ps) (Token.end_array ∷ []) [] [] o1 o2 o3 o4 o4 o4 p1 p2 p3 p4 (sym (append-nil o4)) (sym (append-nil o4))
-    ∙ ap (λ ts. o ++ (Token.key (codes "frames") ∷ (Token.begin_array ∷ ts))) (sym (items_tokens-map piece_tree ps))
+frames_written o o1 o2 o3 o4 ps p1 p2 p3 p4 = grind (arith, append-nil, items_tokens-map, common_steps)
 
 -- a group, as it is written
 pub group_written : (o o1 o2 o3 o4 o5 o6 : List Token) (key : Key) (g : OpenGroup) (dst : ℕ) → dst ≡ key.dst
@@ -72,9 +70,7 @@ pub open_written : (o o1 o2 o3 o4 : List Token) (gs : List Group)
     → o1 ≡ o ++ Token.key (codes "groups") ∷ [] → o2 ≡ o1 ++ Token.begin_array ∷ [] → o3 ≡ o2 ++ groups_tokens gs → o4 ≡ o3 ++ Token.end_array ∷ []
     → o4 ≡ o ++ open_tokens gs
 unfolding groups_tokens
-open_written o o1 o2 o3 o4 gs p1 p2 p3 p4 =
-    six_written o (Token.key (codes "groups") ∷ []) (Token.begin_array ∷ []) (groups_tokens gs) (Token.end_array ∷ []) [] [] o1 o2 o3 o4 o4 o4 p1 p2 p3 p4 (sym (append-nil o4)) (sym (append-nil o4))
-    ∙ ap (λ ts. o ++ (Token.key (codes "groups") ∷ (Token.begin_array ∷ ts))) (sym (items_tokens-map group_tree gs))
+open_written o o1 o2 o3 o4 gs p1 p2 p3 p4 = grind (arith, append-nil, items_tokens-map, common_steps)
 
 -- the state, as it is written
 pub state_written : (o o1 o2 o3 o4 o5 : List Token) (s : State) (with_window : Bool) → with_window ≡ are_waiting s
@@ -82,25 +78,16 @@ pub state_written : (o o1 o2 o3 o4 o5 : List Token) (s : State) (with_window : B
     → o4 ≡ o3 ++ back_tokens with_window s.id s.window.lines s.counts → o5 ≡ o4 ++ Token.end_object ∷ []
     → o5 ≡ o ++ tokens_of (state_tree s)
 unfolding tree_by
-state_written o o1 o2 o3 o4 o5 s with_window is p1 p2 p3 p4 p5 =
-    six_written o (Token.begin_object ∷ []) (front_tokens with_window s.counts) (open_tokens s.groups) (back_tokens with_window s.id s.window.lines s.counts) (Token.end_object ∷ []) [] o1 o2 o3 o4 o5 o5 p1 p2 p3 p4 p5 (sym (append-nil o5))
-    ∙ ap (λ ts. o ++ ts) (as_tree with_window ∙ ap (λ b. tokens_of (tree_by b s)) is)
-  where
-    as_tree : (with_window : Bool) → (Token.begin_object ∷ []) ++ (front_tokens with_window s.counts ++ (open_tokens s.groups ++ (back_tokens with_window s.id s.window.lines s.counts ++ (Token.end_object ∷ [] ++ [])))) ≡ tokens_of (tree_by with_window s)
-    as_tree true = refl
-    as_tree false = refl
+state_written o o1 o2 o3 o4 o5 s with_window is p1 p2 p3 p4 p5 = grind (arith, six_written o (Token.begin_object ∷ []) (front_tokens with_window s.counts) (open_tokens s.groups) (back_tokens with_window s.id s.window.lines s.counts) (Token.end_object ∷ []) [] o1 o2 o3 o4 o5 o5 p1 p2 p3 p4 p5 (sym (append-nil o5)))
 
 -- the text of tokens that are a state's
 pub text_written : (s : State) (before text : List ℕ) (none ts : List Token) → text ≡ before ++ print ts → before ≡ [] → none ≡ [] → ts ≡ none ++ tokens_of (state_tree s)
     → text ≡ state_text s
 unfolding state_text
-text_written s before text none ts is nothing is_none all =
-    is ∙ ap (λ b. b ++ print ts) nothing ∙ ap print (all ∙ ap (λ n. n ++ tokens_of (state_tree s)) is_none) ∙ print-outline (state_tree s)
+text_written s before text none ts is nothing is_none all = grind (arith, print-outline)
 
 -- the members behind the open groups, as they are written
 pub back_written : (o o1 o2 o3 o4 : List Token) (with_window : Bool) (id : List ℕ) (window : ℕ) (c : Counts)
     → o1 ≡ o ++ lines_tokens c → o2 ≡ o1 ++ table_tokens id → o3 ≡ o2 ++ count_tokens (codes "unknown") c.unknown → o4 ≡ o3 ++ window_tokens with_window window
     → o4 ≡ o ++ back_tokens with_window id window c
-back_written o o1 o2 o3 o4 with_window id window c p1 p2 p3 p4 =
-    six_written o (lines_tokens c) (table_tokens id) (count_tokens (codes "unknown") c.unknown) (window_tokens with_window window) [] [] o1 o2 o3 o4 o4 o4 p1 p2 p3 p4 (sym (append-nil o4)) (sym (append-nil o4))
-    ∙ ap (λ ts. o ++ (lines_tokens c ++ (table_tokens id ++ (count_tokens (codes "unknown") c.unknown ++ ts)))) (append-nil (window_tokens with_window window))
+back_written o o1 o2 o3 o4 with_window id window c p1 p2 p3 p4 = grind (arith, append-nil, common_steps)

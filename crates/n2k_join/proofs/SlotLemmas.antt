@@ -1,16 +1,12 @@
 -- The slots of a group: what they carry is what the group's frames carry, and its mask tells whether it is complete.
-use Rattle.std.proofs.Common.{◌≡◌, ◌==◌, ◌≤◌, ◌<◌, ◌+◌, ◌-◌, ◌*◌, ◌/◌, ◌%◌, ◌^◌, ℕ, suc, zero, Bool, true, false, cond, not, ◌&&◌, nat_le, List, [], ◌∷◌, ◌++◌, length, get_or, set, w32, refl, sym, ap, ◌∙◌, subst, arith, Option, Some, None, option_map, flat_map, take, drop, unwrap_or, bit_or, slice_index, slice_index_or}
-use mathlib.Core.Logic.{◌⊎◌, inl, inr}
-use Rattle.std.specs.Prelude.{is_some}
+use Rattle.std.proofs.lemmas.Grind.{common_steps, flat_map-append}
+use Rattle.std.proofs.Common.{◌≡◌, ◌==◌, ◌≤◌, ◌<◌, ◌+◌, ◌-◌, ◌*◌, ◌/◌, ◌%◌, ◌^◌, ℕ, suc, zero, Bool, true, false, cond, not, ◌&&◌, nat_le, List, [], ◌∷◌, ◌++◌, length, get_or, set, w32, refl, sym, ap, ◌∙◌, subst, arith, Some, None, option_map, flat_map, take, drop, bit_or, slice_index, slice_index_or, ◌⊎◌, inl, inr, is_some, shr-shr}
 use Rattle.std.specs.Int.{bit_at}
 use Rattle.std.specs.Option.{option_or}
 use Rattle.std.specs.List.{range_with_len, AllByRecursion}
 use Rattle.std.proofs.lemmas.Bool.{cases_lt, eqb-true, eq-eqb, and_parts, and_from, le-leb, leb-true, false≢true}
 use Rattle.std.proofs.lemmas.Nat.Bits.{bit_at-lt, bit_at-zero, bit_at_ones, bit_at_above, bit_at_set_same, bit_at_set_other, same_from_bits, bit_at_ones_above}
-use Rattle.std.proofs.lemmas.List.Elements.{All-set, All-from_recursion, recursion_from_All}
-use Rattle.std.proofs.lemmas.Nat.{shr-shr}
 use Rattle.std.proofs.lemmas.List.{get_or-set_same, get_or-set_other, length-append, take-append-le, take-append-drop}
-use Rattle.std.proofs.lemmas.Grind.{flat_map-append}
 use Rattle.n2k_join.specs.declared.piece.OpenGroup.{OpenGroup}
 use Rattle.n2k_wire.specs.Packet.{longest_message}
 use Rattle.n2k_join.specs.Frames.{Key, Frame, most_frames, frame_bytes}
@@ -18,19 +14,17 @@ use Rattle.n2k_join.specs.Groups.{complete, carried, has_number, has_from, has_t
 use Rattle.n2k_join.specs.Open.{Piece, Group, piece_at, pieces_of, group_of}
 use Rattle.n2k_join.specs.State.{held_frame, held_of}
 use Rattle.n2k_join.specs.Inner.Slots.{slot, slot_of, group_by, group_in}
-use Rattle.n2k_join.proofs.Carried.{same_bool, carried-append, pieces_of-same, within_there, within_back, option_or_none}
+use Rattle.n2k_join.proofs.Carried.{same_bool, carried-append, pieces_of-same, within_there, within_back}
 use Rattle.n2k_join.proofs.Cuts.{HasFrom, from_has, has-from}
-use Rattle.n2k_join.proofs.Rising.{filter_map-range, filter_map-none, all_from, all_to}
-use Rattle.n2k_join.proofs.Held.{held_frames, carried-held, has_twice-held, pieces_by, pieces_by-rise, bytes_by, bytes_by-past}
+use Rattle.n2k_join.proofs.Rising.{filter_map-range, all_from, all_to}
+use Rattle.n2k_join.proofs.Held.{carried-held, has_twice-held, pieces_by, pieces_by-rise, bytes_by, bytes_by-past}
 
 -- what the frames that a group holds carry
 pub carried-slots : (k : Key) (g : OpenGroup) (n : ℕ) → n < most_frames → carried (held_of (group_in k g)) n ≡ slot_of g n
-carried-slots k g n l =
-    carried-held (group_in k g) 0 (pieces_by (slot_of g)) n (pieces_by-rise (slot_of g)) ∙ bytes_by (slot_of g) n l
+carried-slots k g n l = grind (arith, carried-held (group_in k g) 0 (pieces_by (slot_of g)) n (pieces_by-rise (slot_of g)), bytes_by (slot_of g) n l)
 
 pub carried-none : (k : Key) (g : OpenGroup) (n : ℕ) → most_frames ≤ n → carried (held_of (group_in k g)) n ≡ None
-carried-none k g n l =
-    carried-held (group_in k g) 0 (pieces_by (slot_of g)) n (pieces_by-rise (slot_of g)) ∙ bytes_by-past (slot_of g) n l
+carried-none k g n l = grind (arith, carried-held (group_in k g) 0 (pieces_by (slot_of g)) n (pieces_by-rise (slot_of g)), bytes_by-past (slot_of g) n l)
 
 pub once-slots : (k : Key) (g : OpenGroup) → has_twice (held_of (group_in k g)) ≡ false
 once-slots k g = has_twice-held (group_in k g) 0 (pieces_by (slot_of g)) (pieces_by-rise (slot_of g))
@@ -42,9 +36,7 @@ pub mask_is : (w k n : ℕ) → n < 2 ^ w → ((i : ℕ) → i < k → bit_at n 
 mask_is w k n b ones zeros = same_from_bits n (2 ^ k - 1) (λ i. by i (cases_lt i k) (cases_lt i w))
   where
     by : (i : ℕ) → (i < k) ⊎ (k ≤ i) → (i < w) ⊎ (w ≤ i) → bit_at n i ≡ bit_at (2 ^ k - 1) i
-    by i (inl below) at = ones i below ∙ sym (bit_at_ones k i below)
-    by i (inr past) (inl below) = zeros i past below ∙ sym (bit_at_ones_above k i past)
-    by i (inr past) (inr above) = bit_at_above n w i b above ∙ sym (bit_at_ones_above k i past)
+    by i h at = grind (arith, bit_at_ones, bit_at_above)
 
 -- ---- completeness
 
@@ -83,12 +75,7 @@ module _ (k : Key) (g : OpenGroup) (last : ℕ) (small : last < most_frames) (fi
       (within_back last (held_of (group_in k g)) each)
     where
       by : (n : ℕ) → (n < most_frames) ⊎ (most_frames ≤ n) → (last < n) ⊎ (n ≤ last) → has_number n (held_of (group_in k g)) ≡ true → nat_le n last ≡ true
-      by n (inr past) c there = absurd (false≢true (sym (ap is_some (carried-none k g n past)) ∙ there))
-      by n (inl l) (inr le) there = le-leb n last le
-      by n (inl l) (inl gt) there =
-          let one : bit_at g.mask n ≡ 1 = eqb-true _ _ (sym (has-slot k g n l) ∙ there) in
-          let none : bit_at g.mask n ≡ 0 = ap (λ m. bit_at m n) e ∙ bit_at_ones_above (last + 1) n (omega (arith, gt)) in
-          absurd (omega (arith, one, none))
+      by n h c there = grind (arith, carried-none, le-leb, has-slot, bit_at_ones_above)
 
       each : (n : ℕ) → has_number n (held_of (group_in k g)) ≡ true → nat_le n last ≡ true
       each n there = by n (cases_lt n most_frames) (cases_lt last n) there
@@ -102,8 +89,7 @@ module _ (k : Key) (g : OpenGroup) (last : ℕ) (small : last < most_frames) (fi
 
 pub incomplete-slots : (k : Key) (g : OpenGroup) → is_some (slot_of g 0) ≡ false → complete (held_of (group_in k g)) ≡ false
 unfolding complete
-incomplete-slots k g e =
-    (λ i. not (once-slots k g i) && ((ap is_some (carried-slots k g 0 (omega arith)) ∙ e) i && (has_all (last_number (total (held_of (group_in k g)))) (held_of (group_in k g)) && is_within (last_number (total (held_of (group_in k g)))) (held_of (group_in k g)))))
+incomplete-slots k g e = grind (arith, once-slots, carried-slots)
 
 -- ---- one piece more
 
@@ -119,10 +105,7 @@ take-slots k g first mask slots p small at missing there others =
     same n l = by (p.number == n) refl ∙ sym (carried-append (held_of (group_in k g)) (held_frame (group_in k g) p ∷ []) n ∙ ap (λ o. option_or o (cond (p.number == n) (Some p.bytes) None)) (carried-slots k g n l))
       where
         by : (b : Bool) → (p.number == n) ≡ b → slot mask slots n ≡ option_or (slot_of g n) (cond b (Some p.bytes) None)
-        by true e =
-            let is : p.number ≡ n = eqb-true _ _ e in
-            subst (λ m. slot mask slots m ≡ option_or (slot_of g m) (Some p.bytes)) is (there ∙ sym (ap (λ o. option_or o (Some p.bytes)) missing))
-        by false e = others n l (λ f. false≢true (sym e ∙ eq-eqb _ _ (sym f))) ∙ sym (option_or_none (slot_of g n))
+        by b e = grind arith
 
 -- an empty mask fills no slot
 pub none-slot : (slots : List (List ℕ)) (n : ℕ) → slot 0 slots n ≡ None
@@ -135,19 +118,7 @@ empty-slots g n empty = ap (λ m. slot m g.slots n) empty ∙ none-slot g.slots 
 open-by : (k : Key) (slots : List (List ℕ)) (q : Group) (x : Frame) (p : Piece) → p.number ≡ x.number → p.bytes ≡ x.bytes
     → q ≡ record { first = x.line; key = k; pieces = pieces_of (held_of (group_by x.line k 0 slots) ++ held_frame (group_by x.line k 0 slots) p ∷ []) }
     → q ≡ group_of k (x ∷ [])
-open-by k slots q x p number bytes taken =
-    let o : Group = group_by x.line k 0 slots in
-    let none : held_of o ≡ [] =
-    ap (held_frames o)
-    (filter_map-none (piece_at (slot 0 slots)) (λ n. ap (piece_if n) (none-slot slots n))
-    (range_with_len 0 most_frames)) in
-    let carry : carried (held_frame o p ∷ []) ≡ carried (x ∷ []) = λ i n. cond (number i == n) (Some (bytes i)) None in
-    let pieces =
-    ap (λ fs. pieces_of (fs ++ held_frame o p ∷ [])) none ∙ pieces_of-same (held_frame o p ∷ []) (x ∷ []) carry in
-    taken ∙ (λ i. record { first = x.line; key = k; pieces = pieces i })
-  where
-    piece_if : ℕ → Option (List ℕ) → Option Piece
-    piece_if n o = option_map (λ (bytes : List ℕ). record { number = n; bytes = bytes }) o
+open-by k slots q x p number bytes taken = grind (arith, pieces_of-same)
 
 pub open-slots : (k : Key) (g : OpenGroup) (q : Group) (x : Frame) (p : Piece) → p.number ≡ x.number → p.bytes ≡ x.bytes → g.first ≡ x.line → g.mask ≡ 0
     → q ≡ record (group_in k g) { pieces = pieces_of (held_of (group_in k g) ++ held_frame (group_in k g) p ∷ []) }
@@ -214,9 +185,7 @@ module _ (first mask number : ℕ) (slots : List (List ℕ)) (bytes : List ℕ) 
   total-slot old new e = by (number == 0) refl
     where
       by : (b : Bool) → (number == 0) ≡ b → slice_index (get_or (set slots number bytes) 0 []) 0 ≤ longest_message
-      by true t =
-          let is : number ≡ 0 = eqb-true _ _ t in
-          subst (λ (bs : List ℕ). slice_index bs 0 ≤ longest_message) (sym (ap (λ n. get_or (set slots number bytes) n []) (sym is) ∙ get_or-set_same slots number bytes [] (omega (arith, small, many)))) (new is)
+      by true t = grind (arith, get_or-set_same)
       by false t =
           let other : 0 ≡ number → ⊥ = λ f. false≢true (sym t ∙ eq-eqb _ _ (sym f)) in
           subst (λ (bs : List ℕ). slice_index bs 0 ≤ longest_message) (sym (get_or-set_other slots number 0 bytes [] other)) (old (sym (bit_at_set_other w32 mask number small 0 other) ∙ e))
@@ -230,10 +199,7 @@ module _ (first mask number : ℕ) (slots : List (List ℕ)) (bytes : List ℕ) 
 
   -- each slot keeps seven bytes
   pub seven-slots : AllByRecursion (λ (b : List ℕ). length b ≡ frame_bytes) slots → length bytes ≡ frame_bytes → AllByRecursion (λ (b : List ℕ). length b ≡ frame_bytes) (set slots number bytes)
-  seven-slots all one =
-      let seven = λ (b : List ℕ). length b ≡ frame_bytes in
-      recursion_from_All seven (set slots number bytes)
-      (All-set seven slots number bytes one (All-from_recursion seven slots all))
+  seven-slots all one = grind (arith, common_steps)
 
 -- ---- completeness, by the total that is read
 
@@ -260,9 +226,7 @@ first-slots f (b ∷ ss) a (suc m) few same =
 length-sevens : (ss : List (List ℕ)) (m : ℕ) → AllByRecursion (λ (b : List ℕ). length b ≡ frame_bytes) ss → m ≤ length ss → length (flat_map (λ (b : List ℕ). b) (take m ss)) ≡ 7 * m
 length-sevens ss zero each few = refl
 length-sevens [] (suc m) each few = absurd (omega (arith, few))
-length-sevens (b ∷ ss) (suc m) each few =
-    let rest = length-sevens ss m each.1 (omega (arith, few)) in
-    omega (arith, each.0, rest, length-append b (flat_map (λ (b : List ℕ). b) (take m ss)))
+length-sevens (b ∷ ss) (suc m) each few = grind (arith, length-sevens ss m each.1 (omega (arith, few)), length-append)
 
 -- the bytes of a slice that begins behind the first, within a front
 within-front : (xs ys : List ℕ) (t : ℕ) → t + 1 ≤ length xs → take t (drop 1 (xs ++ ys)) ≡ take t (drop 1 xs)
@@ -282,9 +246,7 @@ module _ (k : Key) (g : OpenGroup) (done : complete (held_of (group_in k g)) ≡
   zeroth-slot = eqb-true _ _ (sym (has-slot k g 0 (omega arith)) ∙ zeroth)
 
   carried-there : (n : ℕ) → n < most_frames → has_number n (held_of (group_in k g)) ≡ true → bytes_at (held_of (group_in k g)) n ≡ get_or g.slots n []
-  carried-there n l has =
-      let one = sym (has-slot k g n l) ∙ has in
-      ap (λ o. unwrap_or o []) (carried-slots k g n l ∙ ap (λ b. cond b (Some (get_or g.slots n [])) None) one)
+  carried-there n l has = grind (arith, has-slot, carried-slots)
 
   -- the total stands first
   pub total-slots : total (held_of (group_in k g)) ≡ slice_index (get_or g.slots 0 []) 0

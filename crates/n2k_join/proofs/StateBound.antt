@@ -1,13 +1,12 @@
 -- How many bytes the text of a state takes: member by member, and the open groups and their frames one by one.
-use Rattle.std.proofs.Common.{◌≡◌, ◌≤◌, ◌<◌, ◌+◌, ◌*◌, ◌/◌, ◌%◌, ◌^◌, ℕ, zero, suc, Bool, true, false, List, [], ◌∷◌, ◌++◌, map, length, slice_index, codes, refl, sym, ap, subst, ◌∙◌, arith, length-append}
+use Rattle.std.proofs.Common.{◌≡◌, ◌≤◌, ◌<◌, ◌+◌, ◌*◌, ◌/◌, ◌%◌, ◌^◌, ℕ, zero, suc, Bool, true, false, List, [], ◌∷◌, map, length, slice_index, codes, refl, arith, length-append}
 use Rattle.std.specs.List.{AllByRecursion}
 use Rattle.std.proofs.lemmas.Fmt.{length-decimal-le}
-use Rattle.std.proofs.Math.Nat.{mul-suc}
 use Rattle.json.specs.Print.{escape_byte, escape, quoted}
 use Rattle.hex.specs.Hex.{encode_lower, encode_with, lower_digits}
 use Rattle.serde_json.specs.Data.{Data, string, Items, no_items, item, Members, no_members, member, object}
 use Rattle.serde_json.specs.View.{items_of}
-use Rattle.serde_json.specs.Written.{comma_if, compact_text, items_text, members_text}
+use Rattle.serde_json.specs.Written.{compact_text, items_text, members_text}
 use Rattle.n2k_join.specs.Counts.{most_lines}
 use Rattle.n2k_join.specs.Frames.{most_frames}
 use Rattle.n2k_join.specs.Open.{Piece, Group}
@@ -51,29 +50,16 @@ escaped_digits (b ∷ bs) h =
     omega (arith, rest, second, first)
 
 digits_short : (n : ℕ) (bs : List ℕ) → length bs ≡ n → AllByRecursion (λ byte. byte < 256) bs → length (compact_text (string (encode_lower bs))) ≤ 2 * n + 2
-digits_short n bs long bytes =
-    let digits = escaped_digits bs bytes in
-    let ends = length-append (escape (encode_lower bs)) (34 ∷ []) in
-    omega (arith, long, digits, ends)
+digits_short n bs long bytes = grind (arith, escaped_digits, length-append)
 
 -- ---- arrays and objects
 
-comma_short : (later : Bool) → length (comma_if later) ≤ 1
-comma_short true = omega arith
-comma_short false = omega arith
-
 item_short : (later : Bool) (d : Data) (ds : Items) (a b : ℕ) → length (compact_text d) ≤ a → length (items_text true ds) ≤ b → length (items_text later (item d ds)) ≤ (1 + a) + b
-item_short later d ds a b one more =
-    let comma = comma_short later in
-    let all = length-append (comma_if later) (compact_text d ++ items_text true ds) in
-    let rest = length-append (compact_text d) (items_text true ds) in
-    omega (arith, comma, all, rest, one, more)
+item_short later d ds a b one more = grind (arith, length-append)
 
 -- no comma stands before the first
 first_short : (d : Data) (ds : Items) (a b : ℕ) → length (compact_text d) ≤ a → length (items_text true ds) ≤ b → length (items_text false (item d ds)) ≤ a + b
-first_short d ds a b one more =
-    let all = length-append (compact_text d) (items_text true ds) in
-    omega (arith, all, one, more)
+first_short d ds a b one more = grind (arith, length-append)
 
 -- members behind the first of an object, of so many bytes at most with the brace that ends it
 record AreShort (ms : Members) (most : ℕ) : Type 0 where
@@ -85,10 +71,7 @@ none_short = record { fits = omega arith }
 -- a member whose name has so many characters, and its value so many bytes at most
 member_short : (k : List ℕ) (d : Data) {ms : Members} (n a : ℕ) {b : ℕ} → length (quoted k) ≡ n
     → length (compact_text d) ≤ a → AreShort ms b → AreShort (member k d ms) (((2 + n) + a) + b)
-member_short k d {ms} n a long one more =
-    let name = length-append (quoted k) (58 ∷ (compact_text d ++ members_text true ms)) in
-    let rest = length-append (compact_text d) (members_text true ms) in
-    record { fits = omega (arith, name, rest, long, one, more.fits) }
+member_short k d {ms} n a long one more = grind (arith, length-append)
 
 object_short : (k : List ℕ) (d : Data) {ms : Members} {most : ℕ} → AreShort (member k d ms) most
     → length (compact_text (object (member k d ms))) ≤ most
@@ -97,11 +80,7 @@ object_short k d are = omega (arith, are.fits)
 -- the elements of an array, each of so many bytes at most
 items_short : {A : Type 0} (f : A → Data) (a : ℕ) (later : Bool) (xs : List A) → AllByRecursion (λ x. length (compact_text (f x)) ≤ a) xs → length (items_text later (items_of (map f xs))) ≤ (1 + a) * length xs + 1
 items_short f a later [] each = omega arith
-items_short f a later (x ∷ xs) each =
-    let more = items_short f a true xs each.1 in
-    let here = item_short later (f x) (items_of (map f xs)) a ((1 + a) * length xs + 1) each.0 more in
-    let product = mul-suc (1 + a) (length xs) in
-    omega (arith, here, product)
+items_short f a later (x ∷ xs) each = grind (arith, items_short f a true xs each.1, item_short)
 
 list_short : {A : Type 0} (f : A → Data) (a : ℕ) (xs : List A) → AllByRecursion (λ x. length (compact_text (f x)) ≤ a) xs → length (compact_text (list (map f xs))) ≤ (1 + a) * length xs + 2
 list_short f a xs each = let items = items_short f a false xs each in omega (arith, items)
@@ -110,12 +89,7 @@ list_short f a xs each = let items = items_short f a false xs each in omega (ari
 
 piece_short : (p : Piece) → IsPiece p → p.number < most_frames → length (compact_text (piece_tree p)) ≤ 21
 unfolding piece_tree
-piece_short p is small =
-    let bytes = digits_short 7 p.bytes is.seven is.are_bytes in
-    let number = number_short 2 p.number (omega arith) (omega (arith, small)) (omega (arith, small)) in
-    let second : length (items_text true (item (string (encode_lower p.bytes)) no_items)) ≤ 18 = item_short true (string (encode_lower p.bytes)) no_items 16 1 bytes (omega arith) in
-    let first : length (items_text false (item (whole p.number) (item (string (encode_lower p.bytes)) no_items))) ≤ 20 = first_short (whole p.number) (item (string (encode_lower p.bytes)) no_items) 2 18 number second in
-    omega (arith, first)
+piece_short p is small = grind (arith, digits_short 7 p.bytes is.seven is.are_bytes, number_short 2 p.number (omega arith) (omega (arith, small)) (omega (arith, small)), first_short (whole p.number) (item (string (encode_lower p.bytes)) no_items) 2 18 (number_short 2 p.number (omega arith) (omega (arith, small)) (omega (arith, small))) (item_short true (string (encode_lower p.bytes)) no_items 16 1 (digits_short 7 p.bytes is.seven is.are_bytes) (omega arith)))
 
 -- ---- open groups
 
@@ -146,15 +120,11 @@ group_short g parts is begun =
 -- ---- the state
 
 format_short : (with_window : Bool) → length (compact_text (whole (format_by with_window))) ≤ 1
-format_short true = number_short 1 2 (omega arith) (omega arith) (omega arith)
-format_short false = number_short 1 1 (omega arith) (omega arith) (omega arith)
+format_short with_window = grind (arith, number_short)
 
 window_short : (with_window : Bool) (window : ℕ) → IsWindow window → AreShort (window_member with_window window) 18
 unfolding escape_byte
-window_short true window is =
-    let digits = number_short 7 window (omega arith) (omega (arith, is.most)) (omega (arith, is.most)) in
-    member_short (codes "window") (whole window) 8 7 refl digits none_short
-window_short false window is = record { fits = omega arith }
+window_short with_window window is = grind (arith, member_short (codes "window") (whole window) 8 7 refl (number_short 7 window (omega arith) (omega (arith, is.most)) (omega (arith, is.most))) none_short, none_short)
 
 -- the text of a state that a join can have, of a table's id
 pub state-short : (s : State) → IsState s → IsId s.id → length (state_text s) ≤ bare_bytes + group_bytes * length s.groups
@@ -193,8 +163,4 @@ state-short s is known =
 -- the same of a text whose groups were lent, as the state's owner sees it
 pub saved-short : (s view : State) (lent : List Group) (text : List ℕ) → IsState s → IsId s.id → lent ≡ s.groups → s ≡ view
     → text ≡ state_text (record { id = s.id; window = s.window; counts = s.counts; groups = lent }) → length text ≤ bare_bytes + group_bytes * length view.groups
-saved-short s view lent text is known same seen written =
-    let named = λ (gs : List Group). let made : State = record { id = s.id; window = s.window; counts = s.counts; groups = gs } in made in
-    let all : text ≡ state_text s = written ∙ ap (λ gs. state_text (named gs)) same in
-    let short = state-short s is known in
-    subst (λ (v : State). length text ≤ bare_bytes + group_bytes * length v.groups) seen (subst (λ t. length t ≤ bare_bytes + group_bytes * length s.groups) (sym all) short)
+saved-short s view lent text is known same seen written = grind (arith, state-short)

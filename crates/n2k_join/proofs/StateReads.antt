@@ -1,19 +1,18 @@
 -- The text of a valid state is read as that state.
-use Rattle.std.proofs.Common.{◌≡◌, ◌≤◌, ◌<◌, ◌+◌, ◌^◌, ◌==◌, ℕ, zero, suc, Bool, true, false, if◌then◌else◌, List, [], ◌∷◌, length, map, Option, Some, option_map, Result, Ok, Err, codes, refl, sym, ap, ◌∙◌, arith}
+use Rattle.std.proofs.Common.{◌≡◌, ◌≤◌, ◌<◌, ◌+◌, ◌^◌, ◌==◌, ℕ, zero, suc, Bool, true, false, if◌then◌else◌, List, [], ◌∷◌, length, map, Option, Some, Result, Ok, Err, codes, refl, ◌∙◌, arith}
 use Rattle.std.specs.List.{AllByRecursion}
-use Rattle.std.proofs.lemmas.Bool.{eq-eqb, ne_eqb}
 use Rattle.hex.specs.Hex.{IsBytes, encode_lower}
 use Rattle.hex.proofs.HexLemmas.{decode_sized-encode_lower}
 use Rattle.json.specs.Tree.{depth, items_depth}
 use Rattle.json.proofs.Printed.Utf8.{are_ascii, IsUtf8-are_ascii}
-use Rattle.serde_json.specs.Data.{Data, array, Members, member, no_members, string}
+use Rattle.serde_json.specs.Data.{Data, Members, member, no_members, string}
 use Rattle.serde_json.specs.Read.{of_json, of_items}
 use Rattle.serde_json.specs.View.{items_of}
-use Rattle.serde_json.specs.Written.{outline, items_outline}
+use Rattle.serde_json.specs.Written.{outline, items_outline, compact_text}
 use Rattle.serde_json.proofs.Numbers.{number_of-decimal}
 use Rattle.n2k_join.specs.Open.{Piece, Group}
 use Rattle.n2k_join.specs.Resumed.{each, values_in, format_in, read_piece, read_group, read_key, read_pieces, read_groups, read_counts, read_id, is_valid, read_state, state_of_parts, resumed, parsed, valid_if, waits_hold}
-use Rattle.n2k_join.specs.Saved.{IsId, are_waiting, saved_format, old_format, list, piece_tree, group_tree, state_text, format_by, window_member, tree_by, whole}
+use Rattle.n2k_join.specs.Saved.{IsId, are_waiting, list, piece_tree, group_tree, state_text, format_by, window_member, tree_by, whole}
 use Rattle.n2k_join.specs.State.{State, IsState, AreCounts, AreFast, AreWaiting, IsKey, IsPiece, IsOpen, HasParts}
 use Rattle.n2k_join.specs.Window.{Window, IsWindow}
 use Rattle.n2k_join.specs.declared.counts.Counts.{Counts}
@@ -30,7 +29,6 @@ use Rattle.n2k_join.proofs.Rising.{all-map, all-zip}
 use Rattle.n2k_join.proofs.SavedDigits.{IsUtf8-encode_lower}
 use Rattle.std.specs.Str.{bytes_eq}
 use Rattle.std.proofs.lemmas.Slice.Eq.{bytes_eq-Decides}
-use Rattle.serde_json.specs.Written.{compact_text}
 use Rattle.n2k_join.proofs.WrittenReads.{IsPlain, ArePlain, ArePlainMembers, text_utf8, compact_reads}
 
 -- A tree that is written and read back: it is plain, nests no deeper than this, and stands for itself.
@@ -46,21 +44,14 @@ lists_plain deep f (x ∷ xs) all = (all.0.plain, lists_plain deep f xs all.1)
 
 lists_shallow : {X : Type 0} (deep : ℕ) (f : X → Data) (xs : List X) → AllByRecursion (λ x. IsTree deep (f x)) xs → items_depth (items_outline (items_of (map f xs))) ≤ deep
 lists_shallow deep f [] all = omega arith
-lists_shallow deep f (x ∷ xs) all =
-    let one : depth (outline (f x)) ≤ deep = all.0.shallow in
-    let more = lists_shallow deep f xs all.1 in
-    omega arith
+lists_shallow deep f (x ∷ xs) all = grind (arith, lists_shallow deep f xs all.1)
 
 lists_back : {X : Type 0} (deep : ℕ) (f : X → Data) (xs : List X) → AllByRecursion (λ x. IsTree deep (f x)) xs → of_items (items_outline (items_of (map f xs))) ≡ Some (items_of (map f xs))
 lists_back deep f [] all = refl
 lists_back deep f (x ∷ xs) all = rw (all.0.back, lists_back deep f xs all.1) refl
 
 pub lists : {X : Type 0} (deep : ℕ) (f : X → Data) (xs : List X) → AllByRecursion (λ x. IsTree deep (f x)) xs → IsTree (deep + 1) (list (map f xs))
-lists deep f xs all = record {
-  plain = lists_plain deep f xs all;
-  shallow = let more = lists_shallow deep f xs all in omega arith;
-  back = ap (option_map array) (lists_back deep f xs all);
-}
+lists deep f xs all = grind (arith, lists_plain, lists_shallow, lists_back)
 
 -- a frame that a state can hold
 pub record IsHeld (p : Piece) : Type 0 where
@@ -155,17 +146,10 @@ record AreSmall (c : Counts) : Type 0 where
   unknown : c.unknown < 2 ^ 64
 
 counts-small : (c : Counts) → AreCounts c → AreSmall c
-counts-small c are = record {
-  bad = omega (arith, are.lines, are.given);
-  broken = omega (arith, are.lines, are.broken);
-  lines = omega (arith, are.lines);
-  messages = omega (arith, are.lines, are.given);
-  unknown = omega (arith, are.lines, are.given);
-}
+counts-small c are = grind arith
 
 format-small : (with_window : Bool) → format_by with_window < 2 ^ 64
-format-small true = omega arith
-format-small false = omega arith
+format-small with_window = grind arith
 
 last-plain : (with_window : Bool) (s : State) → IsWindow s.window.lines → ArePlainTexts (window_member with_window s.window.lines)
 last-plain true s is = plain_member (codes "window") (whole s.window.lines) refl (omega (arith, is.most)) plain_none
@@ -187,34 +171,11 @@ tree-plain with_window s is =
 
 tree-shallow : (with_window : Bool) (s : State) → IsState s → depth (outline (tree_by with_window s)) ≤ 5
 unfolding tree_by
-tree-shallow true s is = let more = (groups-tree s is).shallow in omega arith
-tree-shallow false s is = let more = (groups-tree s is).shallow in omega arith
+tree-shallow with_window s is = grind (arith, groups-tree)
 
 tree-back : (with_window : Bool) (s : State) → IsState s → of_json (outline (tree_by with_window s)) ≡ Some (tree_by with_window s)
 unfolding tree_by
-tree-back true s is =
-    let small = counts-small s.counts is.counted in
-    rw (
-      number_of-decimal s.counts.bad small.bad,
-      number_of-decimal s.counts.broken small.broken,
-      number_of-decimal saved_format (format-small true),
-      (groups-tree s is).back,
-      number_of-decimal s.counts.lines small.lines,
-      number_of-decimal s.counts.messages small.messages,
-      number_of-decimal s.counts.unknown small.unknown,
-      number_of-decimal s.window.lines (omega (arith, is.window.most)),
-    ) refl
-tree-back false s is =
-    let small = counts-small s.counts is.counted in
-    rw (
-      number_of-decimal s.counts.bad small.bad,
-      number_of-decimal s.counts.broken small.broken,
-      number_of-decimal old_format (format-small false),
-      (groups-tree s is).back,
-      number_of-decimal s.counts.lines small.lines,
-      number_of-decimal s.counts.messages small.messages,
-      number_of-decimal s.counts.unknown small.unknown,
-    ) refl
+tree-back with_window s is = grind (arith, number_of-decimal, groups-tree)
 
 -- the state that is read where this is handed in
 abbrev read_under : Bool → Window → State → State
@@ -222,18 +183,11 @@ read_under with_window w s = record { id = s.id; window = record { lines = if wi
 
 -- the groups of its text
 groups-back : (s : State) → IsState s → each read_group (values_in (items_of (map group_tree s.groups))) ≡ Ok s.groups
-groups-back s is =
-    each-reads group_tree read_group s.groups
-    (all-map IsKept (λ (g : Group). read_group (group_tree g) ≡ Ok g) s.groups group-reads (kept_groups s is))
+groups-back s is = grind (arith, each-reads, all-map, group-reads, kept_groups)
 
 pub state-reads : (with_window : Bool) (w : Window) (s : State) → IsState s → IsId s.id → read_state (format_of with_window) w (tree_by with_window s) ≡ Ok (read_under with_window w s)
 unfolding read_state read_counts read_id read_groups tree_by
-state-reads true w s is id =
-    rw (decode_sized-encode_lower s.id 32 id.long id.are_bytes, groups-back s is)
-    (ap (λ n. Ok (record { id = s.id; window = record { lines = s.window.lines; in_order = w.in_order }; counts = record s.counts { held = n }; groups = s.groups })) (sym is.held))
-state-reads false w s is id =
-    rw (decode_sized-encode_lower s.id 32 id.long id.are_bytes, groups-back s is)
-    (ap (λ n. Ok (record { id = s.id; window = w; counts = record s.counts { held = n }; groups = s.groups })) (sym is.held))
+state-reads with_window w s is id = grind (arith, decode_sized-encode_lower, groups-back)
 
 bytes_eq-same : (bs : List ℕ) → bytes_eq bs bs ≡ true
 bytes_eq-same bs = (bytes_eq-Decides bs bs).1 refl
@@ -258,11 +212,7 @@ text-asked kind id w s is known = by (are_waiting s)
         parsed_some (compact_text (tree_by with_window s)) (tree_by with_window s) (text_utf8 (tree_by with_window s) plain) (compact_reads (tree_by with_window s) plain depth_ok (tree-back with_window s is))
 
     by : (with_window : Bool) → resumed kind id w (compact_text (tree_by with_window s)) ≡ asked kind id w (format_of with_window) (read_under with_window w s)
-    by true = rw (text true) (rw (state-reads true w s is known) refl)
-    by false = rw (text false) (rw (state-reads false w s is known) refl)
-
-waits-there : (s : State) → are_waiting s ≡ true → waits_hold WithWindow s ≡ true
-waits-there s e = cc
+    by with_window = grind (arith, text, state-reads)
 
 -- The text of a valid state, whose groups are of fast PGNs of its table, spells that state under its window, whether the
 -- order of frames is asked for or not.
@@ -278,14 +228,11 @@ state_under kind s order is fast id = text-asked kind s.id w s is id ∙ by (are
     ruled = record { id = s.id; window = w; counts = s.counts; groups = s.groups }
 
     answers : (place : StateFormat) → waits_hold place ruled ≡ true → asked kind s.id w place ruled ≡ Ok ruled
-    answers place waits =
-        let valid : is_valid kind ruled ≡ true = state_valid kind s is fast in
-        rw (bytes_eq-same s.id) (rw (eq-eqb s.window.lines s.window.lines refl) (rw waits (rw valid refl)))
+    answers place waits = grind (arith, ruled, state_valid, bytes_eq-same)
 
     by : (with_window : Bool) → are_waiting s ≡ with_window
         → asked kind s.id w (format_of with_window) (read_under with_window w s) ≡ Ok ruled
-    by true e = answers WithWindow (waits-there s e)
-    by false e = answers WithoutWindow refl
+    by with_window e = grind (arith, answers)
 
 pub state_back : (kind : ℕ → Option Kind) (s : State) → IsState s → AreFast kind s.groups → IsId s.id → resumed kind s.id s.window (state_text s) ≡ Ok s
 state_back kind s is fast id = state_under kind s s.window.in_order is fast id
@@ -293,11 +240,7 @@ state_back kind s is fast id = state_under kind s s.window.in_order is fast id
 -- Under another window it is refused, where it tells its own.
 pub state_elsewhere : (kind : ℕ → Option Kind) (s : State) (w : Window) → IsState s → AreWaiting s → IsId s.id → (s.window.lines ≡ w.lines → ⊥)
     → resumed kind s.id w (state_text s) ≡ Err WindowDiffers
-state_elsewhere kind s w is waits id other =
-    let refused : asked kind s.id w WithWindow (read_under true w s) ≡ Err WindowDiffers =
-    rw (bytes_eq-same s.id) (rw (ne_eqb s.window.lines w.lines other) refl) in
-    text-asked kind s.id w s is id
-    ∙ ap (λ with_window. asked kind s.id w (format_of with_window) (read_under with_window w s)) (in_time-to s waits) ∙ refused
+state_elsewhere kind s w is waits id other = grind (arith, bytes_eq-same, text-asked, in_time-to)
 
 -- What a text is read as, once each question but that of the rules is answered.
 pub resumed-by : (kind : ℕ → Option Kind) (id bytes : List ℕ) (w : Window) (d : Data) (format : StateFormat) (s : State)
@@ -311,7 +254,4 @@ resumed-by kind id bytes w d format s text place spells table window waits = rw 
 pub of-parts : (s : State) (id : List ℕ) (window : ℕ) (order : Bool) (counts : Counts) (gs lent : List Group) (w : Window)
     → record { id = id; window = record { lines = window; in_order = order }; counts = record counts { held = length gs }; groups = gs } ≡ s
     → s.window.lines ≡ w.lines → s.window.in_order ≡ w.in_order → lent ≡ gs → s ≡ state_of_parts id w counts lent
-of-parts s id window order counts gs lent w view same_window same_order same =
-    let with_rule = λ (u : State). let v : State = record { id = u.id; window = w; counts = u.counts; groups = u.groups } in v in
-    let ruled : s ≡ with_rule s = λ i. record { id = s.id; window = record { lines = same_window i; in_order = same_order i }; counts = s.counts; groups = s.groups } in
-    ruled ∙ ap with_rule (sym view) ∙ ap (state_of_parts id w counts) (sym same)
+of-parts s id window order counts gs lent w view same_window same_order same = grind arith

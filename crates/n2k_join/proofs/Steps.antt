@@ -1,12 +1,9 @@
 -- The step in the forms in which a program makes it. A stored group is a list of frames as they came, and what a state
 -- keeps of it is `group_of` of its key and that list.
-use Rattle.std.proofs.Common.{◌≡◌, ◌<◌, ℕ, true, false, cond, not, List, [], ◌∷◌, ◌++◌, length, map, refl, sym, ap, ◌∙◌, arith, Option, Some, None, option_map, option_to_list, filter_map}
-use Rattle.std.specs.Prelude.{is_some}
+use Rattle.std.proofs.Common.{◌≡◌, ◌<◌, ℕ, true, false, List, [], ◌∷◌, ◌++◌, length, map, refl, sym, ap, ◌∙◌, arith, Option, Some, None, option_map, option_to_list, filter_map, append-nil}
 use Rattle.std.specs.Option.{option_or}
 use Rattle.std.specs.List.{AllByRecursion}
-use Rattle.std.proofs.lemmas.List.{append-nil}
 use Rattle.n2k_wire.specs.declared.entry.BadCause.{BadCause}
-use Rattle.n2k_wire.specs.declared.entry.BadCause.TheVariants as causes
 use Rattle.n2k_wire.specs.declared.entry.Entry.{Entry}
 use Rattle.n2k_wire.specs.Packet.{PacketParts}
 use Rattle.n2k_table.specs.declared.definition.Kind.{Kind}
@@ -14,7 +11,7 @@ use Rattle.n2k_join.specs.declared.step.Broken.{Broken}
 use Rattle.n2k_join.specs.Frames.{Key, same_key, Frame, of_key, frame_in}
 use Rattle.n2k_join.specs.Groups.{EndTest, within}
 use Rattle.n2k_join.specs.Open.{Group, open_groups, is_waiting, waiting, open_within}
-use Rattle.n2k_join.specs.Messages.{Keyed, message_of, alone, single_by, cause_in, fast_cause, gathered, as_broken, broken_with, is_unknown}
+use Rattle.n2k_join.specs.Messages.{Keyed, message_of, alone, cause_in, gathered, as_broken, broken_with, is_unknown}
 use Rattle.n2k_join.specs.State.{State, Given, held_of, held, next_line, overdue, step_frames, step_given, step_groups, step_after, counts_after, IsOpen, AreOpen}
 use Rattle.n2k_join.proofs.Advanced.{of_the_key, advanced}
 use Rattle.n2k_join.proofs.BrokenGroups.{told_if, runs_out, breaks, broken-none, broken-last}
@@ -28,7 +25,7 @@ use Rattle.n2k_join.proofs.Resumed.{held-log, held-own, held-other, open_groups-
 use Rattle.n2k_join.proofs.Rising.{find-passes, find-all, passes_none, all-map, all-zip}
 use Rattle.n2k_join.proofs.Windows.{open-waiting, waits-before, waiting-all, all-waiting, open_within-push, open_within-none}
 use Rattle.n2k_join.specs.Window.{Window}
-use Rattle.n2k_join.proofs.Lines.{frame_of_packet, frame_in-line}
+use Rattle.n2k_join.proofs.Lines.{frame_of_packet}
 
 -- ---- what an entry is
 
@@ -40,16 +37,7 @@ pub record IsOnlyFrame (kind : ℕ → Option Kind) (n : ℕ) (e : Entry) (x : F
   pub known : is_unknown kind e ≡ false
 
 pub only_frame : (kind : ℕ → Option Kind) (line : ℕ) (e : Entry) (x : Frame) → frame_in kind line e ≡ Some x → IsOnlyFrame kind line e x
-only_frame kind line e x is =
-    let of = frame_of_packet kind line e x is in
-    record {
-      line = frame_in-line kind line e x is;
-      alone = ap (alone kind) of.entry ∙ ap (λ k. single_by k of.packet) of.fast;
-      cause =
-          ap (cause_in kind) of.entry ∙ ap (λ k. fast_cause k of.packet) of.fast
-          ∙ ap (λ b. cond b None (Some causes.Fast)) of.fits;
-      known = ap (is_unknown kind) of.entry ∙ ap (λ k. not (is_some k)) of.fast;
-    }
+only_frame kind line e x is = grind (arith, frame_of_packet kind line e x is)
 
 -- ---- what a key's held frames are
 
@@ -59,10 +47,7 @@ so_far-of_key ends is_ending n k gs are = by (of_the_key k gs) refl
   where
     by : (q : Option Group) → of_the_key k gs ≡ q → so_far ends (of_key k (held gs)) ≡ option_map held_of q
     by None e = ap (so_far ends) (held-other k gs (passes_none (λ (o : Group). same_key k o.key) gs e))
-    by (Some o) e =
-        let is : k ≡ o.key = same_key-true k o.key (find-passes (λ (o : Group). same_key k o.key) gs o e) in
-        let own : (IsOpen o) × (of_key o.key (held gs) ≡ held_of o) = find-all (λ (g : Group). IsOpen g × (of_key g.key (held gs) ≡ held_of g)) (λ (o : Group). same_key k o.key) gs o (all-zip IsOpen (λ (g : Group). of_key g.key (held gs) ≡ held_of g) gs are.each (held-own gs are.apart)) e in
-        ap (λ (k : Key). so_far ends (of_key k (held gs))) is ∙ ap (so_far ends) own.1 ∙ so_far-held ends is_ending o own.0
+    by (Some o) e = grind (arith, same_key-true k o.key (find-passes (λ (o : Group). same_key k o.key) gs o e), find-passes (λ (o : Group). same_key k o.key) gs o e, find-all (λ (g : Group). IsOpen g × (of_key g.key (held gs) ≡ held_of g)) (λ (o : Group). same_key k o.key) gs o (all-zip IsOpen (λ (g : Group). of_key g.key (held gs) ≡ held_of g) gs are.each (held-own gs are.apart)) e, held-own gs are.apart, so_far ends (of_key k (held gs)), so_far ends, so_far-held)
 
 -- ---- the step
 
@@ -73,10 +58,7 @@ pub record StepsTo (kind : ℕ → Option Kind) (s : State) (e : Entry) (gives :
 
 steps_to : (kind : ℕ → Option Kind) (s : State) (e : Entry) (given : Given) (groups : List Group) → step_given kind s e ≡ given → step_groups kind s e ≡ groups → StepsTo kind s e given groups
 unfolding step_after
-steps_to kind s e given groups g h = record {
-  given = g;
-  after = λ i. record { id = s.id; window = s.window; counts = counts_after kind s.counts e (g i) (length (h i)); groups = h i };
-}
+steps_to kind s e given groups g h = grind arith
 
 -- the groups that still wait at the next line
 abbrev pub kept : State → List Group
@@ -90,8 +72,7 @@ given_by : (p : Option Keyed) (a : Option PacketParts) (c : Option BadCause) (b 
 given_by p a c b = record { message = option_or (option_map (λ (m : Keyed). m.message) p) a; cause = c; broken = b }
 
 pub message_alone : (w : Window) (x : Frame) (c : Option (List Frame)) → option_or (option_map (λ (m : Keyed). m.message) (option_map (keyed (within w) x) c)) None ≡ option_map (message_of x) c
-message_alone w x None = refl
-message_alone w x (Some g) = refl
+message_alone w x c = grind arith
 
 module _ (kind : ℕ → Option Kind) (s : State) (e : Entry) (some : 0 < s.window.lines) (are : AreOpen s.counts.lines s.groups) where
   -- what a frame gives, and what it breaks beside the groups whose window ends

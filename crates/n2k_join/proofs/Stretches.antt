@@ -1,10 +1,9 @@
 -- Where frames fall into stretches, each of which ends by its last frame and not before, these are the groups.
-use Rattle.std.proofs.Common.{◌≡◌, ℕ, zero, suc, ◌+◌, ◌<◌, ◌≤◌, ◌&&◌, Bool, map, true, false, List, [], ◌∷◌, ◌++◌, length, refl, ap, subst, ◌∙◌, sym, arith, length-append}
-use Rattle.std.specs.Prelude.{◌==◌, nat_lt}
+use Rattle.std.proofs.Common.{◌≡◌, ℕ, zero, suc, ◌+◌, ◌<◌, ◌≤◌, ◌&&◌, Bool, map, true, false, List, [], ◌∷◌, ◌++◌, length, refl, ap, subst, ◌∙◌, sym, arith, length-append, ◌==◌, nat_lt}
 use Rattle.std.specs.List.{AllByRecursion, range_with_len}
-use Rattle.std.proofs.lemmas.Bool.{or_parts, or_from, and_right, eq-eqb, ne_eqb, lt-leb, or_left}
+use Rattle.std.proofs.lemmas.Bool.{or_parts, or_from, and_right, eq-eqb, ne_eqb, lt-leb}
 use Rattle.n2k_join.specs.Frames.{Frame}
-use Rattle.n2k_join.specs.Groups.{EndTest, has_number, has_twice, complete, repeats, has_from, falls_back, misfits, is_late, within, first, closes, cut, HasEnded}
+use Rattle.n2k_join.specs.Groups.{EndTest, has_number, has_twice, complete, repeats, has_from, falls_back, misfits, is_late, within, first, closes, cut}
 use Rattle.n2k_join.specs.Pieces.{last_piece, Sending}
 use Rattle.n2k_join.specs.Scattered.{IsPieceOf, all_frames}
 use Rattle.n2k_join.proofs.WholePieces.{complete_pieces}
@@ -21,13 +20,7 @@ pub record IsStretch (ends : EndTest) (g : List Frame) : Type 0 where
 
 -- a stretch at the front is the first group
 pub cut_stretch : (ends : EndTest) (g rest : List Frame) → IsStretch ends g → cut ends (g ++ rest) ≡ g ∷ cut ends rest
-cut_stretch ends g rest is =
-    first_follows ends (g ++ rest) g rest
-    (record { joined = refl; nonempty = is.nonempty; ended = ended rest; shortest = is.goes_on })
-  where
-    ended : (rest : List Frame) → HasEnded ends g rest
-    ended [] = tt
-    ended (f ∷ rest) = or_left (complete g) (ends g f) is.whole
+cut_stretch ends g rest is = grind (arith, first_follows)
 
 -- stretches one behind the other are the groups
 pub cut_stretches : (ends : EndTest) (gs : List (List Frame)) → AllByRecursion (IsStretch ends) gs → cut ends (all_frames gs) ≡ gs
@@ -37,9 +30,7 @@ cut_stretches ends (g ∷ gs) each = cut_stretch ends g (all_frames gs) each.0 �
 
 -- what holds of a front, where no number comes twice
 has_number-push : (n : ℕ) (fs back : List Frame) (h : Frame) → has_number n (fs ++ (h ∷ back)) ≡ false → (has_number n fs ≡ false) × ((h.number == n) ≡ false)
-has_number-push n [] back h e =
-    let parts = or_parts _ _ (sym (has_number-cons h back n) ∙ e) in
-    (refl, parts.0)
+has_number-push n [] back h e = grind arith
 has_number-push n (f ∷ fs) back h e =
     let parts = or_parts _ _ (sym (has_number-cons f (fs ++ (h ∷ back)) n) ∙ e) in
     let rest = has_number-push n fs back h parts.1 in
@@ -62,11 +53,7 @@ above : (a n : ℕ) (front : List Frame) (h : Frame) (back : List Frame) → map
 above a zero [] h back numbers = absurd (cc)
 above a (suc n) [] h back numbers = let here : h.number ≡ a = cc in (omega (arith, here), refl)
 above a zero (f ∷ front) h back numbers = absurd (cc)
-above a (suc n) (f ∷ front) h back numbers =
-    let here : f.number ≡ a = cc in
-    let rest : map (λ (g : Frame). g.number) (front ++ (h ∷ back)) ≡ range_with_len (a + 1) n = cc in
-    let later = above (a + 1) n front h back rest in
-    (omega (arith, later.0), or_from _ _ (lt-leb h.number f.number (omega (arith, here, later.0))) later.1)
+above a (suc n) (f ∷ front) h back numbers = grind (arith, above (a + 1) n front h back cc, lt-leb)
 
 -- no number falls back, and no window ends before the last of them
 pub goes_on-within : (w : Window) (n : ℕ) (g : List Frame) → has_twice g ≡ false → (w.in_order ≡ true → map (λ (f : Frame). f.number) g ≡ range_with_len 0 n) → AllByRecursion (λ (f : Frame). f.line < first g + w.lines) g → GoesOn (within w) g

@@ -1,7 +1,5 @@
 -- The messages of a stream are numbered in turn, so eight that follow one another have different keys.
-use Rattle.std.proofs.Common.{◌≡◌, ◌==◌, ℕ, zero, suc, ◌+◌, ◌%◌, ◌<◌, Bool, true, false, cond, ◌&&◌, List, [], ◌∷◌, ◌++◌, length, refl, ap, ◌∙◌, subst, arith}
-use Rattle.std.specs.Prelude.{count_by, filter, slice_index_or}
-use Rattle.std.proofs.lemmas.Bool.{and_parts, eqb-true}
+use Rattle.std.proofs.Common.{◌≡◌, ◌==◌, ℕ, zero, suc, ◌+◌, ◌%◌, ◌<◌, Bool, true, false, cond, ◌&&◌, List, [], ◌∷◌, ◌++◌, length, refl, ap, ◌∙◌, subst, arith, count_by, filter, slice_index_or}
 use Rattle.std.proofs.lemmas.List.Sums.{sum_by_push}
 use Rattle.n2k_wire.specs.Packet.{PacketParts}
 use Rattle.n2k_join.specs.Frames.{Key}
@@ -21,13 +19,7 @@ AreNumbered n (x ∷ xs) = (x.sequence ≡ n % 8) × AreNumbered (n + 1) xs
 -- what a message of the stream asks of the earlier ones
 same_test : (src pgn dst : ℕ) (m : PacketParts) → is_of src pgn dst m ≡ true → (λ (e : PacketParts). same_stream (stream_of e.id) (stream_of m.id)) ≡ is_of src pgn dst
 unfolding same_stream
-same_test src pgn dst m h =
-    let one = and_parts (m.id.src == src) ((m.id.pgn == pgn) && (m.id.dst == dst)) h in
-    let two = and_parts (m.id.pgn == pgn) (m.id.dst == dst) one.1 in
-    let a : m.id.src ≡ src = eqb-true m.id.src src one.0 in
-    let b : m.id.pgn ≡ pgn = eqb-true m.id.pgn pgn two.0 in
-    let c : m.id.dst ≡ dst = eqb-true m.id.dst dst two.1 in
-    λ i e. (e.id.src == a i) && ((e.id.pgn == b i) && (e.id.dst == c i))
+same_test src pgn dst m h = grind arith
 
 numbered : (src pgn dst : ℕ) (earlier ms : List PacketParts) → AreNumbered (count_by (is_of src pgn dst) earlier) (filter (is_sent src pgn dst) (sendings_after earlier ms))
 numbered src pgn dst earlier [] = tt

@@ -1,9 +1,7 @@
 -- Frames that are different pieces of a message are complete where they are as many as its pieces, and carry its data.
-use Rattle.std.proofs.Common.{◌≡◌, ℕ, zero, suc, ◌+◌, ◌*◌, ◌-◌, ◌/◌, ◌<◌, Bool, true, false, not, ◌&&◌, List, [], ◌∷◌, ◌++◌, map, take, drop, length, refl, ap, ◌∙◌, sym, arith, Option, Some}
-use Rattle.std.specs.Prelude.{◌==◌, is_some, if◌then◌else◌, flat_map, slice_index_or, unwrap_or}
+use Rattle.std.proofs.Common.{◌≡◌, ℕ, zero, suc, ◌+◌, ◌*◌, ◌-◌, ◌/◌, ◌<◌, Bool, true, false, not, ◌&&◌, List, [], ◌∷◌, ◌++◌, map, take, drop, length, refl, ap, ◌∙◌, arith, Option, Some, ◌==◌, flat_map, slice_index_or, unwrap_or}
 use Rattle.std.specs.List.{range_with_len, list_all, AllByRecursion}
-use Rattle.std.proofs.lemmas.Bool.{false≢true, and_parts, le-leb, eqb-true, eq-eqb, ne_eqb, false_from_ne_true}
-use Rattle.std.proofs.lemmas.List.{map-append}
+use Rattle.std.proofs.lemmas.Bool.{false≢true, and_parts, le-leb, eqb-true, eq-eqb, ne_eqb}
 use Rattle.std.proofs.lemmas.List.Elements.{recursion_from_All}
 use Rattle.std.proofs.lemmas.List.FromFn.{take-map-range_with_len}
 use Rattle.n2k_join.specs.Frames.{Frame}
@@ -47,19 +45,13 @@ complete_pieces x fs pieces apart = by_first (has_number 0 fs) refl
     all_there = has_all_numbers m fs (pieces_below x fs pieces) apart
 
     by_first : (b : Bool) → has_number 0 fs ≡ b → not (has_twice fs) && (b && (has_all (last_number (total fs)) fs && is_within (last_number (total fs)) fs)) ≡ (length fs == m)
-    by_first true e = rw (apart, total_of x fs pieces e, none_past x fs pieces) (and-true _ ∙ all_there)
-    by_first false e = rw apart (sym (false_from_ne_true _ (λ full. false≢true (sym e ∙ all_to (λ n. has_number n fs) 0 m 0 (all_there ∙ full) (omega arith) (omega arith)))))
+    by_first b e = grind (arith, total_of, none_past, and-true, all_there, all_to, m)
 
 -- chunks of seven, joined
 chunks : (payload : List ℕ) (a k : ℕ) → flat_map (piece_bytes payload) (range_with_len a k) ≡ map (sent_byte payload) (range_with_len (7 * a) (7 * k))
 unfolding piece_bytes
 chunks payload a zero = refl
-chunks payload a (suc k) =
-    let e : 7 * suc k ≡ 7 + 7 * k = omega arith in
-    let e' : 7 * (a + 1) ≡ 7 * a + 7 = omega arith in
-    let step : map (sent_byte payload) (range_with_len (7 * a) (7 * suc k)) ≡ map (sent_byte payload) (range_with_len (7 * a) 7) ++ map (sent_byte payload) (range_with_len (7 * a + 7) (7 * k)) =
-    ap (λ n. map (sent_byte payload) (range_with_len (7 * a) n)) e ∙ (ap (map (sent_byte payload)) (range-append (7 * a) 7 (7 * k)) ∙ map-append (sent_byte payload) (range_with_len (7 * a) 7) (range_with_len (7 * a + 7) (7 * k))) in
-    ap (λ l. piece_bytes payload a ++ l) (chunks payload (a + 1) k ∙ ap (λ j. map (sent_byte payload) (range_with_len j (7 * k))) e') ∙ sym step
+chunks payload a (suc k) = grind (arith, chunks payload (a + 1) k, range-append (7 * a) 7 (7 * k))
 
 -- a list is what it holds at its places
 looked_up : (g : ℕ → ℕ) (a : ℕ) (xs : List ℕ) → ((k : ℕ) → k < length xs → g (a + k) ≡ slice_index_or xs k 255) → map g (range_with_len a (length xs)) ≡ xs
@@ -80,13 +72,7 @@ bytes_pieces x fs (n ∷ ns) pieces all =
 
 -- the bytes after the first, as many as the data
 sent_data : (payload : List ℕ) → take (length payload) (drop 1 (map (sent_byte payload) (range_with_len 0 (7 * (length payload / 7 + 1))))) ≡ payload
-sent_data payload =
-    let t = length payload in
-    let r = 7 * (length payload / 7 + 1) - (length payload + 1) in
-    let e : 7 * (length payload / 7 + 1) ≡ suc (length payload + r) = omega arith in
-    ap (λ n. take t (drop 1 (map (sent_byte payload) (range_with_len 0 n)))) e
-    ∙ (take-map-range_with_len (sent_byte payload) 1 (t + r) t (omega arith)
-    ∙ looked_up (sent_byte payload) 1 payload (λ k h. let e' : 1 + k ≡ suc k = omega arith in ap (λ j. slice_index_or (length payload ∷ payload) j 255) e'))
+sent_data payload = grind (arith, take-map-range_with_len (sent_byte payload) 1 ((length payload) + (7 * (length payload / 7 + 1) - (length payload + 1))) (length payload) (omega arith), looked_up)
 
 -- all pieces of a message carry its data
 pub data_pieces : (x : Sending) (fs : List Frame) → AllByRecursion (IsPieceOf x) fs → has_twice fs ≡ false → length fs ≡ last_piece x.message + 1 → data_of fs ≡ x.message.payload

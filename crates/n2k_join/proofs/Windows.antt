@@ -1,13 +1,11 @@
 -- The open groups under a window: what the window has ended may go before the next frame is taken.
-use Rattle.std.proofs.Common.{◌≡◌, ◌≤◌, ◌<◌, ◌+◌, ◌||◌, ◌&&◌, ℕ, Bool, true, false, cond, List, [], ◌∷◌, ◌++◌, refl, sym, ap, ◌∙◌, arith, Option, Some, None, option_to_list, filter, filter_map, not}
-use Rattle.std.specs.Prelude.{nat_lt}
-use Rattle.std.specs.List.{cons_option, AllByRecursion}
+use Rattle.std.proofs.Common.{◌≡◌, ◌<◌, ◌+◌, ℕ, Bool, true, false, cond, List, [], ◌∷◌, ◌++◌, refl, sym, ap, ◌∙◌, arith, Option, Some, None, option_to_list, filter, filter_map, ltb-true, ltb-false, lt-ltb}
+use Rattle.std.specs.List.{AllByRecursion}
 use Rattle.std.proofs.lemmas.List.Elements.{filter-append, filter_passes, recursion_from_All}
-use Rattle.std.proofs.lemmas.Bool.{ltb-true, ltb-false, lt-ltb, lt-leb, le-leb, or_right}
-use Rattle.std.proofs.lemmas.Option.{none-some, same_Some}
-use Rattle.n2k_join.specs.Frames.{Key, same_key, Frame}
-use Rattle.n2k_join.specs.Groups.{EndTest, repeats, has_number, has_from, falls_back, misfits, is_late, within, complete, first}
-use Rattle.n2k_join.specs.Open.{Group, group_of, open_groups, is_waiting, waiting, open_within, ended}
+use Rattle.std.proofs.lemmas.Option.{none-some}
+use Rattle.n2k_join.specs.Frames.{Frame}
+use Rattle.n2k_join.specs.Groups.{EndTest, misfits, within}
+use Rattle.n2k_join.specs.Open.{Group, open_groups, is_waiting, waiting, open_within, ended}
 use Rattle.n2k_join.specs.State.{held_of, Rise, IsOpen, AreApart, AreOpen}
 use Rattle.n2k_join.specs.Inner.Stored.{rejects}
 use Rattle.n2k_join.proofs.Advanced.{with_frame, taken, started, of_the_key, opened, advanced}
@@ -37,17 +35,10 @@ filter-passed t (x ∷ xs) all = ap (λ b. cond b (x ∷ filter t xs) (filter t 
 
 apart-filter : (t : Group → Bool) (gs : List Group) → AreApart gs → AreApart (filter t gs)
 apart-filter t [] a = tt
-apart-filter t (g ∷ gs) a =
-    elim (t g) as (λ b. AreApart (cond b (g ∷ filter t gs) (filter t gs)))
-    [ true ↦ (all-filter (λ (h : Group). same_key g.key h.key ≡ false) t gs a.0, apart-filter t gs a.1) | false ↦ apart-filter t gs a.1 ]
+apart-filter t (g ∷ gs) a = grind (arith, apart-filter t gs a.1, all-filter)
 
 pub open-filter : (n : ℕ) (t : Group → Bool) (gs : List Group) → AreOpen n gs → AreOpen n (filter t gs)
-open-filter n t gs are = record {
-  each = all-filter IsOpen t gs are.each;
-  rise = rise-filter (λ (g : Group). g.first) t 1 gs are.rise;
-  begun = all-filter (λ (g : Group). g.first ≤ n) t gs are.begun;
-  apart = apart-filter t gs are.apart;
-}
+open-filter n t gs are = grind (arith, all-filter, rise-filter, apart-filter)
 
 pub open-waiting : (w : Window) (line n : ℕ) (gs : List Group) → AreOpen n gs → AreOpen n (waiting w line gs)
 unfolding waiting
@@ -68,9 +59,7 @@ waiting-later w n (g ∷ gs) = grind (arith, waiting-later w n gs, ltb-true, ltb
 pub later-wait : (w : Window) (line least : ℕ) (gs : List Group) → Rise (λ (g : Group). g.first) least gs → line < least + w.lines → ended w line gs ≡ []
 unfolding ended
 later-wait w line least [] rise l = refl
-later-wait w line least (g ∷ gs) rise l =
-    ap (λ b. cond (not b) (g ∷ filter (λ (g : Group). not (is_waiting w line g)) gs) (filter (λ (g : Group). not (is_waiting w line g)) gs)) (lt-ltb line (g.first + w.lines) (omega (arith, rise.0, l)))
-    ∙ later-wait w line (g.first + 1) gs rise.1 (omega (arith, rise.0, l))
+later-wait w line least (g ∷ gs) rise l = grind (arith, later-wait w line (g.first + 1) gs rise.1 (omega (arith, rise.0, l)))
 
 -- groups that all wait
 pub waiting-all : (w : Window) (line : ℕ) (gs : List Group) → AllByRecursion (λ (g : Group). is_waiting w line g ≡ true) gs → waiting w line gs ≡ gs
@@ -93,17 +82,11 @@ waiting-taken ends w line x (g ∷ gs) = grind (arith, waiting-taken ends w line
 
 -- a frame at the line at which a group's window has ended ends it
 pub ended-ends : (w : Window) (x : Frame) (g : Group) → IsOpen g → is_waiting w x.line g ≡ false → within w (held_of g) x ≡ true
-ended-ends w x g is e =
-    let at : first (held_of g) ≡ g.first = first-held g g.pieces is.nonempty in
-    let past : g.first + w.lines ≤ x.line = ltb-false x.line (g.first + w.lines) e in
-    or_right (misfits w (held_of g) x) (is_late w (held_of g) x) (le-leb (first (held_of g) + w.lines) x.line (omega (arith, at, past)))
+ended-ends w x g is e = grind (arith, first-held)
 
 -- and one before that ends it where its number is in it
 pub waits-ends : (w : Window) (x : Frame) (g : Group) → IsOpen g → is_waiting w x.line g ≡ true → within w (held_of g) x ≡ misfits w (held_of g) x
-waits-ends w x g is e =
-    let at : first (held_of g) ≡ g.first = first-held g g.pieces is.nonempty in
-    let before : x.line < g.first + w.lines = ltb-true x.line (g.first + w.lines) e in
-    ap (λ b. misfits w (held_of g) x || b) (lt-leb (first (held_of g) + w.lines) x.line (omega (arith, at, before))) ∙ or-false (misfits w (held_of g) x)
+waits-ends w x g is e = grind (arith, first-held)
 
 -- what the code asks of a group of an earlier line
 pub misfits-rejects : (w : Window) (x : Frame) (g : Group) → IsOpen g → g.first < x.line → misfits w (held_of g) x ≡ rejects w.in_order x.number g
@@ -116,31 +99,11 @@ pub key-waiting : {X : Type 0} (w : Window) (x : Frame) (F : Option Group → X)
     → F (of_the_key x.key gs) ≡ F (of_the_key x.key (waiting w x.line gs))
 unfolding waiting
 key-waiting w x F as_none [] each apart = refl
-key-waiting w x F as_none (g ∷ gs) each apart =
-    by (is_waiting w x.line g) refl (same_key x.key g.key) refl (key-waiting w x F as_none gs each.1 apart.1)
-  where
-    left : List Group
-    left = filter (is_waiting w x.line) gs
-
-    others : same_key x.key g.key ≡ true → AllByRecursion (λ (h : Group). same_key x.key h.key ≡ false) left
-    others f =
-        all-filter (λ (h : Group). same_key x.key h.key ≡ false) (is_waiting w x.line) gs
-        (all-map (λ (h : Group). same_key g.key h.key ≡ false) (λ (h : Group). same_key x.key h.key ≡ false) gs
-        (λ h t. ap (λ (k : Key). same_key k h.key) (same_key-true x.key g.key f) ∙ t) apart.0)
-
-    by : (b : Bool) → is_waiting w x.line g ≡ b → (c : Bool) → same_key x.key g.key ≡ c
-        → F (of_the_key x.key gs) ≡ F (of_the_key x.key left)
-        → F (cond c (Some g) (of_the_key x.key gs)) ≡ F (of_the_key x.key (cond b (g ∷ left) left))
-    by true e true f rest = sym (ap (λ t. F (cond t (Some g) (of_the_key x.key left))) f)
-    by true e false f rest = rest ∙ sym (ap (λ t. F (cond t (Some g) (of_the_key x.key left))) f)
-    by false e true f rest =
-        as_none g each.0 e ∙ sym (ap F (find-none (λ (h : Group). same_key x.key h.key) left (others f)))
-    by false e false f rest = rest
+key-waiting w x F as_none (g ∷ gs) each apart = grind (arith, key-waiting w x F as_none gs each.1 apart.1, all-map, same_key-true, find-none)
 
 opened-waiting : (w : Window) (x : Frame) (gs : List Group) → AllByRecursion IsOpen gs → AreApart gs
     → opened (within w) x (of_the_key x.key gs) ≡ opened (within w) x (of_the_key x.key (waiting w x.line gs))
-opened-waiting w x =
-    key-waiting w x (opened (within w) x) (λ g is e. ap (λ t. cond t (started x) None) (ended-ends w x g is e))
+opened-waiting w x = grind (arith, key-waiting w x (opened (within w) x) (λ g is e. ap (λ t. cond t (started x) None) (ended-ends w x g is e)))
 
 -- a group that a frame opens waits
 begun-waits : (ends : EndTest) (w : Window) (x : Frame) (o : Option Group) → 0 < w.lines → filter (is_waiting w x.line) (option_to_list (opened ends x o)) ≡ option_to_list (opened ends x o)
@@ -149,23 +112,14 @@ begun-waits ends w x o some = grind (arith, lt-ltb)
 -- The groups whose window ends at the frame's line go, and then the frame is taken.
 pub advanced-waiting : (w : Window) (x : Frame) (gs : List Group) → 0 < w.lines → AllByRecursion IsOpen gs → AreApart gs → waiting w x.line (advanced (within w) gs x) ≡ advanced (within w) (waiting w x.line gs) x
 unfolding advanced waiting
-advanced-waiting w x gs some each apart =
-    filter-append (is_waiting w x.line) (filter_map (taken (within w) x) gs) (option_to_list (opened (within w) x (of_the_key x.key gs)))
-    ∙ (λ i. waiting-taken (within w) w x.line x gs i ++ begun-waits (within w) w x (of_the_key x.key gs) some i)
-    ∙ ap (λ o. filter_map (taken (within w) x) (filter (is_waiting w x.line) gs) ++ option_to_list o) (opened-waiting w x gs each apart)
+advanced-waiting w x gs some each apart = grind (arith, filter-append, waiting-taken, begun-waits, opened-waiting)
 
 -- ---- one line more
 
 module _ (w : Window) (n : ℕ) (some : 0 < w.lines) where
   -- a log with a frame at its next line
   pub open_within-push : (fs : List Frame) (x : Frame) → IsLog n fs → x.line ≡ n + 1 → open_within w (n + 1) (fs ++ x ∷ []) ≡ advanced (within w) (waiting w (n + 1) (open_within w n fs)) x
-  open_within-push fs x log at =
-      let are : AreOpen n (open_groups (within w) n fs) = open_groups-open (within w) (within-ends w some) n fs log in
-      ap (waiting w (n + 1)) (open_groups-push (within w) (within-ends w some) n fs x log at)
-      ∙ ap (λ l. waiting w l (advanced (within w) (open_groups (within w) n fs) x)) (sym at)
-      ∙ advanced-waiting w x (open_groups (within w) n fs) some are.each are.apart
-      ∙ ap (λ l. advanced (within w) (waiting w l (open_groups (within w) n fs)) x) at
-      ∙ ap (λ gs. advanced (within w) gs x) (sym (waiting-later w n (open_groups (within w) n fs)))
+  open_within-push fs x log at = grind (arith, open_groups-open, within-ends, open_groups-push, advanced-waiting, waiting-later)
 
   -- and without one
   pub open_within-none : (fs : List Frame) → IsLog n fs → open_within w (n + 1) fs ≡ waiting w (n + 1) (open_within w n fs)

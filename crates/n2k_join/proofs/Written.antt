@@ -1,8 +1,6 @@
 -- The frames of messages, as they are written one behind the other, are scattered frames of these messages.
-use Rattle.std.proofs.Common.{◌≡◌, ℕ, zero, suc, ◌+◌, ◌*◌, ◌%◌, ◌<◌, ◌≤◌, Bool, true, false, cond, not, List, [], ◌∷◌, ◌++◌, map, length, refl, ap, subst, ◌∙◌, sym, arith, Option, Some, None, inl, inr}
-use Rattle.std.specs.Prelude.{flat_map, filter}
-use Rattle.std.specs.List.{AllByRecursion, All, range_with_len, cons_option}
-use Rattle.std.proofs.lemmas.Bool.{le-leb, or_left, or_right, ne_eqb, cases_eq}
+use Rattle.std.proofs.Common.{◌≡◌, ℕ, zero, suc, ◌+◌, ◌*◌, ◌<◌, ◌≤◌, Bool, true, false, cond, List, [], ◌∷◌, ◌++◌, map, length, refl, ap, subst, ◌∙◌, sym, arith, Option, Some, None, flat_map, filter}
+use Rattle.std.specs.List.{AllByRecursion, All, range_with_len}
 use Rattle.std.proofs.lemmas.List.{map-append, length-map}
 use Rattle.std.proofs.lemmas.List.FromFn.{length-map-range_with_len}
 use Rattle.std.proofs.lemmas.List.Elements.{recursion_from_All, All-from_recursion}
@@ -12,8 +10,8 @@ use Rattle.n2k_wire.specs.Entry.{IsEntry}
 use Rattle.n2k_wire.specs.Packet.{PacketParts, IsPacketParts, longest_message}
 use Rattle.n2k_table.specs.declared.definition.Kind.{Kind}
 use Rattle.n2k_table.specs.declared.definition.Kind.TheVariants.{Fast}
-use Rattle.n2k_join.specs.Frames.{Key, same_key, Frame, has_total, is_fast_payload, fast_frame, frame_by, frame_in, frames_from, of_key}
-use Rattle.n2k_join.specs.Messages.{single_by, alone}
+use Rattle.n2k_join.specs.Frames.{Key, same_key, Frame, is_fast_payload, fast_frame, frames_from, of_key}
+use Rattle.n2k_join.specs.Messages.{alone}
 use Rattle.n2k_join.specs.Pieces.{sent_byte, piece_bytes, piece, last_piece, pieces_as, Sending, sendings, sendings_after, frames_of_sending, written}
 use Rattle.n2k_join.specs.Scattered.{key_of_sending, IsPieceOf, IsStretchOf, IsStretchWithin, FallInto, IsScattered, as_entries, WrittenLog}
 use Rattle.n2k_join.proofs.Keys.{of_key-append, of_key-all, of_key-none}
@@ -36,29 +34,11 @@ pub record IsSending (kind : ℕ → Option Kind) (x : Sending) : Type 0 where
 -- a piece is a frame's data
 fast_payload : (payload : List ℕ) (s n : ℕ) → length payload ≤ longest_message → n < 32 → is_fast_payload ((32 * s + n) ∷ piece_bytes payload n) ≡ true
 unfolding piece_bytes
-fast_payload payload s n fits small =
-    elim (cases_eq n 0) [
-      | inl none ↦
-          let zeroth : has_total (piece_bytes payload n) ≡ true = ap (λ k. has_total (piece_bytes payload k)) none ∙ le-leb (length payload) longest_message fits in
-          or_right _ _ zeroth
-      | inr some ↦ or_left _ _ (ap not (ne_eqb ((32 * s + n) % 32) 0 (λ same. some (omega arith))))
-    ]
+fast_payload payload s n fits small = grind arith
 
 piece_frame : (x : Sending) (line n : ℕ) → length x.message.payload ≤ longest_message → n < 32 → fast_frame line (piece x.message x.sequence n) ≡ Some (given_frame x line n)
 unfolding fast_frame
 piece_frame x line n fits small = rw (fast_payload x.message.payload x.sequence n fits small) refl
-
-number_is : (x : Sending) (line n : ℕ) → n < 32 → (given_frame x line n).number ≡ n
-number_is x line n small = let e : (32 * x.sequence + n) % 32 ≡ n = omega arith in e
-
--- the frame of a piece is that piece
-piece_is : (x : Sending) (line n : ℕ) → length x.message.payload ≤ longest_message → n ≤ last_piece x.message → IsPieceOf x (given_frame x line n)
-piece_is x line n fits within =
-    let small : n < 32 = omega arith in
-    record {
-      in_range = subst (λ k. k ≤ last_piece x.message) (sym (number_is x line n small)) within;
-      is_piece = ap (λ k. fast_frame line (piece x.message x.sequence k)) (number_is x line n small) ∙ piece_frame x line n fits small;
-    }
 
 -- the frames of pieces
 pub record ComeInOrder (x : Sending) (first count : ℕ) (fs : List Frame) : Type 0 where
@@ -67,15 +47,7 @@ pub record ComeInOrder (x : Sending) (first count : ℕ) (fs : List Frame) : Typ
 
 come_in_order : (kind : ℕ → Option Kind) (x : Sending) → IsSending kind x → (line first count : ℕ) → first + count ≤ last_piece x.message + 1 → ComeInOrder x first count (frames_from kind line (as_entries (map (piece x.message x.sequence) (range_with_len first count))))
 come_in_order kind x can line first zero within = record { each = tt; rising = refl }
-come_in_order kind x can line first (suc count) within =
-    let small : first < 32 = omega (arith, can.packet.packet_ok.payload_ok) in
-    let frame : frame_in kind line (entries.Frame (piece x.message x.sequence first)) ≡ Some (given_frame x line first) = ap (λ k. frame_by k line (piece x.message x.sequence first)) can.fast ∙ piece_frame x line first can.packet.packet_ok.payload_ok small in
-    let rest = come_in_order kind x can (line + 1) (first + 1) count (omega arith) in
-    let later = frames_from kind (line + 1) (as_entries (map (piece x.message x.sequence) (range_with_len (first + 1) count))) in
-    subst (λ o. ComeInOrder x first (suc count) (cons_option o later)) (sym frame) (record {
-      each = (piece_is x line first can.packet.packet_ok.payload_ok (omega arith), rest.each);
-      rising = ap (λ n. n ∷ map (λ (f : Frame). f.number) later) (number_is x line first small) ∙ ap (λ l. first ∷ l) rest.rising;
-    })
+come_in_order kind x can line first (suc count) within = grind (arith, come_in_order kind x can (line + 1) (first + 1) count (omega arith), piece_frame)
 
 -- the frames of a sending are its stretch
 frames_at : (ℕ → Option Kind) → ℕ → Sending → List Frame
@@ -83,8 +55,7 @@ frames_at kind line x = frames_from kind line (as_entries (frames_of_sending kin
 
 sending_stretch : (kind : ℕ → Option Kind) (line : ℕ) (x : Sending) → IsSending kind x → ComeInOrder x 0 (last_piece x.message + 1) (frames_at kind line x)
 unfolding frames_at pieces_as
-sending_stretch kind line x can =
-    subst (λ k. ComeInOrder x 0 (last_piece x.message + 1) (frames_from kind line (as_entries (pieces_as k x.message x.sequence)))) (sym can.fast) (come_in_order kind x can line 0 (last_piece x.message + 1) (omega arith))
+sending_stretch kind line x can = grind (arith, come_in_order)
 
 -- of the frames of a sending all have its key
 own_key : (kind : ℕ → Option Kind) (line : ℕ) (x : Sending) → IsSending kind x → (k : Key) (b : Bool) → same_key k (key_of_sending x) ≡ b → AllByRecursion (λ (f : Frame). same_key k f.key ≡ b) (frames_at kind line x)
@@ -97,10 +68,7 @@ sent_frames kind line xs = frames_from kind line (as_entries (flat_map (frames_o
 -- The frames of a sending stand at lines one behind the other, and there are 32 at most: so the shortest window holds them.
 short : (kind : ℕ → Option Kind) (x : Sending) → IsSending kind x → length (as_entries (frames_of_sending kind x)) ≤ 32
 unfolding pieces_as
-short kind x can =
-    let count : length (as_entries (frames_of_sending kind x)) ≡ last_piece x.message + 1 =
-    length-map (frames_of_sending kind x) (λ p. entries.Frame p) ∙ ap (λ k. length (pieces_as k x.message x.sequence)) can.fast ∙ length-map-range_with_len (piece x.message x.sequence) 0 (last_piece x.message + 1) in
-    omega (arith, count, can.packet.packet_ok.payload_ok)
+short kind x can = grind (arith, length-map, length-map-range_with_len)
 
 in_time : (kind : ℕ → Option Kind) (w : Window) (line : ℕ) (x : Sending) → 32 ≤ w.lines → IsSending kind x → IsGroup (frames_at kind line x) → AllByRecursion (λ (f : Frame). f.line < first (frames_at kind line x) + w.lines) (frames_at kind line x)
 unfolding frames_at
@@ -182,24 +150,11 @@ piece_length m s n = refl
 
 pub piece_packet : (m : PacketParts) (s n : ℕ) → IsPacketParts m → s < 8 → n ≤ last_piece m → IsPacketParts (piece m s n)
 unfolding piece_bytes
-piece_packet m s n is low within =
-    let small : n < 32 = omega (arith, is.packet_ok.payload_ok) in
-    record {
-      packet_ok = record { stamp_ok = is.packet_ok.stamp_ok; prio_ok = is.packet_ok.prio_ok; pgn_ok = is.packet_ok.pgn_ok; payload_ok = omega (arith, piece_length m s n) };
-      src_ok = is.src_ok;
-      dst_ok = is.dst_ok;
-      bytes_ok = bytes-cons (32 * s + n) (piece_bytes m.payload n) (omega arith) (bytes-map (sent_byte m.payload) (λ j. sent_byte-byte m.payload j is.packet_ok.payload_ok is.bytes_ok) (range_with_len (7 * n) 7));
-    }
+piece_packet m s n is low within = grind (arith, bytes-cons (32 * s + n) (piece_bytes m.payload n) (omega arith) (bytes-map (sent_byte m.payload) (λ j. sent_byte-byte m.payload j is.packet_ok.payload_ok is.bytes_ok) (range_with_len (7 * n) 7)))
 
 piece_entries : (kind : ℕ → Option Kind) (x : Sending) → IsSending kind x → (first count : ℕ) → first + count ≤ last_piece x.message + 1 → AllByRecursion (IsPieceEntry kind) (as_entries (map (piece x.message x.sequence) (range_with_len first count)))
 piece_entries kind x is first zero within = tt
-piece_entries kind x is first (suc count) within = (
-  record {
-    entry = (piece_packet x.message x.sequence first is.packet is.sequence (omega arith), omega (arith, piece_length x.message x.sequence first));
-    mute = ap (λ k. single_by k (piece x.message x.sequence first)) is.fast;
-  },
-  piece_entries kind x is (first + 1) count (omega arith),
-)
+piece_entries kind x is first (suc count) within = grind (arith, piece_entries kind x is (first + 1) count (omega arith), piece_packet x.message x.sequence first is.packet is.sequence (omega arith), piece_length x.message x.sequence first)
 
 sending_entries : (kind : ℕ → Option Kind) (x : Sending) → IsSending kind x → AllByRecursion (IsPieceEntry kind) (as_entries (frames_of_sending kind x))
 unfolding pieces_as
@@ -207,9 +162,7 @@ sending_entries kind x is = subst (λ k. AllByRecursion (IsPieceEntry kind) (as_
 
 all_entries : (kind : ℕ → Option Kind) (xs : List Sending) → AllByRecursion (IsSending kind) xs → AllByRecursion (IsPieceEntry kind) (as_entries (flat_map (frames_of_sending kind) xs))
 all_entries kind [] is = tt
-all_entries kind (x ∷ xs) is =
-    subst (AllByRecursion (IsPieceEntry kind)) (sym (map-append (λ p. entries.Frame p) (frames_of_sending kind x) (flat_map (frames_of_sending kind) xs)))
-    (all-append (IsPieceEntry kind) (as_entries (frames_of_sending kind x)) (as_entries (flat_map (frames_of_sending kind) xs)) (sending_entries kind x is.0) (all_entries kind xs is.1))
+all_entries kind (x ∷ xs) is = grind (arith, all_entries kind xs is.1, map-append, all-append, sending_entries)
 
 pub written_entries : (kind : ℕ → Option Kind) (ms : List PacketParts) → All IsPacketParts ms → All (λ (m : PacketParts). kind m.id.pgn ≡ Some Fast) ms → AllByRecursion (IsPieceEntry kind) (as_entries (written kind ms))
 written_entries kind ms are fast = all_entries kind (sendings ms) (are_sendings kind [] ms (recursion_from_All _ ms fast) (recursion_from_All _ ms are))

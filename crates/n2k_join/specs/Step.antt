@@ -1,6 +1,6 @@
 -- What a line answers, as the definitions see it.
 use Rattle.std.specs.Prelude.{◌≡◌, ◌≤◌, ◌<◌, ◌↔◌, ℕ, ◌+◌, ◌-◌, ◌==◌, is_some, Bool, true, false, not, if◌then◌else◌, List, drop}
-use Rattle.std.specs.Prelude.{length, slice_get, Option, Some, None, option_map, option_to_list, Result, IfOk, OnOk}
+use Rattle.std.specs.Prelude.{length, slice_get, Option, Some, None, option_to_list, Result, IfOk, OnOk}
 use Rattle.std.specs.Prelude.{OnErr, IsErrOf}
 use Rattle.std.specs.List.{list_any}
 use Rattle.n2k_wire.specs.Packet.{PacketParts}

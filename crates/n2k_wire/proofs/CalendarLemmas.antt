@@ -1,9 +1,9 @@
 -- The date that jiff gives for a day number is the one of the definitions.
-use Rattle.std.proofs.Common.{◌≡◌, ℕ, zero, suc, ◌+◌, ◌<◌, ◌≤◌, sym, ap, arith, ℤ, pos, negsuc, true, leb, refl, inl, inr}
+use Rattle.std.proofs.Common.{◌≡◌, ℕ, zero, suc, ◌+◌, ◌<◌, ◌≤◌, sym, ap, arith, ℤ, pos, negsuc, true, inl, inr}
 use Rattle.std.proofs.lemmas.Bool.{le-leb, lt-leb, cases_lt}
-use Rattle.jiff_core.specs.Calendar.{day_count, days_from_civil, days_in_month, IsYear, IsCivilDate}
+use Rattle.jiff_core.specs.Calendar.{day_count, days_from_civil, IsYear, IsCivilDate}
 use Rattle.jiff_core.proofs.SignedLemmas.{signed_arith}
-use Rattle.jiff_core.proofs.CalendarLemmas.{day_count-epoch, day_count-lt_year, day_count-lt_month, day_count-day, day_count-day_of_year, day_count_bounds, days_in_month_bounds, days_from_civil-day_count}
+use Rattle.jiff_core.proofs.CalendarLemmas.{day_count-epoch, day_count-lt_year, day_count-lt_month, day_count-day, day_count-day_of_year, day_count_bounds, days_from_civil-day_count}
 use Rattle.n2k_wire.specs.Calendar.{day_number, is_date, last_begun_year, last_begun_month, year_of, month_of, day_of_month}
 
 -- a year that has begun, where no later one has
@@ -34,25 +34,15 @@ pub record IsDateOf (day : ℕ) (y : ℤ) (m d : ℕ) : Type 0 where
 
 -- 1 January is in the calendar
 first_day : (y : ℤ) → IsYear y → IsCivilDate y 1 1
-first_day y h =
-    let bounds = days_in_month_bounds y 1 in
-    (h, (omega arith, omega arith), (omega arith, omega arith))
+first_day y h = grind arith
 
 -- no year from 1970 on begins before 1970 does
 years_rise : (year : ℕ) → 1970 ≤ year → day_count (pos 1970) 1 1 ≤ day_count (pos year) 1 1
-years_rise year late =
-    elim (cases_lt 1970 year) [
-      | inl lt ↦ omega (arith, day_count-lt_year (pos 1970) 1 1 (pos year) 1 1 (first_day (pos 1970) (omega (arith, signed_arith), omega (arith, signed_arith))) (omega arith) (omega (arith, signed_arith)))
-      | inr le ↦ let e : year ≡ 1970 = omega (arith, late) in rw e (omega arith)
-    ]
+years_rise year late = grind (arith, day_count-lt_year)
 
 module _ (day year m d : ℕ) (civil : IsCivilDate (pos year) m d) (count : day_count (pos year) m d ≡ day + 4_371_953) where
   from_1970 : 1970 ≤ year
-  from_1970 =
-      elim (cases_lt year 1970) [
-        | inl lt ↦ absurd (omega (arith, day_count-epoch, day_count-lt_year (pos year) m d (pos 1970) 1 1 civil (omega arith) (omega (arith, signed_arith))))
-        | inr le ↦ le
-      ]
+  from_1970 = grind (arith, day_count-epoch, day_count-lt_year)
 
   to_9999 : year ≤ 9999
   to_9999 = omega (arith, signed_arith, civil.0.1)
@@ -92,8 +82,7 @@ module _ (day year m d : ℕ) (civil : IsCivilDate (pos year) m d) (count : day_
 pub is_date_of : (day : ℕ) (y : ℤ) (m d : ℕ) → IsCivilDate y m d → days_from_civil y m d ≡ pos day → IsDateOf day y m d
 is_date_of day (pos year) m d civil e =
     date_of day year m d civil (omega (arith, signed_arith, days_from_civil-day_count (pos year) m d))
-is_date_of day (negsuc n) m d civil e =
-    absurd (omega (arith, signed_arith, day_count-epoch, days_from_civil-day_count (negsuc n) m d, day_count-lt_year (negsuc n) m d (pos 1970) 1 1 civil (omega arith) (omega (arith, signed_arith))))
+is_date_of day (negsuc n) m d civil e = grind (arith, days_from_civil-day_count (negsuc n) m d, day_count-lt_year (negsuc n) m d (pos 1970) 1 1 civil (omega arith) (omega (arith, signed_arith)), day_count-epoch)
 
 -- ---- from a date to its day number
 
@@ -104,15 +93,6 @@ module _ (y m d : ℕ) (late : 1970 ≤ y) (civil : IsCivilDate (pos y) m d) whe
   pub to_last_day : day_number y m d ≤ 2_932_896
   to_last_day = omega (arith, day_count-epoch, from_epoch, day_count_bounds (pos y) m d civil)
 
-  pub date_is : is_date y m d ≡ true
-  date_is =
-      let a : leb 1970 y ≡ true = le-leb 1970 y late in
-      let b : leb 1 m ≡ true = le-leb 1 m civil.1.0 in
-      let c : leb m 12 ≡ true = le-leb m 12 civil.1.1 in
-      let e : leb 1 d ≡ true = le-leb 1 d civil.2.0 in
-      let f : leb d (days_in_month (pos y) m) ≡ true = le-leb d (days_in_month (pos y) m) civil.2.1 in
-      rw (a, b, c, e, f) refl
-
   -- the date that has this day number is the one that it was counted from
   pub date_of_number : IsDateOf (day_number y m d) (pos y) m d
   date_of_number = date_of (day_number y m d) y m d civil (omega (arith, day_count-epoch, from_epoch))
@@ -120,8 +100,4 @@ module _ (y m d : ℕ) (late : 1970 ≤ y) (civil : IsCivilDate (pos y) m d) whe
 -- the day number of a date that the calendar has
 pub day_number-is : (y m d : ℕ) (year : ℤ) (month day : ℕ) → 1970 ≤ y → year ≡ pos y → month ≡ m → day ≡ d → IsCivilDate year month day
     → (days_from_civil year month day ≡ pos (day_number y m d)) × (day_number y m d ≤ 2_932_896) × (is_date y m d ≡ true)
-day_number-is y m d year month day late ey em ed civil =
-    let c : IsCivilDate (pos y) m d = rw (ey, em, ed) at civil in
-    let low = from_epoch y m d late c in
-    let counted = days_from_civil-day_count (pos y) m d in
-    (rw (ey, em, ed) (omega (arith, signed_arith, day_count-epoch)), to_last_day y m d late c, date_is y m d late c)
+day_number-is y m d year month day late ey em ed civil = grind (arith, from_epoch, days_from_civil-day_count, signed_arith, day_count-epoch, to_last_day)

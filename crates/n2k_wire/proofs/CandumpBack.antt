@@ -1,29 +1,24 @@
 -- The candump line of a packet is read as the frame of that packet.
-use Rattle.std.proofs.Common.{◌≡◌, ℕ, zero, suc, ◌+◌, ◌-◌, ◌*◌, ◌/◌, ◌%◌, ◌^◌, ◌<◌, ◌≤◌, Bool, true, false, not, List, [], ◌∷◌, ◌++◌, length, drop, Some, Ok, refl, sym, ap, ◌∙◌, append_assoc, length-append, arith, ltb, leb, inl, inr}
-use Rattle.std.specs.Prelude.{codes, decimal, position, slice_index, IsTrue, ◌==◌}
+use Rattle.std.proofs.Common.{◌≡◌, ℕ, zero, suc, ◌+◌, ◌-◌, ◌*◌, ◌/◌, ◌%◌, ◌^◌, ◌<◌, ◌≤◌, Bool, true, false, not, List, [], ◌∷◌, ◌++◌, length, drop, Some, Ok, refl, ◌∙◌, append_assoc, length-append, arith, inl, inr, codes, position, slice_index, IsTrue, ◌==◌}
 use Rattle.std.specs.Char.{is_ascii_digit, is_ascii_hexdigit}
 use Rattle.std.specs.Int.{w32, to_be_bytes}
 use Rattle.std.specs.List.{list_all, position_or_len}
-use Rattle.std.proofs.lemmas.Bool.{agree_below_at, and_parts, cases_Bool, eq-eqb, eqb-true, le-leb, le-ltb, lt-ltb}
-use Rattle.std.proofs.lemmas.Fmt.{decimal_nonempty}
+use Rattle.std.proofs.lemmas.Bool.{agree_below_at, and_parts, cases_Bool, eq-eqb, eqb-true}
 use Rattle.std.proofs.lemmas.List.{append_cancel_right, length-drop}
 use Rattle.std.proofs.lemmas.List.Folds.{list_all-append}
-use Rattle.std.proofs.lemmas.Nat.{from_be_bytes-to_be_bytes_4}
 use Rattle.std.proofs.Math.Seq.{drop-append-add, drop-length, take-append_seam, take-length}
 use Rattle.hex.specs.Hex.{IsBytes, encode_upper, encode_with, upper_digits}
 use Rattle.hex.proofs.HexLemmas.{decode_of-encode_upper, length-encode_with}
 use Rattle.n2k_wire.specs.declared.entry.Entry.{Entry}
 use Rattle.n2k_wire.specs.declared.entry.Entry.TheVariants as entries
-use Rattle.n2k_wire.specs.declared.fault.WireFault.TheVariants.{NoStamp, NoId}
 use Rattle.n2k_wire.specs.declared.entry.Packing.{Packing}
-use Rattle.n2k_wire.specs.Candump.{stamped, framed, is_interface, is_interface_byte, identifier, is_other_frame, is_ending, digits_len, payload, frame_or_skip, candump}
+use Rattle.n2k_wire.specs.Candump.{stamped, framed, is_interface, is_interface_byte, identifier, is_other_frame, is_ending, payload, frame_or_skip, candump}
 use Rattle.n2k_wire.specs.Digits.{decimal_digit, decimal_after, decimal_number}
 use Rattle.n2k_wire.specs.Entry.{entry, settled}
 use Rattle.n2k_wire.specs.Identifier.{join, split}
 use Rattle.n2k_wire.specs.Packet.{PacketParts, IsPacketParts}
 use Rattle.n2k_wire.specs.Pieces.{cut_at, after_byte, skip_spaces}
 use Rattle.n2k_wire.specs.Stamp.{Moment, moment, three_digits, millis_digits, utc_text, utc_moment}
-use Rattle.n2k_wire.specs.Steps.{or_cause}
 use Rattle.n2k_wire.specs.Texts.{second_digits, candump_line, candump_parts, candump_text}
 use Rattle.n2k_wire.specs.Inner.Stamp.{IsMoment}
 use Rattle.n2k_wire.proofs.CandumpLemmas.{name_parts, seconds_short}
@@ -31,7 +26,7 @@ use Rattle.n2k_wire.proofs.DigitLemmas.{after-none}
 use Rattle.n2k_wire.proofs.HexDigits.{all_digits}
 use Rattle.n2k_wire.proofs.IdentifierLemmas.{join_split, join_bits}
 use Rattle.n2k_wire.proofs.ReadBack.{decimal_reads, digit_reads}
-use Rattle.n2k_wire.proofs.UtcBack.{found, utc_back, with_ok}
+use Rattle.n2k_wire.proofs.UtcBack.{found, utc_back}
 
 -- ---- a text cut at its first separator
 
@@ -40,21 +35,14 @@ abbrev HasNone : (ℕ → Bool) → List ℕ → Type 0
 HasNone p xs = list_all (λ b. not (p b)) xs ≡ true
 
 head_fails : (p : ℕ → Bool) (b : ℕ) (xs : List ℕ) → HasNone p (b ∷ xs) → (p b ≡ false) × HasNone p xs
-head_fails p b xs none =
-    let parts = and_parts (not (p b)) (list_all (λ x. not (p x)) xs) none in
-    (elim (cases_Bool (p b)) [ inl passes ↦ absurd (let other = rw passes at parts.0 in cc) | inr fails ↦ fails ], parts.1)
+head_fails p b xs none = grind arith
 
 place_behind : (p : ℕ → Bool) (front rest : List ℕ) (b : ℕ) → HasNone p front → p b ≡ true → position_or_len p (front ++ (b ∷ rest)) ≡ length front
 place_behind p [] rest b none passes = rw passes refl
-place_behind p (x ∷ front) rest b none passes =
-    let parts = head_fails p x front none in
-    rw parts.0 (omega (arith, place_behind p front rest b parts.1 passes))
+place_behind p (x ∷ front) rest b none passes = grind (arith, place_behind p front rest b (head_fails p x front none).1 passes)
 
 found_behind : (p : ℕ → Bool) (front rest : List ℕ) (b : ℕ) → HasNone p front → p b ≡ true → position p (front ++ (b ∷ rest)) ≡ Some (length front)
-found_behind p front rest b none passes =
-    let place = place_behind p front rest b none passes in
-    let within : ltb (length front) (length (front ++ (b ∷ rest))) ≡ true = lt-ltb _ _ (omega (arith, length-append front (b ∷ rest))) in
-    rw (place, within) refl
+found_behind p front rest b none passes = grind (arith, place_behind, length-append)
 
 pub cut_behind : (separator : ℕ) (front rest : List ℕ) → HasNone (λ b. b == separator) front → cut_at separator (front ++ (separator ∷ rest)) ≡ Some (front, rest)
 unfolding cut_at
@@ -66,9 +54,7 @@ cut_behind separator front rest none =
 -- a text that begins with no space
 no_space : (b : ℕ) (rest : List ℕ) → (b == 32) ≡ false → skip_spaces (b ∷ rest) ≡ Some (b ∷ rest)
 unfolding skip_spaces
-no_space b rest other =
-    let within : ltb 0 (suc (length rest)) ≡ true = lt-ltb 0 (suc (length rest)) (omega arith) in
-    rw (other, within) refl
+no_space b rest other = grind arith
 
 no_space_in_front : (text rest : List ℕ) → 0 < length text → HasNone (λ b. b == 32) text → skip_spaces (text ++ rest) ≡ Some (text ++ rest)
 no_space_in_front [] rest some none = absurd (omega arith)
@@ -77,9 +63,7 @@ no_space_in_front (b ∷ text) rest some none = no_space b (text ++ rest) (head_
 -- bytes of one kind are none of another
 pub none_of : (p q : ℕ → Bool) → ((b : ℕ) → p b ≡ true → q b ≡ false) → (xs : List ℕ) → list_all p xs ≡ true → HasNone q xs
 none_of p q apart [] all = refl
-none_of p q apart (b ∷ xs) all =
-    let parts = and_parts (p b) (list_all p xs) all in
-    rw (apart b parts.0) (none_of p q apart xs parts.1)
+none_of p q apart (b ∷ xs) all = grind (arith, none_of p q apart xs (and_parts (p b) (list_all p xs) all).1)
 
 -- ---- the moment
 
@@ -100,10 +84,7 @@ zero_read text = refl
 
 zeros_read : (zeros text : List ℕ) → list_all (λ b. b == 48) zeros ≡ true → decimal_after 0 (zeros ++ text) ≡ decimal_after 0 text
 zeros_read [] text all = refl
-zeros_read (b ∷ zeros) text all =
-    let parts = and_parts (b == 48) (list_all (λ x. x == 48) zeros) all in
-    let zero : b ≡ 48 = eqb-true b 48 parts.0 in
-    rw zero (zero_read (zeros ++ text) ∙ zeros_read zeros text parts.1)
+zeros_read (b ∷ zeros) text all = grind (arith, zeros_read zeros text (and_parts (b == 48) (list_all (λ x. x == 48) zeros) all).1, zero_read)
 
 all_dropped : (p : ℕ → Bool) (n : ℕ) (xs : List ℕ) → list_all p xs ≡ true → list_all p (drop n xs) ≡ true
 all_dropped p zero xs all = all
@@ -112,36 +93,21 @@ all_dropped p (suc n) (x ∷ xs) all = all_dropped p n xs (and_parts (p x) (list
 
 -- the seconds with their zeros are read as the seconds
 seconds_after : (n : ℕ) → n ≤ 253402300799 → decimal_after 0 (second_digits n) ≡ Some n
-seconds_after n few =
-    zeros_read (drop (length (decimal n)) (codes "0000000000")) (decimal n) (all_dropped (λ b. b == 48) (length (decimal n)) (codes "0000000000") refl)
-    ∙ (decimal_reads n (omega arith)).0
+seconds_after n few = grind (arith, zeros_read, all_dropped, decimal_reads)
 
 pub length-seconds : (n : ℕ) → n ≤ 253402300799 → (0 < length (second_digits n)) × (length (second_digits n) ≤ 12)
-length-seconds n few =
-    let whole = length-append (drop (length (decimal n)) (codes "0000000000")) (decimal n) in
-    let zeros : length (drop (length (decimal n)) (codes "0000000000")) ≡ 10 - length (decimal n) = length-drop (length (decimal n)) (codes "0000000000") in
-    let some = decimal_nonempty n (omega arith) in
-    let most = seconds_short n few in
-    (omega arith, omega arith)
+length-seconds n few = grind (arith, length-append, length-drop, seconds_short)
 
 pub number_is : (most n : ℕ) (text : List ℕ) → 0 < length text → length text ≤ most → decimal_after 0 text ≡ Some n → decimal_number most text ≡ Some n
 unfolding decimal_number
-number_is most n text some few e =
-    let a : ltb 0 (length text) ≡ true = lt-ltb 0 (length text) some in
-    let b : leb (length text) most ≡ true = le-leb (length text) most few in
-    rw (a, b) e
+number_is most n text some few e = grind arith
 
 one_more : (before d : ℕ) (text : List ℕ) → d < 10 → decimal_after before ((48 + d) ∷ text) ≡ decimal_after (10 * before + d) text
 unfolding decimal_after
 one_more before d text small = rw (digit_reads d small) refl
 
 millis_after : (n : ℕ) (more : List ℕ) → n ≤ 999 → decimal_after 0 (millis_digits n ++ more) ≡ decimal_after n more
-millis_after n more few =
-    let value : 10 * (10 * (10 * 0 + n / 100) + n % 100 / 10) + n % 100 % 10 ≡ n = omega arith in
-    one_more 0 (n / 100) ((48 + n % 100 / 10) ∷ (48 + n % 100 % 10) ∷ more) (omega arith)
-    ∙ one_more (10 * 0 + n / 100) (n % 100 / 10) ((48 + n % 100 % 10) ∷ more) (omega arith)
-    ∙ one_more (10 * (10 * 0 + n / 100) + n % 100 / 10) (n % 100 % 10) more (omega arith)
-    ∙ ap (λ k. decimal_after k more) value
+millis_after n more few = grind (arith, one_more)
 
 fraction_after : (n : ℕ) → n ≤ 999 → decimal_after 0 (millis_digits n ++ codes "000") ≡ Some (10 * (10 * (10 * n + 0) + 0) + 0)
 fraction_after n few =
@@ -154,15 +120,7 @@ is_other p c none b some = elim (cases_Bool (b == c)) [ inl same ↦ absurd (let
 -- what stands between the parentheses is read as the moment
 moment_read : (seen : Moment) → IsMoment seen → moment (second_digits seen.seconds ++ (46 ∷ (millis_digits seen.millis ++ codes "000"))) ≡ Some seen
 unfolding moment three_digits
-moment_read seen fits =
-    let seconds = seconds_after seen.seconds fits.seconds_fit in
-    let lengths = length-seconds seen.seconds fits.seconds_fit in
-    let none = none_of is_ascii_digit (λ b. b == 46) (is_other is_ascii_digit 46 refl) (second_digits seen.seconds) (digits_alone 0 seen.seconds (second_digits seen.seconds) seconds) in
-    let whole = number_is 12 seen.seconds (second_digits seen.seconds) lengths.0 lengths.1 seconds in
-    let fraction = number_is 9 (10 * (10 * (10 * seen.millis + 0) + 0) + 0) (millis_digits seen.millis ++ codes "000") (omega arith) (omega arith) (fraction_after seen.millis fits.millis_fit) in
-    let millis = number_is 3 seen.millis (millis_digits seen.millis) (omega arith) (omega arith) (millis_after seen.millis [] fits.millis_fit ∙ after-none seen.millis) in
-    let last : leb seen.seconds 253402300799 ≡ true = le-leb _ _ fits.seconds_fit in
-    rw (cut_behind 46 (second_digits seen.seconds) (millis_digits seen.millis ++ codes "000") none, whole, fraction, millis, last) refl
+moment_read seen fits = grind (arith, number_is 12 seen.seconds (second_digits seen.seconds) (length-seconds seen.seconds fits.seconds_fit).0 (length-seconds seen.seconds fits.seconds_fit).1 (seconds_after seen.seconds fits.seconds_fit), number_is 9 (10 * (10 * (10 * seen.millis + 0) + 0) + 0) (millis_digits seen.millis ++ codes "000") (omega arith) (omega arith) (fraction_after seen.millis fits.millis_fit), number_is 3 seen.millis (millis_digits seen.millis) (omega arith) (omega arith) (millis_after seen.millis [] fits.millis_fit ∙ after-none seen.millis), cut_behind 46 (second_digits seen.seconds) (millis_digits seen.millis ++ codes "000") (none_of is_ascii_digit (λ b. b == 46) (is_other is_ascii_digit 46 refl) (second_digits seen.seconds) (digits_alone 0 seen.seconds (second_digits seen.seconds) (seconds_after seen.seconds fits.seconds_fit))))
 
 -- ---- hexadecimal digits
 
@@ -178,10 +136,10 @@ upper_hexes (b ∷ bytes) ok =
     let low : is_ascii_hexdigit (slice_index upper_digits (b % 16)) ≡ true = upper_hex (b % 16) (omega arith) in
     rw (high, low) (upper_hexes bytes (λ i. ok (suc i)))
 
+-- ---- the parts behind the stamp
+
 no_hex_in : (c : ℕ) → is_ascii_hexdigit c ≡ false → (text : List ℕ) → list_all is_ascii_hexdigit text ≡ true → HasNone (λ b. b == c) text
 no_hex_in c other text all = none_of is_ascii_hexdigit (λ b. b == c) (is_other is_ascii_hexdigit c other) text all
-
--- ---- the parts behind the stamp
 
 pub framed_read : (name digits behind : List ℕ) → is_interface name ≡ true → 0 < length digits → list_all is_ascii_hexdigit digits ≡ true
     → framed (32 ∷ (name ++ (32 ∷ (digits ++ (35 ∷ behind))))) ≡ Some (digits, behind)
@@ -200,17 +158,12 @@ word_bytes n (suc (suc (suc (suc i)))) = omega arith
 
 identifier_read : (n : ℕ) → n < 2 ^ 29 → identifier (encode_upper (to_be_bytes w32 n)) ≡ Ok (Some n)
 unfolding identifier
-identifier_read n bits =
-    let small : ltb n 0x20000000 ≡ true = lt-ltb n 0x20000000 bits in
-    let eight : length (encode_upper (to_be_bytes w32 n)) ≡ 8 = length-encode_with upper_digits (to_be_bytes w32 n) in
-    rw (decode_of-encode_upper (to_be_bytes w32 n) (word_bytes n), upper_hexes (to_be_bytes w32 n) (word_bytes n), eight, from_be_bytes-to_be_bytes_4 n (omega arith), small) refl
+identifier_read n bits = grind (arith, length-encode_with, decode_of-encode_upper, upper_hexes)
 
 pub no_other_frame : (text : List ℕ) → list_all is_ascii_hexdigit text ≡ true → is_other_frame text ≡ false
 unfolding is_other_frame
 no_other_frame [] all = refl
-no_other_frame (b ∷ text) all =
-    let hex = (and_parts (is_ascii_hexdigit b) (list_all is_ascii_hexdigit text) all).0 in
-    rw (is_other is_ascii_hexdigit 35 refl b hex, is_other is_ascii_hexdigit 82 refl b hex, is_other is_ascii_hexdigit 114 refl b hex) refl
+no_other_frame (b ∷ text) all = grind arith
 
 no_ending : is_ending [] ≡ true
 unfolding is_ending
@@ -218,11 +171,7 @@ no_ending = refl
 
 payload_read : (bytes : List ℕ) → IsBytes bytes → length bytes ≤ 8 → payload (encode_upper bytes) ≡ Some bytes
 unfolding payload
-payload_read bytes ok short =
-    let hex = upper_hexes bytes ok in
-    let len : digits_len (encode_upper bytes) ≡ length (encode_upper bytes) = sym (all_digits is_ascii_hexdigit (encode_upper bytes) hex) in
-    let few : leb (length (encode_upper bytes)) (2 * 8) ≡ true = le-leb _ _ (omega (arith, length-encode_with upper_digits bytes)) in
-    rw (len, few, drop-length (encode_upper bytes), no_ending, take-length (encode_upper bytes), decode_of-encode_upper bytes ok) refl
+payload_read bytes ok short = grind (arith, all_digits is_ascii_hexdigit (encode_upper bytes) (upper_hexes bytes ok), length-encode_with upper_digits bytes, drop-length (encode_upper bytes), take-length (encode_upper bytes), decode_of-encode_upper bytes ok, no_ending)
 
 frame_read : (seen : Moment) (n : ℕ) (bytes : List ℕ) → IsBytes bytes → length bytes ≤ 8
     → frame_or_skip seen (Some n) (encode_upper bytes) ≡ Ok (entries.Frame (record { stamp = utc_text seen; id = split n; payload = bytes }))
@@ -234,13 +183,7 @@ frame_read seen n bytes ok short = rw (no_other_frame (encode_upper bytes) (uppe
 stamped_read : (seen : Moment) (rest : List ℕ) → IsMoment seen
     → stamped (40 ∷ ((second_digits seen.seconds ++ (46 ∷ (millis_digits seen.millis ++ codes "000"))) ++ (41 ∷ rest))) ≡ Some (second_digits seen.seconds ++ (46 ∷ (millis_digits seen.millis ++ codes "000")), rest)
 unfolding stamped after_byte
-stamped_read seen rest fits =
-    let seconds = digits_alone 0 seen.seconds (second_digits seen.seconds) (seconds_after seen.seconds fits.seconds_fit) in
-    let fraction = digits_alone 0 (10 * (10 * (10 * seen.millis + 0) + 0) + 0) (millis_digits seen.millis ++ codes "000") (fraction_after seen.millis fits.millis_fit) in
-    let front = none_of is_ascii_digit (λ b. b == 41) (is_other is_ascii_digit 41 refl) (second_digits seen.seconds) seconds in
-    let behind : HasNone (λ b. b == 41) (46 ∷ (millis_digits seen.millis ++ codes "000")) = none_of is_ascii_digit (λ b. b == 41) (is_other is_ascii_digit 41 refl) (millis_digits seen.millis ++ codes "000") fraction in
-    let none : HasNone (λ b. b == 41) (second_digits seen.seconds ++ (46 ∷ (millis_digits seen.millis ++ codes "000"))) = rw (list_all-append (λ b. not (b == 41)) (second_digits seen.seconds) (46 ∷ (millis_digits seen.millis ++ codes "000")), front) behind in
-    cut_behind 41 (second_digits seen.seconds ++ (46 ∷ (millis_digits seen.millis ++ codes "000"))) rest none
+stamped_read seen rest fits = grind (arith, none_of is_ascii_digit (λ b. b == 41) (is_other is_ascii_digit 41 refl) (second_digits seen.seconds) (digits_alone 0 seen.seconds (second_digits seen.seconds) (seconds_after seen.seconds fits.seconds_fit)), list_all-append (λ b. not (b == 41)) (second_digits seen.seconds) (46 ∷ (millis_digits seen.millis ++ codes "000")), cut_behind)
 
 grouped : (seconds millis name digits behind : List ℕ)
     → (codes "(" ++ seconds ++ codes "." ++ millis ++ codes "000) " ++ name ++ codes " " ++ digits ++ codes "#" ++ behind)
@@ -250,9 +193,7 @@ grouped seconds millis name digits behind = simp append_assoc
 -- a line that begins as candump's do
 pub candump_entry : (rest : List ℕ) (packing : Packing) → length (40 ∷ rest) ≤ 2048 → entry (40 ∷ rest) packing ≡ settled (candump (40 ∷ rest))
 unfolding entry
-candump_entry rest packing short =
-    let fits : ltb 2048 (length (40 ∷ rest)) ≡ false = le-ltb 2048 (length (40 ∷ rest)) short in
-    rw fits refl
+candump_entry rest packing short = grind arith
 
 candump_by : (line outer text digits behind : List ℕ) (seen : Moment) (n : ℕ) (found : Entry) → stamped line ≡ Some (outer, text) → moment outer ≡ Some seen → framed text ≡ Some (digits, behind)
     → identifier digits ≡ Ok (Some n) → frame_or_skip seen (Some n) behind ≡ Ok found → candump line ≡ Ok found
@@ -283,16 +224,7 @@ module _ (p : PacketParts) (name : List ℕ) (packing : Packing) (seen : Moment)
   bits = join_bits p.id n (omega (arith, ok.src_ok)) (omega (arith, ok.dst_ok)) joined
 
   line_short : length (40 ∷ (outer ++ (41 ∷ text))) ≤ 2048
-  line_short =
-      let a = length-append (second_digits seen.seconds ++ (46 ∷ (millis_digits seen.millis ++ codes "000"))) (41 ∷ (32 ∷ (name ++ (32 ∷ (encode_upper (to_be_bytes w32 n) ++ (35 ∷ encode_upper p.payload)))))) in
-      let b = length-append (second_digits seen.seconds) (46 ∷ (millis_digits seen.millis ++ codes "000")) in
-      let c = length-append name (32 ∷ (encode_upper (to_be_bytes w32 n) ++ (35 ∷ encode_upper p.payload))) in
-      let d = length-append (encode_upper (to_be_bytes w32 n)) (35 ∷ encode_upper p.payload) in
-      let e = length-encode_with upper_digits (to_be_bytes w32 n) in
-      let f = length-encode_with upper_digits p.payload in
-      let g = length-seconds seen.seconds utc.1.seconds_fit in
-      let h = name_parts name named in
-      omega arith
+  line_short = grind (arith, length-append, length-encode_with, length-seconds, utc, name_parts)
 
   candump_is : candump (40 ∷ (outer ++ (41 ∷ text))) ≡ Ok (entries.Frame (record { stamp = utc_text seen; id = split n; payload = p.payload }))
   candump_is =
@@ -305,24 +237,11 @@ module _ (p : PacketParts) (name : List ℕ) (packing : Packing) (seen : Moment)
       (frame_read seen n p.payload ok.bytes_ok short)
 
   same : (record { stamp = utc_text seen; id = split n; payload = p.payload }) ≡ p
-  same =
-      let id = join_split p.id n (omega (arith, ok.src_ok)) (omega (arith, ok.dst_ok)) joined in
-      rw (utc.0, id) refl
+  same = grind (arith, join_split, utc)
 
   pub line_back : entry (candump_line name seen n p.payload) packing ≡ entries.Frame p
-  line_back =
-      rw line_is
-      (candump_entry (outer ++ (41 ∷ text)) packing line_short
-      ∙ ap settled candump_is
-      ∙ ap (λ q. entries.Frame q) same)
+  line_back = grind (arith, line_is, candump_entry, line_short, candump_is, same)
 
 pub candump_reads_back : (p : PacketParts) (name line : List ℕ) (packing : Packing) → IsPacketParts p → length p.payload ≤ 8 → IsTrue (is_interface name) → candump_text name p ≡ Ok (line ++ codes "\n") → entry line packing ≡ entries.Frame p
 unfolding candump_parts
-candump_reads_back p name line packing ok short named e =
-    with_ok (candump_parts p) _ (line ++ codes "\n") e (λ parts ep e1.
-    with_ok (or_cause NoStamp (utc_moment p.stamp)) _ parts ep (λ seen es e2.
-    with_ok (or_cause NoId (join p.id)) _ parts e2 (λ n en e3.
-    let same : (seen, n) ≡ parts = cc in
-    let texts : candump_line name seen n p.payload ++ codes "\n" ≡ line ++ codes "\n" = let whole = rw (← same) at e1 in cc in
-    let line_is = append_cancel_right (candump_line name seen n p.payload) line (codes "\n") texts in
-    rw (← line_is) (line_back p name packing seen n ok short named (found NoStamp (utc_moment p.stamp) seen es) (found NoId (join p.id) n en)))))
+candump_reads_back p name line packing ok short named e = grind (arith, append_cancel_right, line_back)

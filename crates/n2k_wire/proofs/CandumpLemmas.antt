@@ -1,10 +1,7 @@
 -- Writing the parts of a candump line.
-use Rattle.std.proofs.Common.{◌≡◌, ℕ, zero, suc, ◌+◌, ◌*◌, ◌/◌, ◌%◌, ◌≤◌, List, [], ◌∷◌, ◌++◌, length, map, take, slice_index, refl, sym, ap, ◌∙◌, append_assoc, arith, Some, None, Ok, Err, codes, ◌<◌, true, ltb, leb}
-use Rattle.std.specs.Prelude.{decimal, IsTrue, ◌&&◌}
-use Rattle.std.proofs.lemmas.Bool.{and_parts, leb-true, ltb-true}
+use Rattle.std.proofs.Common.{◌≡◌, ℕ, zero, suc, ◌+◌, ◌*◌, ◌/◌, ◌%◌, ◌≤◌, List, [], ◌∷◌, ◌++◌, length, map, take, slice_index, refl, sym, ap, ◌∙◌, append_assoc, arith, Some, None, Ok, Err, codes, ◌<◌, true, decimal, IsTrue, length-append}
 use Rattle.std.specs.List.{list_all}
 use Rattle.std.proofs.lemmas.Fmt.{length-decimal-le}
-use Rattle.std.proofs.lemmas.List.{length-append}
 use Rattle.std.proofs.lemmas.Slice.{take-put_mid}
 use Rattle.std.proofs.Math.Seq.{take_at}
 use Rattle.std.specs.Char.{to_ascii_uppercase}
@@ -23,10 +20,7 @@ use Rattle.n2k_wire.specs.Texts.{Appends, candump_line, candump_parts, candump_t
 -- a name of an interface has a few bytes of its own
 pub name_parts : (name : List ℕ) → is_interface name ≡ true → (0 < length name) × (length name ≤ 15) × (list_all is_interface_byte name ≡ true)
 unfolding is_interface
-name_parts name ok =
-    let outer = and_parts (ltb 0 (length name) && leb (length name) 15) (list_all is_interface_byte name) ok in
-    let inner = and_parts (ltb 0 (length name)) (leb (length name) 15) outer.0 in
-    (ltb-true 0 (length name) inner.0, leb-true (length name) 15 inner.1, outer.1)
+name_parts name ok = grind arith
 
 pub interface_short : (name : List ℕ) → IsTrue (is_interface name) → length name ≤ 15
 interface_short name ok = (name_parts name ok).1
@@ -87,7 +81,4 @@ pub appended : (interface front millis behind : List ℕ) (p : PacketParts) (ide
     → take n written ≡ take at room ++ (front ++ millis ++ behind ++ encode_upper (to_be_bytes w32 identifier) ++ codes "#" ++ encode_upper payload ++ codes "\n") → take at room ≡ old
     → cut ≡ take n (take all (written ++ rest)) → length written ≡ all → Appends (candump_text interface p) (Ok tt) old cut
 unfolding candump_parts
-appended interface front millis behind p identifier payload old room written rest cut at n all (seen, found, is) joined behind_is payload_is line before cut_is long =
-    let grouped : front ++ millis ++ behind ++ encode_upper (to_be_bytes w32 identifier) ++ codes "#" ++ encode_upper payload ++ codes "\n" ≡ line_of (front ++ millis) behind identifier payload = simp append_assoc in
-    let same : line_of (front ++ millis) behind identifier payload ≡ line_of (front ++ millis) (behind_millis interface) identifier p.payload = rw (behind_is, payload_is) refl in
-    rw (found, joined) (cut_is ∙ ap (take n) (take_at written rest all long) ∙ line ∙ (rw before (ap (λ (t : List ℕ). old ++ t) (grouped ∙ same ∙ line_is interface (front ++ millis) seen identifier p.payload is))), tt)
+appended interface front millis behind p identifier payload old room written rest cut at n all (seen, found, is) joined behind_is payload_is line before cut_is long = grind (arith, take_at, line_is)

@@ -1,5 +1,5 @@
 -- Reading digits from the left, one at a time.
-use Rattle.std.proofs.Common.{◌≡◌, ℕ, suc, ◌+◌, ◌*◌, ◌^◌, ◌<◌, ◌≤◌, List, [], ◌∷◌, length, get_or, drop, Option, Some, None, refl, sym, ◌∙◌, arith, add-one}
+use Rattle.std.proofs.Common.{◌≡◌, ℕ, suc, ◌+◌, ◌*◌, ◌^◌, ◌<◌, ◌≤◌, List, [], ◌∷◌, length, get_or, drop, Option, Some, None, refl, arith, add-one}
 use Rattle.std.proofs.Math.Nat.{pow-succ', pow-le-pow_right}
 use Rattle.std.proofs.Math.Seq.{drop-cons, drop-length}
 use Rattle.n2k_wire.specs.Digits.{decimal_after, decimal_digit}
@@ -19,20 +19,15 @@ after-none before = refl
 -- one digit more is read
 pub reads_on : (digits : List ℕ) (before i digit : ℕ) (total : Option ℕ) → i < length digits → Some digit ≡ decimal_digit (get_or digits i 0)
     → decimal_after before (drop i digits) ≡ total → decimal_after (10 * before + digit) (drop (i + 1) digits) ≡ total
-reads_on digits before i digit total lt e so_far =
-    let cut = drop-cons digits i 0 lt in
-    rw add-one (sym (after-digit before (get_or digits i 0) digit (drop (suc i) digits) e) ∙ (rw cut at so_far))
+reads_on digits before i digit total lt e so_far = grind (arith, drop-cons, after-digit)
 
 -- another byte ends the reading
 pub ends_at : (digits : List ℕ) (before i : ℕ) (total : Option ℕ) → i < length digits → None ≡ decimal_digit (get_or digits i 0)
     → decimal_after before (drop i digits) ≡ total → None ≡ total
-ends_at digits before i total lt e so_far =
-    let cut = drop-cons digits i 0 lt in
-    sym (after-other before (get_or digits i 0) (drop (suc i) digits) e) ∙ (rw cut at so_far)
+ends_at digits before i total lt e so_far = grind (arith, drop-cons, after-other)
 
 pub all_read : (digits : List ℕ) (before i : ℕ) (total : Option ℕ) → i ≡ length digits → decimal_after before (drop i digits) ≡ total → Some before ≡ total
-all_read digits before i total e so_far =
-    sym (after-none before) ∙ (rw (e, drop-length digits) at so_far)
+all_read digits before i total e so_far = grind (arith, after-none, drop-length)
 
 -- one digit more keeps the number below its power of ten
 pub fits_digits : (number digit i : ℕ) → number < 10 ^ i → digit ≤ 9 → i < 18 → (10 * number + digit < 10 ^ (i + 1)) × (10 * number + digit < 2 ^ 64)

@@ -1,15 +1,12 @@
 -- Bytes that are looked at all at once.
-use Rattle.std.proofs.Common.{◌≡◌, ℕ, ◌+◌, ◌-◌, ◌%◌, ◌^◌, ◌<◌, ◌≤◌, Bool, true, false, not, cond, eqb, ltb, List, [], ◌∷◌, length, get_or, map, take, replicate, Fits, w8, Some, refl, sym, ap, ◌∙◌, arith, inl, inr, eq-zero-or-pos}
-use Rattle.std.specs.Prelude.{position}
-use Rattle.std.specs.List.{position_or_len, prefix_len}
+use Rattle.std.proofs.Common.{◌≡◌, ℕ, ◌+◌, ◌-◌, ◌%◌, ◌^◌, ◌<◌, ◌≤◌, Bool, true, false, not, cond, eqb, ltb, List, [], ◌∷◌, length, get_or, map, take, replicate, Fits, w8, Some, refl, sym, ap, ◌∙◌, arith, inl, inr, eq-zero-or-pos, position, bit_or}
+use Rattle.std.specs.List.{position_or_len, prefix_len, list_all}
 use Rattle.std.proofs.lemmas.Bool.{agree_below_at, lt-ltb, not-false, not-true}
 use Rattle.std.proofs.lemmas.List.{get_or-take, length-map, length-take-le}
 use Rattle.std.proofs.lemmas.List.Sums.{position_or_len_is, prefix_len-le-length, prefix_len_passes, prefix_len_stops}
 use Rattle.std.proofs.lemmas.Simd.{leading_from_mask_l, mask_l-mod, trailing_mask_l}
-use lib.Bits.{bit_or}
 use lib.Count.{count_trailing_zeros}
 use lib.Lanes.{Each1, mask_l, top, zip2}
-use Rattle.std.specs.List.{list_all}
 use Rattle.n2k_wire.specs.Candump.{is_interface_byte}
 use Rattle.n2k_wire.specs.Packet.{is_stamp_byte}
 use Rattle.n2k_wire.proofs.HexDigits.{all_before}
@@ -28,8 +25,7 @@ others (b ∷ bytes) small = λ i. agree_below_at lane other 256 b refl small.0.
 -- the bits of these lanes
 pub mask_is : (bytes : List ℕ) → length bytes ≡ 16 → Each1 (Fits w8) bytes
     → mask_l (map (top 7) (zip2 (λ a b. cond (ltb a b) 255 0) (replicate 16 93) (zip2 (λ a b. (a + (256 - b)) % 256) bytes (replicate 16 33)))) % 2 ^ 64 ≡ mask_l (map other bytes)
-mask_is bytes long small =
-    ap (λ ms. mask_l ms % 2 ^ 64) (rw long at (others bytes small)) ∙ mask_l-mod (map other bytes) 64 (omega (arith, length-map bytes other, long))
+mask_is bytes long small = grind (arith, others bytes small, mask_l-mod (map other bytes) 64 (omega (arith, length-map bytes other, long)), length-map bytes other)
 
 -- the first of sixteen bytes whose bit is set
 pub place_is : (text : List ℕ) (mask : ℕ) → 16 ≤ length text → count_trailing_zeros 64 mask < 16 → mask ≡ mask_l (map other (take 16 text)) → position other text ≡ Some (count_trailing_zeros 64 mask)
@@ -71,12 +67,8 @@ stamp_mask bytes long small =
 
 -- all bytes are those of a stamp
 pub none_stops : (text : List ℕ) (n : ℕ) → length text ≡ n → mask_l (map no_stamp text) ≡ 0 → list_all is_stamp_byte (take n text) ≡ true
-none_stops text n long none =
-    let whole : position_or_len no_stamp text ≡ n = leading_from_mask_l no_stamp text none ∙ long in
-    rw whole at (all_before is_stamp_byte text)
+none_stops text n long none = grind (arith, leading_from_mask_l no_stamp text none, all_before is_stamp_byte text)
 
 -- or those before the first whose bit is set
 pub one_stops : (text : List ℕ) (mask : ℕ) → length text ≤ 64 → mask ≡ mask_l (map no_stamp text) → 0 < mask → (list_all is_stamp_byte (take (count_trailing_zeros 64 mask) text) ≡ true) × (count_trailing_zeros 64 mask ≤ length text)
-one_stops text mask long is some =
-    let place : count_trailing_zeros 64 mask ≡ position_or_len no_stamp text = ap (count_trailing_zeros 64) is ∙ trailing_mask_l no_stamp 64 text long (omega (arith, is)) in
-    rw place (all_before is_stamp_byte text, prefix_len-le-length (λ b. not (no_stamp b)) text)
+one_stops text mask long is some = grind (arith, trailing_mask_l no_stamp 64 text long (omega (arith, is)), all_before is_stamp_byte text, prefix_len-le-length (λ b. not (no_stamp b)) text)

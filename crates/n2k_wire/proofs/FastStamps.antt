@@ -1,9 +1,8 @@
 -- A stamp in which the separators stand where `candump` puts them.
-use Rattle.std.proofs.Common.{◌≡◌, ℕ, ◌≤◌, true, leb, not, List, [], ◌∷◌, ◌++◌, Some, refl, ap, ◌∙◌, inl, inr}
-use Rattle.std.specs.Prelude.{◌==◌}
+use Rattle.std.proofs.Common.{arith, ◌≡◌, ℕ, ◌≤◌, true, leb, not, List, [], ◌∷◌, ◌++◌, Some, refl, ap, ◌∙◌, ◌==◌}
 use Rattle.std.specs.Char.{is_ascii_digit}
 use Rattle.std.specs.List.{list_all}
-use Rattle.std.proofs.lemmas.Bool.{cases_Bool, le-leb, eqb-true}
+use Rattle.std.proofs.lemmas.Bool.{le-leb}
 use Rattle.std.proofs.lemmas.List.Folds.{list_all-append}
 use Rattle.n2k_wire.specs.Candump.{stamped}
 use Rattle.n2k_wire.specs.Digits.{decimal_number}
@@ -19,11 +18,7 @@ number_digits most n text e = digits_alone 0 n text (number_parts most n text e)
 pub follows : (byte : ℕ) (text rest : List ℕ) → after_byte byte text ≡ Some rest → text ≡ byte ∷ rest
 unfolding after_byte
 follows byte [] rest e = absurd cc
-follows byte (b ∷ text) rest e =
-    elim (cases_Bool (b == byte)) [
-      | inl same ↦ let is : Some text ≡ Some rest = rw same at e in let one : b ≡ byte = eqb-true b byte same in cc
-      | inr other ↦ absurd (let none = rw other at e in cc)
-    ]
+follows byte (b ∷ text) rest e = grind arith
 
 -- the separators stand where they were looked for, and nowhere before
 pub usual : (line inner stamp behind text seconds point fraction : List ℕ) (s f m : ℕ)

@@ -37,9 +37,7 @@ decode_pairs-spelled i n (high ∷ low ∷ rest) all e =
     rw (hex_digit_value-is high first.0, hex_digit_value-is low second.0, decode_pairs-spelled (i + 2) (n - 1) rest second.1 more) refl
 
 pub decode_of-even : (n : ℕ) (digits : List ℕ) → list_all is_ascii_hexdigit digits ≡ true → length digits ≡ 2 * n → result_ok (decode_of digits) ≡ Some (spelled digits)
-decode_of-even n digits all e =
-    let even : length digits % 2 ≡ 0 = omega arith in
-    rw (even, decode_pairs-spelled 0 n digits all e) refl
+decode_of-even n digits all e = grind (arith, decode_pairs-spelled 0 n digits all e)
 
 some_same : (x y : List ℕ) → Some x ≡ Some y → x ≡ y
 some_same x y e = cc
@@ -59,9 +57,7 @@ all_before p (b ∷ text) =
 pub all_front : (p : ℕ → Bool) (n : ℕ) (text : List ℕ) → list_all p text ≡ true → list_all p (take n text) ≡ true
 all_front p zero text all = refl
 all_front p (suc n) [] all = refl
-all_front p (suc n) (b ∷ text) all =
-    let parts = and_parts (p b) (list_all p text) all in
-    rw parts.0 (all_front p n text parts.1)
+all_front p (suc n) (b ∷ text) all = grind (arith, all_front p n text (and_parts (p b) (list_all p text) all).1)
 
 -- one byte more is looked at
 pub all_more : (p : ℕ → Bool) (bytes : List ℕ) (i : ℕ) (so_far : Bool) → i < length bytes → (so_far && list_all p (drop i bytes)) ≡ list_all p bytes
@@ -106,10 +102,7 @@ abbrev value : ℕ → ℕ
 value b = cond (top 7 (no_figure b)) ((letter b + 10) % 256) (figure b)
 
 is_digit : (b : ℕ) → b < 256 → other b ≡ false → (is_ascii_hexdigit b ≡ true) × (value b ≡ hex_value b)
-is_digit b byte digit =
-    let table = agree_below_at (λ c. other c || (is_ascii_hexdigit c && eqb (value c) (hex_value c))) (λ c. true) 256 b refl byte in
-    let parts = and_parts _ _ (rw digit at table) in
-    (parts.0, eqb-true _ _ parts.1)
+is_digit b byte digit = grind (arith, agree_below_at (λ c. other c || (is_ascii_hexdigit c && eqb (value c) (hex_value c))) (λ c. true) 256 b refl byte, eqb-true)
 
 abbrev figures : ℕ → List ℕ → List ℕ
 figures n bytes = zip2 (λ a b. (a + (256 - b)) % 256) bytes (replicate n 48)
@@ -155,10 +148,7 @@ joined vs =
     (pick_l 0 (vs ++ vs) (1 ∷ 3 ∷ 5 ∷ 7 ∷ 9 ∷ 11 ∷ 13 ∷ 15 ∷ []))
 
 byte_is : (high low : ℕ) → is_ascii_hexdigit high ≡ true → is_ascii_hexdigit low ≡ true → (hex_value high * 16 % 256 + hex_value low) % 256 ≡ hex_value high * 16 + hex_value low
-byte_is high low a b =
-    let x : hex_value high < 16 = grind (arith, nat_tests) in
-    let y : hex_value low < 16 = grind (arith, nat_tests) in
-    omega arith
+byte_is high low a b = grind (arith, nat_tests)
 
 -- each of them
 pub digit_at : (digits : List ℕ) (i : ℕ) → list_all is_ascii_hexdigit digits ≡ true → i < length digits → is_ascii_hexdigit (get_or digits i 0) ≡ true

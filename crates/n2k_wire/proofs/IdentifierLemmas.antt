@@ -1,9 +1,8 @@
 -- An identifier and what it says, both ways.
-use Rattle.std.proofs.Common.{◌≡◌, ℕ, ◌+◌, ◌*◌, ◌/◌, ◌%◌, ◌^◌, ◌<◌, true, false, Some, refl, ap, sym, ◌∙◌, ltb, arith, inl, inr}
-use Rattle.std.specs.Prelude.{◌==◌, if◌then◌else◌}
-use Rattle.std.proofs.lemmas.Bool.{and_parts, cases_Bool, lt-ltb, ltb-true, eq-eqb, eqb-true}
+use Rattle.std.proofs.Common.{◌≡◌, ℕ, ◌+◌, ◌*◌, ◌/◌, ◌%◌, ◌^◌, ◌<◌, true, false, Some, refl, sym, ◌∙◌, ltb, arith, inl, inr, ◌==◌, if◌then◌else◌}
+use Rattle.std.proofs.lemmas.Bool.{cases_Bool, eqb-true}
 use Rattle.n2k_wire.specs.declared.identifier.Id.{Id}
-use Rattle.n2k_wire.specs.Identifier.{split, join, is_joinable, is_addressed, format_of_pgn, low_byte, specific_of, source, pdu_specific, pdu_format, data_page, priority, everyone}
+use Rattle.n2k_wire.specs.Identifier.{split, join, is_joinable, is_addressed, low_byte, specific_of, source, pdu_specific, pdu_format, data_page, priority, everyone}
 
 -- a sum of priority, page and format, specific byte and source
 abbrev sum_of : ℕ → ℕ → ℕ → ℕ → ℕ
@@ -15,8 +14,7 @@ parts : (p g s a : ℕ) → p < 8 → g < 1024 → s < 256 → a < 256
 parts p g s a p_fits g_fits s_fits a_fits = (omega arith, omega arith, omega arith, omega arith, omega arith)
 
 same_id : (a b : Id) → a.prio ≡ b.prio → a.pgn ≡ b.pgn → a.src ≡ b.src → a.dst ≡ b.dst → a ≡ b
-same_id a b prio pgn src dst =
-    let whole : (record { prio = a.prio; pgn = a.pgn; src = a.src; dst = a.dst }) ≡ b = rw (prio, pgn, src, dst) refl in whole
+same_id a b prio pgn src dst = grind arith
 
 -- what an identifier says, where it is for one address and where it is for all
 split_addressed : (n : ℕ) → ltb (pdu_format n) 240 ≡ true
@@ -43,10 +41,7 @@ Joinable id = (id.prio < 8) × (id.pgn < 2 ^ 18) × ((if is_addressed id.pgn the
 
 joinable : (id : Id) → is_joinable id ≡ true → Joinable id
 unfolding is_joinable
-joinable id holds =
-    let outer = and_parts _ _ holds in
-    let inner = and_parts _ _ outer.0 in
-    (ltb-true _ _ inner.0, ltb-true _ _ inner.1, outer.1)
+joinable id holds = grind arith
 
 joined_as : (id : Id) (n : ℕ) → join id ≡ Some n → Joinable id × (number_of id ≡ n)
 unfolding join
@@ -78,16 +73,11 @@ join_split id n src dst e = let is = joined_as id n e in rw (← is.1) (split_nu
 
 -- an identifier has 29 bits
 pub join_bits : (id : Id) (n : ℕ) → id.src < 2 ^ 8 → id.dst < 2 ^ 8 → join id ≡ Some n → n < 2 ^ 29
-join_bits id n src dst e =
-    let is = joined_as id n e in
-    omega (arith, is.1, is.0.0, is.0.1, specific_small id dst)
+join_bits id n src dst e = grind (arith, joined_as)
 
 joins : (id : Id) (n : ℕ) → id.prio < 8 → id.pgn < 2 ^ 18 → (if is_addressed id.pgn then low_byte id.pgn == 0 else id.dst == everyone) ≡ true → number_of id ≡ n → join id ≡ Some n
 unfolding is_joinable
-joins id n prio pgn rest number =
-    let p : ltb id.prio (2 ^ 3) ≡ true = lt-ltb _ _ prio in
-    let g : ltb id.pgn (2 ^ 18) ≡ true = lt-ltb _ _ pgn in
-    join_some id (rw (p, g) rest) ∙ ap Some number
+joins id n prio pgn rest number = grind (arith, join_some)
 
 module _ (n : ℕ) (bits : n < 2 ^ 29) where
   one_address : Id
@@ -98,23 +88,12 @@ module _ (n : ℕ) (bits : n < 2 ^ 29) where
 
   joins_one : ltb (pdu_format n) 240 ≡ true → join one_address ≡ Some n
   unfolding one_address
-  joins_one test =
-      let format : format_of_pgn (data_page n * 2 ^ 16 + pdu_format n * 2 ^ 8) ≡ pdu_format n = omega arith in
-      let addressed : is_addressed (data_page n * 2 ^ 16 + pdu_format n * 2 ^ 8) ≡ true = rw format test in
-      let low : (low_byte (data_page n * 2 ^ 16 + pdu_format n * 2 ^ 8) == 0) ≡ true = eq-eqb _ _ (omega arith) in
-      joins one_address n (omega arith) (omega arith) (rw addressed low) (rw addressed (omega arith))
+  joins_one test = grind (arith, joins)
 
   joins_all : ltb (pdu_format n) 240 ≡ false → join for_all ≡ Some n
   unfolding for_all
-  joins_all test =
-      let format : format_of_pgn (data_page n * 2 ^ 16 + pdu_format n * 2 ^ 8 + pdu_specific n) ≡ pdu_format n = omega arith in
-      let broadcast : is_addressed (data_page n * 2 ^ 16 + pdu_format n * 2 ^ 8 + pdu_specific n) ≡ false = rw format test in
-      joins for_all n (omega arith) (omega arith) (rw broadcast refl) (rw broadcast (omega arith))
+  joins_all test = grind (arith, joins)
 
   pub split_join : join (split n) ≡ Some n
   unfolding split one_address for_all
-  split_join =
-      elim (cases_Bool (ltb (pdu_format n) 240)) [
-        | inl one ↦ rw one (joins_one one)
-        | inr all ↦ rw all (joins_all all)
-      ]
+  split_join = grind (arith, joins_one, joins_all)

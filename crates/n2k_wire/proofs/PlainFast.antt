@@ -1,13 +1,11 @@
 -- A plain line in which everything stands where canboat puts it.
-use Rattle.std.proofs.Common.{◌≡◌, ℕ, zero, suc, ◌+◌, ◌-◌, ◌*◌, ◌%◌, ◌^◌, ◌<◌, ◌≤◌, Bool, true, false, cond, eqb, not, w8, List, [], ◌∷◌, ◌++◌, length, get_or, map, replicate, drop, take, Option, Some, None, Ok, refl, ap, sym, subst, ◌∙◌, arith, leb}
-use Rattle.std.specs.Prelude.{◌==◌, IsTrue}
+use Rattle.std.proofs.Common.{◌≡◌, ℕ, zero, suc, ◌+◌, ◌-◌, ◌*◌, ◌%◌, ◌^◌, ◌<◌, ◌≤◌, Bool, true, false, cond, eqb, not, w8, List, [], ◌∷◌, ◌++◌, length, get_or, map, replicate, drop, take, Option, Some, None, Ok, refl, ap, sym, subst, ◌∙◌, arith, ◌==◌, IsTrue, append-nil, length-append, length-take-le, take-append-drop, take-take}
 use Rattle.std.specs.Char.{is_ascii_digit, is_ascii_hexdigit}
 use Rattle.std.specs.List.{list_all}
 use Rattle.std.specs.Result.{result_ok}
-use Rattle.std.proofs.lemmas.Bool.{and_parts, eqb-true, le-leb, not-false}
+use Rattle.std.proofs.lemmas.Bool.{and_parts, eqb-true, not-false}
 use Rattle.std.proofs.lemmas.Simd.{bitmask_splat}
-use Rattle.std.proofs.lemmas.List.{append-nil, length-append, length-take-le, take-append-drop, take-take}
-use Rattle.std.proofs.lemmas.List.Elements.{All-nil, All-cons, All-weaker}
+use Rattle.std.proofs.lemmas.List.Elements.{All-weaker}
 use Rattle.std.proofs.lemmas.List.Sums.{AllPass-from_list_all}
 use lib.Lanes.{mask_l, pick_l, top, zip2}
 use Rattle.hex.specs.Hex.{decode_of}
@@ -17,60 +15,47 @@ use Rattle.n2k_wire.specs.declared.entry.Packing.{Packing}
 use Rattle.n2k_wire.specs.declared.entry.Packing.TheVariants as packings
 use Rattle.n2k_wire.specs.declared.identifier.Id.{Id}
 use Rattle.n2k_wire.specs.Digits.{decimal_number}
-use Rattle.n2k_wire.specs.Entry.{entry, is_candump, is_skipped, settled}
+use Rattle.n2k_wire.specs.Entry.{entry}
 use Rattle.n2k_wire.specs.Packet.{is_stamp, is_stamp_byte, starts_stamp}
 use Rattle.n2k_wire.specs.Pieces.{after_byte}
-use Rattle.n2k_wire.specs.Plain.{bytes_of, header, id_of, number_to, packed, packet_of, pairs, columns, plain_packet}
+use Rattle.n2k_wire.specs.Plain.{bytes_of, header, id_of, number_to, packet_of, pairs, columns, plain_packet}
 use Rattle.n2k_wire.specs.Inner.Digits.{hex_value}
 use Rattle.n2k_wire.specs.Inner.Plain.{AreRead, AreSpelled, IsIdBefore, IsNumberBefore, IsPackedOf, with_commas}
-use Rattle.n2k_wire.specs.Steps.{◌>>=◌}
 use Rattle.n2k_wire.proofs.CandumpBack.{is_other}
 use Rattle.n2k_wire.proofs.HexDigits.{all_front, pair_spelled, spelled, spelled_bytes}
 use Rattle.n2k_wire.proofs.PlainTexts.{partly}
-use Rattle.n2k_wire.proofs.PlainLemmas.{bytes_of-pairs, regroup, with_front}
-use Rattle.n2k_wire.proofs.ReadBack.{HasNoComma, last_column, next_column, not_candump, not_skipped, plain_entry, stamp_parts}
+use Rattle.n2k_wire.proofs.PlainLemmas.{bytes_of-pairs, regroup}
+use Rattle.n2k_wire.proofs.ReadBack.{HasNoComma, last_column, next_column, plain_entry, stamp_parts}
 use Rattle.n2k_wire.proofs.TextLemmas.{listed, listed_all}
 use Rattle.n2k_wire.proofs.FastStamps.{follows, number_digits}
 
 -- ---- the stamp
 
 pub line_parts : (n : ℕ) (line stamp behind text : List ℕ) → stamp ≡ take n line → behind ≡ drop n line → after_byte 44 behind ≡ Some text → line ≡ stamp ++ (44 ∷ text)
-line_parts n line stamp behind text stamp_is behind_is comma =
-    sym (rw (stamp_is, sym (follows 44 behind text comma), behind_is) (take-append-drop n line))
+line_parts n line stamp behind text stamp_is behind_is comma = grind (arith, follows, take-append-drop)
 
 pub is_found : (n : ℕ) (line front stamp : List ℕ) → front ≡ take 32 line → stamp ≡ take n line → n ≤ 32 → length stamp ≡ n → list_all is_stamp_byte (take n front) ≡ true → starts_stamp stamp ≡ true → IsTrue (is_stamp stamp)
-is_found n line front stamp front_is stamp_is few long all starts =
-    let same : take n front ≡ stamp = ap (take n) front_is ∙ take-take n 32 line few ∙ sym stamp_is in
-    let bytes : list_all is_stamp_byte stamp ≡ true = rw same at all in
-    let fits : leb (length stamp) 32 ≡ true = le-leb (length stamp) 32 (omega arith) in
-    rw (starts, fits, bytes) refl
+is_found n line front stamp front_is stamp_is few long all starts = grind (arith, take-take n 32 line few)
 
 -- ---- numbers
 
 -- what was read as a number has digits alone
 read_digits : (limit n : ℕ) (column : List ℕ) (read : Option ℕ) → decimal_number 10 column ≡ read → number_to limit column ≡ Some n → list_all is_ascii_digit column ≡ true
 unfolding number_to
-read_digits limit n column None e found = absurd (let none = rw e at found in cc)
-read_digits limit n column (Some k) e found = number_digits 10 k column e
+read_digits limit n column read e found = grind (arith, number_digits)
 
 no_comma_among : (column : List ℕ) → list_all is_ascii_digit column ≡ true → HasNoComma column
 no_comma_among column all = All-weaker (λ b. is_ascii_digit b ≡ true) (λ b. (b == 44) ≡ false) (is_other is_ascii_digit 44 refl) column (AllPass-from_list_all is_ascii_digit column all)
 
 -- digits before a comma are a column
 pub numbered : (limit n : ℕ) (text column behind rest : List ℕ) → column ++ behind ≡ text → after_byte 44 behind ≡ Some rest → number_to limit column ≡ Some n → IsNumberBefore limit text n rest
-numbered limit n text column behind rest whole comma found =
-    let text_is : text ≡ column ++ (44 ∷ rest) = sym whole ∙ ap (λ (t : List ℕ). column ++ t) (follows 44 behind rest comma) in
-    let alone = no_comma_among column (read_digits limit n column (decimal_number 10 column) refl found) in
-    (column, ap (λ (t : List ℕ). columns t) text_is ∙ next_column column rest alone, found)
+numbered limit n text column behind rest whole comma found = grind (arith, follows, no_comma_among, read_digits, next_column)
 
 -- ---- columns that were read
 
 -- what was read before, and then more
 pub read_more : (all next rest : List (List ℕ)) (front bytes : List ℕ) → AreRead all front next → AreRead next bytes rest → AreRead all (front ++ bytes) rest
-read_more all next rest front bytes a b = record {
-  count = omega (arith, a.count, b.count, length-append front bytes);
-  read = a.read ∙ ap (with_front front) b.read ∙ regroup front bytes (pairs rest);
-}
+read_more all next rest front bytes a b = grind (arith, length-append, regroup)
 
 -- all were read
 pub all_read : (all : List (List ℕ)) (bytes : List ℕ) → AreRead all bytes [] → bytes_of (length bytes) all ≡ Some bytes
@@ -80,25 +65,17 @@ all_read all bytes is = bytes_of-pairs (length bytes) all (omega (arith, is.coun
 -- a frame's data
 frame_made : (text stamp bytes : List ℕ) (id : Id) (e : Entry) → AreRead (columns text) bytes [] → length bytes ≡ 8 → e ≡ entries.Frame (record { stamp = stamp; id = id; payload = bytes })
     → IsPackedOf packings.Frames stamp id (bytes_of 8 (columns text)) e
-frame_made text stamp bytes id e read eight is =
-    let payload : bytes_of 8 (columns text) ≡ Some bytes = rw eight at (all_read (columns text) bytes read) in
-    rw (payload, eight, is) refl
+frame_made text stamp bytes id e read eight is = grind (arith, all_read)
 
 -- the first bytes of what was taken
 pub all_taken : (all more : List (List ℕ)) (room bytes last : List ℕ) (e len : ℕ) → AreRead all (take e room) more → AreRead more (take (len - e) last) [] → take (e + 8) bytes ≡ take e room ++ last
     → e ≤ length room → length last ≡ 8 → e < len → len ≤ e + 8 → bytes_of len all ≡ Some (take len bytes)
-all_taken all more room bytes last e len first rest written inside eight past within =
-    let same : e + (len - e) ≡ len = omega arith in
-    let taken : take len bytes ≡ take e room ++ take (len - e) last = rw same at (partly bytes room last e (len - e) 8 written (omega arith) inside) in
-    let long : length (take e room ++ take (len - e) last) ≡ len = omega (arith, length-append (take e room) (take (len - e) last), length-take-le e room inside, length-take-le (len - e) last (omega arith)) in
-    rw taken (rw long at (all_read all (take e room ++ take (len - e) last) (read_more all more [] (take e room) (take (len - e) last) first rest)))
+all_taken all more room bytes last e len first rest written inside eight past within = grind (arith, partly bytes room last e (len - e) 8 written (omega arith) inside, length-append (take e room) (take (len - e) last), length-take-le e room inside, length-take-le (len - e) last (omega arith), all_read all (take e room ++ take (len - e) last) (read_more all more [] (take e room) (take (len - e) last) first rest))
 
 -- ---- digits with commas between them
 
 two_no_comma : (a b : ℕ) → is_ascii_hexdigit a ≡ true → is_ascii_hexdigit b ≡ true → HasNoComma (a ∷ b ∷ [])
-two_no_comma a b ea eb =
-    All-cons (λ x. (x == 44) ≡ false) a (b ∷ []) (is_other is_ascii_hexdigit 44 refl a ea)
-    (All-cons (λ x. (x == 44) ≡ false) b [] (is_other is_ascii_hexdigit 44 refl b eb) (All-nil (λ x. (x == 44) ≡ false)))
+two_no_comma a b ea eb = grind (arith, is_other is_ascii_hexdigit 44 refl a ea, is_other is_ascii_hexdigit 44 refl b eb)
 
 -- these columns follow a column that stands before this text
 abbrev Follow : List ℕ → List (List ℕ) → Type 0
@@ -129,17 +106,11 @@ digits_read n (a ∷ b ∷ c ∷ rest) text more ends all e =
 
 -- eight columns and what follows them
 eight_read : (text bytes behind : List ℕ) (more : List (List ℕ)) → AreSpelled text bytes → Follow behind more → AreRead (columns (text ++ behind)) bytes more
-eight_read text bytes behind more is ends =
-    let same : spelled is.digits ≡ bytes = spelled_bytes 8 is.digits bytes is.hexadecimal is.count is.bytes_are in
-    let read = digits_read 7 is.digits behind more ends is.hexadecimal is.count in
-    subst (λ t. AreRead (columns (t ++ behind)) bytes more) (sym is.text_is) (subst (λ bs. AreRead (columns (with_commas is.digits ++ behind)) bs more) same read)
+eight_read text bytes behind more is ends = grind (arith, spelled_bytes 8 is.digits bytes is.hexadecimal is.count is.bytes_are, digits_read 7 is.digits behind more ends is.hexadecimal is.count)
 
 -- a comma and more columns follow
 pub read_before : (text chunk bytes behind rest : List ℕ) → AreSpelled chunk bytes → text ≡ chunk ++ behind → after_byte 44 behind ≡ Some rest → AreRead (columns text) bytes (columns rest)
-read_before text chunk bytes behind rest is whole comma =
-    let behind_is = follows 44 behind rest comma in
-    subst (λ t. AreRead (columns t) bytes (columns rest)) (sym whole)
-    (eight_read chunk bytes behind (columns rest) is (λ column alone. ap (λ t. columns (column ++ t)) behind_is ∙ next_column column rest alone))
+read_before text chunk bytes behind rest is whole comma = grind (arith, eight_read chunk bytes behind (columns rest) is (λ column alone. ap (λ t. columns (column ++ t)) (follows 44 behind rest comma) ∙ next_column column rest alone))
 
 nothing_more : Follow [] []
 nothing_more column alone = ap columns (append-nil column) ∙ last_column column alone
@@ -190,8 +161,7 @@ read_last text padded bytes (suc j) is front_is long some few =
 -- ---- by their places
 
 no_bit : (m : Bool) (rest : ℕ) → cond m 1 0 + 2 * rest ≡ 0 → (m ≡ false) × (rest ≡ 0)
-no_bit true rest none = absurd (omega arith)
-no_bit false rest none = (refl, omega arith)
+no_bit m rest none = grind arith
 
 all_commas : (lanes : List ℕ) → mask_l (map (λ b. not (eqb b 44)) lanes) ≡ 0 → (i : ℕ) → i < length lanes → get_or lanes i 0 ≡ 44
 all_commas [] none i within = absurd (omega arith)
@@ -229,21 +199,13 @@ eight_spelled text bytes long commas hex decoded =
 packet_read : (line stamp text behind rest payload : List ℕ) (id : Id) (n : ℕ) → line ≡ stamp ++ (44 ∷ text) → IsTrue (is_stamp stamp) → IsIdBefore text id behind → IsNumberBefore 223 behind n rest → bytes_of n (columns rest) ≡ Some payload
     → plain_packet line ≡ Ok (record { stamp = stamp; id = id; payload = payload })
 unfolding packet_of header id_of
-packet_read line stamp text behind rest payload id n line_is ok (pgn, src, dst, first, second, third, fourth) len bytes =
-    let cut = ap (λ (t : List ℕ). columns t) line_is ∙ next_column stamp text (stamp_parts stamp ok).2 in
-    rw (cut, first.1, second.1, third.1, fourth.1, len.1, ok, first.2, second.2, third.2, fourth.2, len.2, bytes) refl
+packet_read line stamp text behind rest payload id n line_is ok (pgn, src, dst, first, second, third, fourth) len bytes = grind (arith, next_column, stamp_parts)
 
 -- the entry of a line, by its parts and what its data make of them
 pub entry_read : (packing : Packing) (line stamp text behind rest : List ℕ) (id : Id) (n : ℕ) (e : Entry) → line ≡ stamp ++ (44 ∷ text) → length line ≤ 2048 → IsTrue (is_stamp stamp) → IsIdBefore text id behind → IsNumberBefore 223 behind n rest
     → (bytes : Option (List ℕ)) → bytes_of n (columns rest) ≡ bytes → IsPackedOf packing stamp id bytes e → e ≡ entry line packing
 entry_read packing line stamp text behind rest id n e line_is short ok is len None read made = absurd cc
-entry_read packing line stamp text behind rest id n e line_is short ok is len (Some payload) read made =
-    let parts = stamp_parts stamp ok in
-    let kept : is_skipped line ≡ false = rw line_is (not_skipped stamp (44 ∷ text) parts.0) in
-    let other : is_candump line ≡ false = rw line_is (not_candump stamp (44 ∷ text) parts.0) in
-    let packet = packet_read line stamp text behind rest payload id n line_is ok is len read in
-    let same : packed packing (record { stamp = stamp; id = id; payload = payload }) ≡ e = cc in
-    sym same ∙ sym (plain_entry line packing short kept other ∙ ap (λ r. settled (r >>= (λ q. Ok (packed packing q)))) packet)
+entry_read packing line stamp text behind rest id n e line_is short ok is len (Some payload) read made = grind (arith, packet_read line stamp text behind rest payload id n line_is ok is len read, plain_entry)
 
 -- the frame of a line with eight bytes of data
 pub frame_line : (line stamp text behind rest eight bytes : List ℕ) (id : Id) (e : Entry) → line ≡ stamp ++ (44 ∷ text) → length line ≤ 2048 → IsTrue (is_stamp stamp) → IsIdBefore text id behind → IsNumberBefore 223 behind 8 rest

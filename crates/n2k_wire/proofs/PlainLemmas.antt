@@ -1,8 +1,6 @@
 -- Reading the bytes of a plain line, one column at a time.
-use Rattle.std.proofs.Common.{◌≡◌, ℕ, List, [], ◌∷◌, ◌++◌, length, Option, Some, None, refl, ap, ◌∙◌, append_assoc, inl, inr}
-use Rattle.std.specs.Prelude.{option_map}
-use Rattle.std.proofs.lemmas.Bool.{eq-eqb, ne_eqb, cases_eq}
-use Rattle.std.proofs.lemmas.List.{append-nil}
+use Rattle.std.proofs.Common.{arith, ◌≡◌, ℕ, List, [], ◌∷◌, ◌++◌, length, Option, Some, None, refl, ap, append_assoc, option_map, append-nil}
+use Rattle.std.proofs.lemmas.Bool.{eq-eqb, ne_eqb}
 use Rattle.n2k_wire.specs.Plain.{pair, pairs, bytes_of}
 
 -- what was read before, and what is still read
@@ -10,8 +8,7 @@ abbrev pub with_front : List ℕ → Option (List ℕ) → Option (List ℕ)
 with_front front read = option_map (λ bytes. front ++ bytes) read
 
 pub regroup : (front byte : List ℕ) (read : Option (List ℕ)) → with_front front (option_map (λ bytes. byte ++ bytes) read) ≡ with_front (front ++ byte) read
-regroup front byte None = refl
-regroup front byte (Some bytes) = simp append_assoc
+regroup front byte read = grind (arith, append_assoc)
 
 pub reads_column : (front byte column : List ℕ) (more : List (List ℕ)) → pair column ≡ Some byte → with_front front (pairs (column ∷ more)) ≡ with_front (front ++ byte) (pairs more)
 unfolding pairs
@@ -36,8 +33,4 @@ bytes_of-other len more other = rw (ne_eqb (length more) len other) refl
 
 -- a column that is no byte, among as many columns as there should be or not
 pub bytes_of-bad : (len : ℕ) (more : List (List ℕ)) → pairs more ≡ None → bytes_of len more ≡ None
-bytes_of-bad len more bad =
-    elim (cases_eq (length more) len) [
-      | inl same ↦ bytes_of-pairs len more same ∙ bad
-      | inr other ↦ bytes_of-other len more other
-    ]
+bytes_of-bad len more bad = grind (arith, bytes_of-pairs, bytes_of-other)

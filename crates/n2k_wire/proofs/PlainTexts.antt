@@ -1,6 +1,5 @@
 -- Plain lines, written in pieces of constant length.
-use Rattle.std.proofs.Common.{◌≡◌, ℕ, suc, ◌+◌, ◌-◌, ◌*◌, ◌/◌, ◌%◌, ◌^◌, ◌<◌, ◌≤◌, true, cond, eqb, ltb, List, [], ◌∷◌, ◌++◌, length, get_or, map, take, replicate, bit_and, refl, sym, ap, ◌∙◌, append_assoc, arith, inl, inr}
-use Rattle.std.specs.Prelude.{codes, decimal}
+use Rattle.std.proofs.Common.{◌≡◌, ℕ, suc, ◌+◌, ◌-◌, ◌*◌, ◌/◌, ◌%◌, ◌^◌, ◌<◌, ◌≤◌, true, cond, eqb, ltb, List, [], ◌∷◌, ◌++◌, length, get_or, map, take, replicate, bit_and, refl, ap, append_assoc, arith, inl, inr, codes, length-take-le, take-take}
 use Rattle.std.specs.List.{flat_map}
 use Rattle.std.specs.Int.{w32, w64, to_le_bytes}
 use Rattle.std.proofs.lemmas.Bool.{agree_below_at, cases_Bool, cases_lt, eqb-true}
@@ -8,7 +7,6 @@ use Rattle.std.proofs.lemmas.Nat.{and_mask}
 use Rattle.hex.specs.Hex.{encode_with, lower_digits}
 use Rattle.n2k_wire.specs.Packet.{PacketParts}
 use Rattle.n2k_wire.specs.Inner.Digits.{lower_lane}
-use Rattle.std.proofs.lemmas.List.{length-take-le, take-take}
 use lib.Lanes.{pick_l, sel_l, top, zip2}
 use Rattle.itoa.proofs.Decimal.{decimal_two, decimal_four}
 use Rattle.std.proofs.lemmas.Fmt.{decimal_digit}
@@ -16,9 +14,7 @@ use Rattle.n2k_wire.specs.Texts.{byte_piece, number_piece, plain_line, plain_tex
 use Rattle.n2k_wire.proofs.TextLemmas.{listed, listed_all, piece_of_one, piece_of_two, piece_of_three}
 
 take_past : (p q : List ℕ) (k : ℕ) → take (length p + k) (p ++ q) ≡ p ++ take k q
-take_past [] q k =
-    let none : length {A = ℕ} [] + k ≡ k = omega arith in
-    ap (λ j. take j q) none
+take_past [] q k = grind arith
 take_past (x ∷ p) q k =
     let one : length (x ∷ p) + k ≡ suc (length p + k) = omega arith in
     rw one (ap (λ (t : List ℕ). x ∷ t) (take_past p q k))
@@ -26,11 +22,7 @@ take_past (x ∷ p) q k =
 -- the first of some bytes that were written behind others
 pub partly : (new old bytes : List ℕ) (at count n : ℕ) → take (at + n) new ≡ take at old ++ bytes → count ≤ n → at ≤ length old
     → take (at + count) new ≡ take at old ++ take count bytes
-partly new old bytes at count n is few inside =
-    let len : length (take at old) ≡ at = length-take-le at old inside in
-    let place : length (take at old) + count ≡ at + count = omega (arith, len) in
-    sym (take-take (at + count) (at + n) new (omega arith)) ∙ ap (take (at + count)) is
-    ∙ ap (λ k. take k (take at old ++ bytes)) (sym place) ∙ take_past (take at old) bytes count
+partly new old bytes at count n is few inside = grind (arith, length-take-le at old inside, take-take (at + count) (at + n) new (omega arith), take_past (take at old) bytes count)
 
 -- ---- numbers
 
@@ -38,52 +30,23 @@ partly new old bytes at count n is few inside =
 abbrev pub digits_of : ℕ → ℕ
 digits_of n = 48 + (48 + n / 100) * 2 ^ 8 + (48 + n / 10 % 10) * 2 ^ 16 + (48 + n % 10) * 2 ^ 24
 
-four_bytes : (x a b c d : ℕ) → a < 256 → b < 256 → c < 256 → d < 256 → x ≡ a + b * 2 ^ 8 + c * 2 ^ 16 + d * 2 ^ 24 → to_le_bytes w32 x ≡ a ∷ b ∷ c ∷ d ∷ []
-four_bytes x a b c d A B C D is =
-    let first : x % 256 ≡ a = omega arith in
-    let second : x / 256 ^ 1 % 256 ≡ b = omega arith in
-    let third : x / 256 ^ 2 % 256 ≡ c = omega arith in
-    let fourth : x / 256 ^ 3 % 256 ≡ d = omega arith in
-    λ i. first i ∷ second i ∷ third i ∷ fourth i ∷ []
-
 eight_bytes : (x a b c d e f g h : ℕ) → a < 256 → b < 256 → c < 256 → d < 256 → e < 256 → f < 256 → g < 256 → h < 256
     → x ≡ a + b * 2 ^ 8 + c * 2 ^ 16 + d * 2 ^ 24 + (e + f * 2 ^ 8 + g * 2 ^ 16 + h * 2 ^ 24) * 2 ^ 32 → to_le_bytes w64 x ≡ a ∷ b ∷ c ∷ d ∷ e ∷ f ∷ g ∷ h ∷ []
-eight_bytes x a b c d e f g h A B C D E F G H is =
-    let first : x % 256 ≡ a = omega arith in
-    let second : x / 256 ^ 1 % 256 ≡ b = omega arith in
-    let third : x / 256 ^ 2 % 256 ≡ c = omega arith in
-    let fourth : x / 256 ^ 3 % 256 ≡ d = omega arith in
-    let fifth : x / 256 ^ 4 % 256 ≡ e = omega arith in
-    let sixth : x / 256 ^ 5 % 256 ≡ f = omega arith in
-    let seventh : x / 256 ^ 6 % 256 ≡ g = omega arith in
-    let eighth : x / 256 ^ 7 % 256 ≡ h = omega arith in
-    λ i. first i ∷ second i ∷ third i ∷ fourth i ∷ fifth i ∷ sixth i ∷ seventh i ∷ eighth i ∷ []
+eight_bytes x a b c d e f g h A B C D E F G H is = grind arith
 
 one_digit : (n : ℕ) → n < 10 → take 2 (to_le_bytes w32 (digits_of n / 2 ^ 16 - 4)) ≡ number_piece n
-one_digit n small =
-    ap (take 2) (four_bytes _ 44 (48 + n % 10) 0 0 (omega arith) (omega arith) (omega arith) (omega arith) (omega arith)) ∙ sym (piece_of_one n small)
+one_digit n small = grind (arith, piece_of_one)
 
 two_digits : (n : ℕ) → 10 ≤ n → n < 100 → take 3 (to_le_bytes w32 (digits_of n / 2 ^ 8 - 4)) ≡ number_piece n
-two_digits n large small =
-    ap (take 3) (four_bytes _ 44 (48 + n / 10 % 10) (48 + n % 10) 0 (omega arith) (omega arith) (omega arith) (omega arith) (omega arith)) ∙ sym (piece_of_two n large small)
+two_digits n large small = grind (arith, piece_of_two)
 
 three_digits : (n : ℕ) → 100 ≤ n → n < 1000 → take 4 (to_le_bytes w32 (digits_of n / 2 ^ 0 - 4)) ≡ number_piece n
-three_digits n large small =
-    ap (take 4) (four_bytes _ 44 (48 + n / 100) (48 + n / 10 % 10) (48 + n % 10) (omega arith) (omega arith) (omega arith) (omega arith) (omega arith))
-    ∙ sym (piece_of_three n large small)
+three_digits n large small = grind (arith, piece_of_three)
 
 -- the comma takes the place of the last zero
 pub piece_of_small : (n free : ℕ) → n < 256 → (n < 10 → free ≡ 2) → (10 ≤ n → n < 100 → free ≡ 1) → (100 ≤ n → free ≡ 0)
     → take (4 - free) (to_le_bytes w32 (digits_of n / 2 ^ (8 * free) - 4)) ≡ number_piece n
-piece_of_small n free byte two one none =
-    elim (cases_lt n 10) [
-      | inl small ↦ rw (two small) (one_digit n small)
-      | inr large ↦
-          elim (cases_lt n 100) [
-            | inl small ↦ rw (one large small) (two_digits n large small)
-            | inr larger ↦ rw (none larger) (three_digits n larger (omega arith))
-          ]
-    ]
+piece_of_small n free byte two one none = grind (arith, one_digit, two_digits, three_digits)
 
 -- ---- PGNs of five and six digits
 
@@ -92,38 +55,13 @@ abbrev pub pgn_of : ℕ → ℕ
 pgn_of n = digits_of (n / 1000) + digits_of (n % 1000) / 256 * 4294967296
 
 pub piece_of_six : (n : ℕ) → 100000 ≤ n → n < 1000000 → take 7 (to_le_bytes w64 (pgn_of n - 4)) ≡ number_piece n
-piece_of_six n large small =
-    let a : n / 10000 / 10 ≡ n / 1000 / 100 = omega arith in
-    let b : n / 10000 % 10 ≡ n / 1000 / 10 % 10 = omega arith in
-    let c : n % 10000 / 100 / 10 ≡ n / 1000 % 10 = omega arith in
-    let d : n % 10000 / 100 % 10 ≡ n % 1000 / 100 = omega arith in
-    let e : n % 10000 % 100 / 10 ≡ n % 1000 / 10 % 10 = omega arith in
-    let f : n % 10000 % 100 % 10 ≡ n % 1000 % 10 = omega arith in
-    ap (take 7) (eight_bytes _ 44 (48 + n / 1000 / 100) (48 + n / 1000 / 10 % 10) (48 + n / 1000 % 10) (48 + n % 1000 / 100) (48 + n % 1000 / 10 % 10) (48 + n % 1000 % 10) 0
-    (omega arith) (omega arith) (omega arith) (omega arith) (omega arith) (omega arith) (omega arith) (omega arith) (omega arith))
-    ∙ sym (rw (decimal_four n (omega arith) (omega arith), decimal_two (n / 10000) (omega arith) (omega arith), a, b, c, d, e, f) refl)
+piece_of_six n large small = grind (arith, decimal_four, decimal_two)
 
 pub piece_of_five : (n : ℕ) → 10000 ≤ n → n < 100000 → take 6 (to_le_bytes w64 (pgn_of n / 256 - 4)) ≡ number_piece n
-piece_of_five n large small =
-    let b : n / 10000 ≡ n / 1000 / 10 % 10 = omega arith in
-    let c : n % 10000 / 100 / 10 ≡ n / 1000 % 10 = omega arith in
-    let d : n % 10000 / 100 % 10 ≡ n % 1000 / 100 = omega arith in
-    let e : n % 10000 % 100 / 10 ≡ n % 1000 / 10 % 10 = omega arith in
-    let f : n % 10000 % 100 % 10 ≡ n % 1000 % 10 = omega arith in
-    ap (take 6) (eight_bytes _ 44 (48 + n / 1000 / 10 % 10) (48 + n / 1000 % 10) (48 + n % 1000 / 100) (48 + n % 1000 / 10 % 10) (48 + n % 1000 % 10) 0 0
-    (omega arith) (omega arith) (omega arith) (omega arith) (omega arith) (omega arith) (omega arith) (omega arith) (omega arith))
-    ∙ sym (rw (decimal_four n (omega arith) (omega arith), decimal_digit (n / 10000) (omega arith), b, c, d, e, f) refl)
+piece_of_five n large small = grind (arith, decimal_four, decimal_digit)
 
 pub word_is_large : (n free : ℕ) → free ≤ 2 → 4 ≤ digits_of n / 2 ^ (8 * free)
-word_is_large n free few =
-    elim (cases_lt free 1) [
-      | inl none ↦ (let is : free ≡ 0 = omega arith in rw is (omega arith))
-      | inr some ↦
-          elim (cases_lt free 2) [
-            | inl one ↦ (let is : free ≡ 1 = omega arith in rw is (omega arith))
-            | inr two ↦ (let is : free ≡ 2 = omega arith in rw is (omega arith))
-          ]
-    ]
+word_is_large n free few = grind (arith, cases_lt free 1, cases_lt free 2)
 
 -- ---- the eight bytes
 
@@ -140,9 +78,7 @@ high_digit : (b : ℕ) → b < 256 → lower_lane (b / 16) ≡ get_or lower_digi
 high_digit b byte = lane_is (b / 16) (omega arith)
 
 low_digit : (b : ℕ) → lower_lane (bit_and b 15) ≡ get_or lower_digits (b % 16) 0
-low_digit b =
-    let low : bit_and b 15 ≡ b % 16 = and_mask b 4 in
-    rw low (lane_is (b % 16) (omega arith))
+low_digit b = grind (arith, and_mask b 4)
 
 abbrev pub pieces_of : List ℕ → List ℕ
 pieces_of bytes = number_piece 8 ++ flat_map byte_piece bytes ++ codes "\n"
@@ -155,19 +91,11 @@ end_of bytes =
 end_of_eight : (a b c d e f g h : ℕ) → a < 256 → b < 256 → c < 256 → d < 256 → e < 256 → f < 256 → g < 256 → h < 256
     → end_of (a ∷ b ∷ c ∷ d ∷ e ∷ f ∷ g ∷ h ∷ []) ≡ pieces_of (a ∷ b ∷ c ∷ d ∷ e ∷ f ∷ g ∷ h ∷ [])
 unfolding encode_with
-end_of_eight a b c d e f g h A B C D E F G H =
-    let eight : decimal 8 ≡ 56 ∷ [] = decimal_digit 8 (omega arith) in
-    rw eight (λ i.
-    44 ∷ 56 ∷ 44 ∷ high_digit a A i ∷ low_digit a i ∷ 44 ∷ high_digit b B i ∷ low_digit b i ∷ 44 ∷ high_digit c C i ∷ low_digit c i ∷ 44 ∷ high_digit d D i ∷ low_digit d i
-    ∷ 44 ∷ high_digit e E i ∷ low_digit e i ∷ 44 ∷ high_digit f F i ∷ low_digit f i ∷ 44 ∷ high_digit g G i ∷ low_digit g i ∷ 44 ∷ high_digit h H i ∷ low_digit h i ∷ 10 ∷ [])
+end_of_eight a b c d e f g h A B C D E F G H = grind (arith, decimal_digit, high_digit, low_digit)
 
 pub end_is : (bytes : List ℕ) → length bytes ≡ 8 → ((k : ℕ) → get_or bytes k 0 < 256) → end_of bytes ≡ pieces_of bytes
 unfolding listed
-end_is bytes long small =
-    let each = listed_all 8 0 bytes long in
-    ap end_of each
-    ∙ end_of_eight (get_or bytes 0 0) (get_or bytes 1 0) (get_or bytes 2 0) (get_or bytes 3 0) (get_or bytes 4 0) (get_or bytes 5 0) (get_or bytes 6 0) (get_or bytes 7 0) (small 0) (small 1) (small 2) (small 3) (small 4) (small 5) (small 6) (small 7)
-    ∙ ap pieces_of (sym each)
+end_is bytes long small = grind (arith, listed_all 8 0 bytes long, end_of_eight (get_or bytes 0 0) (get_or bytes 1 0) (get_or bytes 2 0) (get_or bytes 3 0) (get_or bytes 4 0) (get_or bytes 5 0) (get_or bytes 6 0) (get_or bytes 7 0) (small 0) (small 1) (small 2) (small 3) (small 4) (small 5) (small 6) (small 7))
 
 -- ---- the line
 
@@ -178,5 +106,4 @@ pub line_is : (p : PacketParts) (t0 t1 t2 t3 t4 t5 t6 stamp prio pgn src dst byt
     → stamp ≡ p.stamp → prio ≡ number_piece p.id.prio → pgn ≡ number_piece p.id.pgn → src ≡ number_piece p.id.src → dst ≡ number_piece p.id.dst
     → bytes ≡ p.payload → t6 ≡ t0 ++ plain_text p
 unfolding plain_line
-line_is p t0 t1 t2 t3 t4 t5 t6 stamp prio pgn src dst bytes a b c d e f stamp_is prio_is pgn_is src_is dst_is bytes_are =
-    rw (f, e, d, c, b, a, stamp_is, prio_is, pgn_is, src_is, dst_is, bytes_are) (simp append_assoc)
+line_is p t0 t1 t2 t3 t4 t5 t6 stamp prio pgn src dst bytes a b c d e f stamp_is prio_is pgn_is src_is dst_is bytes_are = grind (arith, append_assoc)

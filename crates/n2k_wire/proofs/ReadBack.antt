@@ -1,8 +1,7 @@
 -- The plain line of a packet is read as that packet.
-use Rattle.std.proofs.Common.{◌≡◌, ℕ, zero, suc, ◌+◌, ◌*◌, ◌/◌, ◌%◌, ◌^◌, ◌<◌, ◌≤◌, true, false, List, [], ◌∷◌, ◌++◌, map, length, Some, None, Ok, ltb, leb, not, refl, ap, ◌∙◌, arith, append_assoc, length-append}
-use Rattle.std.specs.Prelude.{◌==◌, ◌&&◌, decimal, option_and_then, slice_index, IsTrue}
+use Rattle.std.proofs.Common.{◌≡◌, ℕ, zero, suc, ◌+◌, ◌*◌, ◌/◌, ◌%◌, ◌^◌, ◌<◌, ◌≤◌, true, false, List, [], ◌∷◌, ◌++◌, map, length, Some, None, Ok, ltb, leb, not, refl, ap, ◌∙◌, arith, append_assoc, length-append, ◌==◌, ◌&&◌, decimal, option_and_then, slice_index, IsTrue}
 use Rattle.std.specs.List.{All, list_all, flat_map}
-use Rattle.std.proofs.lemmas.Bool.{agree_below_at, and_parts, leb-true, le-leb, le-ltb, lt-ltb, ne_eqb, not-true}
+use Rattle.std.proofs.lemmas.Bool.{agree_below_at, and_parts, leb-true, le-leb, lt-ltb, ne_eqb, not-true}
 use Rattle.std.proofs.lemmas.Fmt.{decimal_by_steps, length-decimal-le, decimal_nonempty}
 use Rattle.std.proofs.lemmas.List.{append-nil, length-map}
 use Rattle.std.proofs.lemmas.List.Elements.{All-nil, All-cons, All-append, All-weaker}
@@ -14,8 +13,7 @@ use Rattle.n2k_wire.specs.declared.entry.Packing.{Packing}
 use Rattle.n2k_wire.specs.Digits.{decimal_digit, decimal_after, decimal_number}
 use Rattle.n2k_wire.specs.Entry.{entry, is_skipped, is_candump, settled}
 use Rattle.n2k_wire.specs.Packet.{PacketParts, IsPacketParts, is_printable, is_stamp, is_stamp_byte, starts_stamp}
-use Rattle.n2k_wire.specs.Plain.{columns, number_to, pair, pairs, header, id_of, bytes_of, packed, packet_of, packet_of_columns, plain}
-use Rattle.n2k_wire.specs.Steps.{◌>>=◌}
+use Rattle.n2k_wire.specs.Plain.{columns, number_to, pair, pairs, header, id_of, packed, packet_of, plain}
 use Rattle.n2k_wire.specs.Texts.{byte_piece, number_piece, plain_line}
 use Rattle.n2k_wire.proofs.PlainLemmas.{bytes_of-pairs}
 
@@ -47,11 +45,7 @@ digit_no_comma d h = agree_below_at (λ k. slice_index lower_digits k == 44) (λ
 
 byte_no_comma : (b : ℕ) → b < 256 → HasNoComma (byte_digits b)
 unfolding encode_with
-byte_no_comma b h =
-    let high = digit_no_comma (b / 16) (omega arith) in
-    let low = digit_no_comma (b % 16) (omega arith) in
-    All-cons (λ x. (x == 44) ≡ false) (slice_index lower_digits (b / 16)) (slice_index lower_digits (b % 16) ∷ []) high
-    (All-cons (λ x. (x == 44) ≡ false) (slice_index lower_digits (b % 16)) [] low (All-nil (λ x. (x == 44) ≡ false)))
+byte_no_comma b h = grind (arith, digit_no_comma)
 
 length-byte_digits : (b : ℕ) → length (byte_digits b) ≡ 2
 unfolding encode_with
@@ -74,9 +68,7 @@ bytes_read (b ∷ bytes) h = rw (byte_reads b (h 0), bytes_read bytes (λ i. h (
 -- a column, and behind it one column for each byte
 columns_of_bytes : (front bytes : List ℕ) → HasNoComma front → IsBytes bytes → columns (front ++ flat_map byte_piece bytes) ≡ front ∷ map byte_digits bytes
 columns_of_bytes front [] h bs = rw append-nil (last_column front h)
-columns_of_bytes front (b ∷ bytes) h bs =
-    next_column front (byte_digits b ++ flat_map byte_piece bytes) h
-    ∙ ap (λ more. front ∷ more) (columns_of_bytes (byte_digits b) bytes (byte_no_comma b (bs 0)) (λ i. bs (suc i)))
+columns_of_bytes front (b ∷ bytes) h bs = grind (arith, columns_of_bytes (byte_digits b) bytes (byte_no_comma b (bs 0)) (λ i. bs (suc i)), next_column)
 
 -- three characters for each byte
 length-bytes : (bytes : List ℕ) → length (flat_map byte_piece bytes) ≡ 3 * length bytes
@@ -87,10 +79,7 @@ length-bytes (b ∷ bytes) = omega (arith, length-byte_digits b, length-bytes by
 
 pub digit_reads : (d : ℕ) → d < 10 → decimal_digit (48 + d) ≡ Some d
 unfolding decimal_digit
-digit_reads d h =
-    let low : leb 48 (48 + d) ≡ true = le-leb 48 (48 + d) (omega arith) in
-    let high : leb (48 + d) 57 ≡ true = le-leb (48 + d) 57 (omega arith) in
-    rw (low, high) (ap Some (omega arith))
+digit_reads d h = grind arith
 
 one_digit : (before d : ℕ) → d < 10 → decimal_after before ((48 + d) ∷ []) ≡ Some (10 * before + d)
 unfolding decimal_after
@@ -154,14 +143,6 @@ stamp_parts stamp ok =
       All-weaker (λ b. is_stamp_byte b ≡ true) (λ b. (b == 44) ≡ false) (λ b h. not-true (b == 44) (and_parts (is_printable b) (not (b == 44)) h).1) stamp (AllPass-from_list_all is_stamp_byte stamp outer.1),
     )
 
-pub not_skipped : (stamp more : List ℕ) → starts_stamp stamp ≡ true → is_skipped (stamp ++ more) ≡ false
-not_skipped [] more h = cc
-not_skipped (b ∷ stamp) more h = not-true (b == 35) (and_parts (not (b == 40)) (not (b == 35)) h).1
-
-pub not_candump : (stamp more : List ℕ) → starts_stamp stamp ≡ true → is_candump (stamp ++ more) ≡ false
-not_candump [] more h = cc
-not_candump (b ∷ stamp) more h = not-true (b == 40) (and_parts (not (b == 40)) (not (b == 35)) h).0
-
 -- ---- the line
 
 -- the seven parts of a plain line, grouped to the right
@@ -174,28 +155,11 @@ lengths s a b c d e f = simp length-append
 -- a line that is neither too long, nor skipped, nor of the other format
 pub plain_entry : (line : List ℕ) (packing : Packing) → length line ≤ 2048 → is_skipped line ≡ false → is_candump line ≡ false → entry line packing ≡ settled (plain packing line)
 unfolding entry
-plain_entry line packing short kept other =
-    let fits : ltb 2048 (length line) ≡ false = le-ltb 2048 (length line) short in
-    rw (fits, kept, other) refl
+plain_entry line packing short kept other = grind arith
 
 module _ (p : PacketParts) (packing : Packing) (ok : IsPacketParts p) where
   stamp_is : (starts_stamp p.stamp ≡ true) × (length p.stamp ≤ 32) × HasNoComma p.stamp
   stamp_is = stamp_parts p.stamp ok.packet_ok.stamp_ok
-
-  prio_small : p.id.prio < 10 ^ 10
-  prio_small = omega (arith, ok.packet_ok.prio_ok)
-
-  pgn_small : p.id.pgn < 10 ^ 10
-  pgn_small = omega (arith, ok.packet_ok.pgn_ok)
-
-  src_small : p.id.src < 10 ^ 10
-  src_small = omega (arith, ok.src_ok)
-
-  dst_small : p.id.dst < 10 ^ 10
-  dst_small = omega (arith, ok.dst_ok)
-
-  len_small : length p.payload < 10 ^ 10
-  len_small = omega (arith, ok.packet_ok.payload_ok)
 
   -- what stands behind the stamp
   abbrev behind_stamp : List ℕ
@@ -208,9 +172,7 @@ module _ (p : PacketParts) (packing : Packing) (ok : IsPacketParts p) where
 
   line_short : length (plain_line p) ≤ 2048
   unfolding plain_line
-  line_short =
-      rw (lengths p.stamp (number_piece p.id.prio) (number_piece p.id.pgn) (number_piece p.id.src) (number_piece p.id.dst) (number_piece (length p.payload)) (flat_map byte_piece p.payload))
-      (omega (arith, ok.packet_ok.payload_ok, stamp_is.1, length-number_piece p.id.prio prio_small, length-number_piece p.id.pgn pgn_small, length-number_piece p.id.src src_small, length-number_piece p.id.dst dst_small, length-number_piece (length p.payload) len_small, length-bytes p.payload))
+  line_short = grind (arith, lengths, stamp_is, length-number_piece, length-bytes)
 
   -- the columns behind the stamp
   abbrev behind : List (List ℕ)
@@ -218,31 +180,11 @@ module _ (p : PacketParts) (packing : Packing) (ok : IsPacketParts p) where
       decimal p.id.prio ∷ decimal p.id.pgn ∷ decimal p.id.src ∷ decimal p.id.dst ∷ decimal (length p.payload) ∷ map byte_digits p.payload
 
   columns_are : columns (p.stamp ++ behind_stamp) ≡ p.stamp ∷ behind
-  columns_are =
-      next_column p.stamp _ stamp_is.2
-      ∙ ap (λ more. p.stamp ∷ more)
-      (next_column (decimal p.id.prio) _ (number_no_comma p.id.prio prio_small)
-      ∙ ap (λ more. decimal p.id.prio ∷ more)
-      (next_column (decimal p.id.pgn) _ (number_no_comma p.id.pgn pgn_small)
-      ∙ ap (λ more. decimal p.id.pgn ∷ more)
-      (next_column (decimal p.id.src) _ (number_no_comma p.id.src src_small)
-      ∙ ap (λ more. decimal p.id.src ∷ more)
-      (next_column (decimal p.id.dst) _ (number_no_comma p.id.dst dst_small)
-      ∙ ap (λ more. decimal p.id.dst ∷ more)
-      (columns_of_bytes (decimal (length p.payload)) p.payload (number_no_comma (length p.payload) len_small) ok.bytes_ok)))))
+  columns_are = grind (arith, next_column, stamp_is, number_no_comma, columns_of_bytes)
 
   packet_read : packet_of p.stamp behind ≡ Ok p
   unfolding packet_of header id_of
-  packet_read =
-      let bytes : bytes_of (length p.payload) (map byte_digits p.payload) ≡ Some p.payload =
-      bytes_of-pairs (length p.payload) (map byte_digits p.payload) (length-map p.payload byte_digits) ∙ bytes_read p.payload ok.bytes_ok in
-      rw (ok.packet_ok.stamp_ok, number_reads 7 p.id.prio ok.packet_ok.prio_ok (omega arith), number_reads 16777215 p.id.pgn ok.packet_ok.pgn_ok (omega arith), number_reads 255 p.id.src ok.src_ok (omega arith), number_reads 255 p.id.dst ok.dst_ok (omega arith), number_reads 223 (length p.payload) ok.packet_ok.payload_ok (omega arith), bytes) refl
+  packet_read = grind (arith, bytes_of-pairs, length-map, bytes_read, number_reads)
 
   pub reads_back : entry (plain_line p) packing ≡ packed packing p
-  reads_back =
-      let kept : is_skipped (plain_line p) ≡ false = rw line_is (not_skipped p.stamp behind_stamp stamp_is.0) in
-      let other : is_candump (plain_line p) ≡ false = rw line_is (not_candump p.stamp behind_stamp stamp_is.0) in
-      let same : columns (plain_line p) ≡ p.stamp ∷ behind = rw line_is columns_are in
-      plain_entry (plain_line p) packing line_short kept other
-      ∙ ap (λ all. settled (packet_of_columns all >>= (λ q. Ok (packed packing q)))) same
-      ∙ ap (λ read. settled (read >>= (λ q. Ok (packed packing q)))) packet_read
+  reads_back = grind (arith, line_is, columns_are, plain_entry, line_short, packet_read)

@@ -1,10 +1,8 @@
 -- The second that lines in a row share: what they begin with, and its text with the milliseconds of each.
-use Rattle.std.proofs.Common.{◌≡◌, ℕ, ◌+◌, ◌-◌, ◌*◌, ◌/◌, ◌%◌, ◌≤◌, true, List, [], ◌∷◌, ◌++◌, length, get_or, set, take, drop, Some, refl, ap, sym, ◌∙◌, arith, append_assoc}
-use Rattle.std.specs.Prelude.{codes, IsTrue}
+use Rattle.std.proofs.Common.{◌≡◌, ℕ, ◌+◌, ◌-◌, ◌*◌, ◌≤◌, true, List, [], ◌∷◌, ◌++◌, length, get_or, set, take, drop, Some, refl, ap, sym, ◌∙◌, arith, append_assoc, codes, IsTrue, length-take-le, take-append-drop}
 use Rattle.std.specs.Char.{is_ascii_digit}
 use Rattle.std.specs.List.{list_all}
 use Rattle.std.proofs.lemmas.Bool.{and_parts, eq-eqb}
-use Rattle.std.proofs.lemmas.List.{length-drop, length-take-le, take-append-drop}
 use Rattle.n2k_wire.specs.Digits.{decimal_after, decimal_digit, decimal_number}
 use Rattle.n2k_wire.specs.Packet.{is_stamp}
 use Rattle.n2k_wire.specs.Pieces.{after_byte}
@@ -19,9 +17,7 @@ use Rattle.n2k_wire.proofs.UtcStamps.{utc_is_stamp}
 digits_read : (before : ℕ) (text : List ℕ) → list_all is_ascii_digit text ≡ true → (n : ℕ) × (decimal_after before text ≡ Some n)
 unfolding decimal_after decimal_digit
 digits_read before [] all = (before, refl)
-digits_read before (b ∷ text) all =
-    let parts = and_parts (is_ascii_digit b) (list_all is_ascii_digit text) all in
-    rw parts.0 (digits_read (10 * before + (b - 48)) text parts.1)
+digits_read before (b ∷ text) all = grind (arith, digits_read (10 * before + (b - 48)) text (and_parts (is_ascii_digit b) (list_all is_ascii_digit text) all).1)
 
 pub number_read : (most : ℕ) (text : List ℕ) → list_all is_ascii_digit text ≡ true → 1 ≤ length text → length text ≤ most → (n : ℕ) × (decimal_number most text ≡ Some n) × (decimal_after 0 text ≡ Some n)
 number_read most text all some few =
@@ -34,12 +30,7 @@ opens byte rest = rw (eq-eqb byte byte refl) refl
 
 -- the front of ten digits, or of any up to twelve
 pub front_read : (front seconds : List ℕ) (s : ℕ) → front ≡ 40 ∷ (seconds ++ (46 ∷ [])) → decimal_number 12 seconds ≡ Some s → s ≤ 253402300799 → IsSecondFront front s
-front_read front seconds s is read small fraction rest f m part third =
-    let stamp = seconds ++ (46 ∷ fraction) in
-    let line_is : front ++ (fraction ++ (41 ∷ rest)) ≡ 40 ∷ (stamp ++ (41 ∷ rest)) = rw is (simp append_assoc) in
-    ap stamp_behind line_is
-    ∙ usual (40 ∷ (stamp ++ (41 ∷ rest))) (stamp ++ (41 ∷ rest)) stamp (41 ∷ rest) rest seconds (46 ∷ fraction) fraction s f m
-    (opens 40 (stamp ++ (41 ∷ rest))) refl (opens 41 rest) refl (opens 46 fraction) read part third small
+front_read front seconds s is read small fraction rest f m part third = grind (arith, usual (40 ∷ ((seconds ++ (46 ∷ fraction)) ++ (41 ∷ rest))) ((seconds ++ (46 ∷ fraction)) ++ (41 ∷ rest)) (seconds ++ (46 ∷ fraction)) (41 ∷ rest) rest seconds (46 ∷ fraction) fraction s f m (opens 40 ((seconds ++ (46 ∷ fraction)) ++ (41 ∷ rest))) refl (opens 41 rest) refl (opens 46 fraction) read part third small, append_assoc)
 
 -- the front of 1970's begin
 pub first_front : IsSecondFront (codes "(0000000000.") 0
@@ -52,16 +43,11 @@ pub front_parts : (front inner digits point rest : List ℕ) → length front �
 front_parts front inner digits point [] twelve opened digits_is point_is pointed =
     let inner_is : inner ≡ digits ++ (46 ∷ []) = sym (rw (digits_is, sym (follows 46 point [] pointed), point_is) (take-append-drop 10 inner)) in
     follows 40 front inner opened ∙ ap (λ (t : List ℕ). 40 ∷ t) inner_is
-front_parts front inner digits point (b ∷ rest) twelve opened digits_is point_is pointed =
-    let long = ap length (follows 40 front inner opened) in
-    let more = ap length (follows 46 point (b ∷ rest) pointed) in
-    let left = ap length point_is ∙ length-drop 10 inner in
-    absurd (omega arith)
+front_parts front inner digits point (b ∷ rest) twelve opened digits_is point_is pointed = grind (arith, follows)
 
 -- the first bytes of a text and the rest
 pub first_chunk : (n : ℕ) (text front rest : List ℕ) → front ≡ take n text → rest ≡ drop n text → length rest + n ≡ length text → (length front ≡ n) × (text ≡ front ++ rest)
-first_chunk n text front rest front_is rest_is long =
-    (ap length front_is ∙ length-take-le n text (omega arith), sym (rw (front_is, rest_is) (take-append-drop n text)))
+first_chunk n text front rest front_is rest_is long = grind (arith, length-take-le, take-append-drop)
 
 -- a line of that front, by the text of its stamp
 pub stamped_on : (front fraction rest : List ℕ) (seconds : ℕ) → IsSecondFront front seconds → seconds ≤ 253402300799 → list_all is_ascii_digit fraction ≡ true → length fraction ≡ 6
@@ -87,11 +73,7 @@ unfolding utc_text three_digits
 millis_put text [] seconds m is six three = absurd (omega arith)
 millis_put text (a ∷ []) seconds m is six three = absurd (omega arith)
 millis_put text (a ∷ b ∷ []) seconds m is six three = absurd (omega arith)
-millis_put text (a ∷ b ∷ c ∷ more) seconds m is six three =
-    let x : 48 + m / 100 ≡ a = cc in
-    let y : 48 + m % 100 / 10 ≡ b = cc in
-    let z : 48 + m % 100 % 10 ≡ c = cc in
-    rw (is, x, y, z) refl
+millis_put text (a ∷ b ∷ c ∷ more) seconds m is six three = grind arith
 
 -- the text of a line's stamp, by the text of its second
 pub stamped_text : (line front fraction behind text texts stamp : List ℕ) (seconds : ℕ) → IsSecondFront front seconds → seconds ≤ 253402300799
@@ -99,10 +81,4 @@ pub stamped_text : (line front fraction behind text texts stamp : List ℕ) (sec
     → line ≡ front ++ (fraction ++ behind) → after_byte 41 behind ≡ Some text
     → ((s m : ℕ) → texts ≡ utc_text (record { seconds = s; millis = 0 }) → millis_digits m ≡ three_digits fraction → stamp ≡ utc_text (record { seconds = s; millis = m }))
     → (stamp_behind line ≡ Some (stamp, text)) × IsTrue (is_stamp stamp)
-stamped_text line front fraction behind text texts stamp seconds is small texts_is all six line_is closed put =
-    let on = stamped_on front fraction text seconds is small all six in
-    let stamp_is = put seconds on.0 texts_is on.2 in
-    let whole : line ≡ front ++ (fraction ++ (41 ∷ text)) = line_is ∙ ap (λ (t : List ℕ). front ++ (fraction ++ t)) (follows 41 behind text closed) in (
-      ap stamp_behind whole ∙ rw stamp_is on.1,
-      rw stamp_is (utc_is_stamp (record { seconds = seconds; millis = on.0 }) (record { seconds_fit = small; millis_fit = on.3 })),
-    )
+stamped_text line front fraction behind text texts stamp seconds is small texts_is all six line_is closed put = grind (arith, stamped_on front fraction text seconds is small all six, follows 41 behind text closed, utc_is_stamp)

@@ -1,12 +1,9 @@
 -- The second that packets in a row share: their stamps begin so, and their candump lines too.
-use Rattle.std.proofs.Common.{◌≡◌, ℕ, zero, suc, ◌+◌, ◌≤◌, ◌<◌, true, false, List, [], ◌∷◌, ◌++◌, length, take, drop, ◌*◌, Some, None, refl, sym, ap, subst, ◌∙◌, arith}
-use Rattle.std.specs.Prelude.{codes, slice_index, ◌==◌}
+use Rattle.std.proofs.Common.{◌≡◌, ℕ, zero, suc, ◌+◌, ◌≤◌, ◌<◌, true, false, List, [], ◌∷◌, ◌++◌, length, take, drop, ◌*◌, Some, None, refl, sym, ap, subst, ◌∙◌, arith, codes, slice_index, ◌==◌, length-append, length-take-le}
 use Rattle.std.specs.Char.{is_ascii_digit}
 use Rattle.std.specs.List.{list_all}
-use Rattle.std.proofs.lemmas.Bool.{and_parts, eq-eqb, ne_eqb}
-use Rattle.std.proofs.lemmas.List.{length-append, length-take-le}
+use Rattle.std.proofs.lemmas.Bool.{and_parts, ne_eqb}
 use Rattle.std.proofs.Math.Seq.{drop-append_seam}
-use Rattle.n2k_wire.specs.Calendar.{day_number}
 use Rattle.n2k_wire.specs.Digits.{decimal_digit, decimal_after, decimal_number}
 use Rattle.n2k_wire.specs.Inner.Stamp.{IsSecond, IsStampText, are_millis, second_front}
 use Rattle.n2k_wire.specs.Stamp.{Moment, day_at_start, has_utc_form, millis_digits, number_at, second_behind_date, utc_moment}
@@ -14,7 +11,7 @@ use Rattle.n2k_wire.specs.Steps.{some_if}
 use Rattle.n2k_wire.specs.Texts.{second_digits}
 use Rattle.n2k_wire.proofs.CandumpBack.{length-seconds}
 use Rattle.n2k_wire.proofs.SecondCaches.{number_read}
-use Rattle.n2k_wire.proofs.UtcBack.{eight, if_some, moment_is, number_parts, three_back, with_some}
+use Rattle.n2k_wire.proofs.UtcBack.{if_some, moment_is, number_parts, three_back, with_some}
 
 part_same : (place digits : ℕ) (s b c : List ℕ) → place + digits ≤ length s → take digits (drop place (s ++ b)) ≡ take digits (drop place (s ++ c))
 part_same zero zero s b c within = refl
@@ -49,13 +46,7 @@ module _ (stamp : List ℕ) (long : length stamp ≡ 20) (behind other : List �
   at place mark within is = ap (λ b. b == mark) (byte_same place stamp other behind (omega (arith, long, within))) ∙ is
 
   form_same : has_utc_form (stamp ++ behind) ≡ true → (slice_index other 3 == 90) ≡ true → has_utc_form (stamp ++ other) ≡ true
-  form_same form end =
-      let text = stamp ++ behind in
-      let parts = eight (length text == 24) (slice_index text 4 == 45) (slice_index text 7 == 45) (slice_index text 10 == 84) (slice_index text 13 == 58) (slice_index text 16 == 58) (slice_index text 19 == 46) (slice_index text 23 == 90) form in
-      let len : (length (stamp ++ other) == 24) ≡ true = eq-eqb _ _ (omega (arith, length-append stamp other, long, four_too)) in
-      let place : length stamp + 3 ≡ 23 = omega (arith, long) in
-      let last : (slice_index (stamp ++ other) 23 == 90) ≡ true = ap (λ k. slice_index (stamp ++ other) k == 90) (sym place) ∙ ap (λ b. b == 90) (byte_behind stamp other 3) ∙ end in
-      rw (len, at 4 45 (omega arith) parts.1, at 7 45 (omega arith) parts.2, at 10 84 (omega arith) parts.3, at 13 58 (omega arith) parts.4, at 16 58 (omega arith) parts.5, at 19 46 (omega arith) parts.6, last) refl
+  form_same form end = grind (arith, length-append, byte_behind, at)
 
   millis_at : (digits : List ℕ) → digits ≡ take 3 other → number_at 20 3 (stamp ++ other) ≡ decimal_number 3 digits
   millis_at digits is = ap (decimal_number 3) (ap (λ k. take 3 (drop k (stamp ++ other))) (sym long) ∙ ap (take 3) (drop-append_seam stamp other) ∙ sym is)
@@ -88,15 +79,7 @@ shared stamp behind seen long four e other four_too ends =
 -- and its own milliseconds follow them
 own_millis : (stamp behind : List ℕ) (seen : Moment) → length stamp ≡ 20 → length behind ≡ 4 → utc_moment (stamp ++ behind) ≡ Some seen → millis_digits seen.millis ≡ take 3 behind
 unfolding utc_moment
-own_millis stamp behind seen long four e =
-    with_some (some_if (has_utc_form (stamp ++ behind)) (stamp ++ behind)) _ seen e (λ f ef e1.
-    with_some (day_at_start (stamp ++ behind)) _ seen e1 (λ day ed e2.
-    with_some (second_behind_date (stamp ++ behind)) _ seen e2 (λ second es e3.
-    with_some (number_at 20 3 (stamp ++ behind)) _ seen e3 (λ millis em e4.
-    let is : millis ≡ seen.millis = (moment_is seen (day * 86400 + second) millis e4).1 in
-    let three : length (take 3 behind) ≡ 3 = length-take-le 3 behind (omega (arith, four)) in
-    let digits = (number_parts 3 millis (take 3 behind) (sym (millis_at stamp long behind behind four four (take 3 behind) refl) ∙ em)).1 in
-    ap millis_digits (sym is) ∙ (three_back millis (take 3 behind) three digits).0))))
+own_millis stamp behind seen long four e = grind (arith, number_parts, millis_at, three_back)
 
 -- the front of a line has at most fourteen bytes
 pub front_short : (n : ℕ) → n ≤ 253402300799 → length (second_front n) ≤ 14
@@ -104,18 +87,12 @@ front_short n few = omega (arith, length-append (second_digits n) (codes "."), (
 
 pub turned : (text stamp behind : List ℕ) (seen : Moment) → text ≡ stamp ++ behind → length stamp ≡ 20 → length behind ≡ 4 → utc_moment text ≡ Some seen → seen.seconds ≤ 253402300799
     → IsSecond stamp (second_front seen.seconds) × IsStampText (utc_moment text) (second_front seen.seconds ++ take 3 behind)
-turned text stamp behind seen is long four e few =
-    let found = ap utc_moment (sym is) ∙ e in (
-      record { shared = shared stamp behind seen long four found; short = front_short seen.seconds few },
-      (seen, e, ap (λ (t : List ℕ). second_front seen.seconds ++ t) (sym (own_millis stamp behind seen long four found))),
-    )
+turned text stamp behind seen is long four e few = grind (arith, shared, front_short, own_millis)
 
 -- the first second that a candump line can name
 first_moment : utc_moment (codes "1970-01-01T00:00:00.000Z") ≡ Some (record { seconds = 0; millis = 0 })
 unfolding utc_moment day_at_start second_behind_date decimal_number decimal_after decimal_digit
-first_moment =
-    let none : day_number 1970 1 1 ≡ 0 = omega arith in
-    ap (λ n. Some (record { seconds = n * 86400 + 0; millis = 0 })) none
+first_moment = grind arith
 
 pub first_second : IsSecond (codes "1970-01-01T00:00:00.") (second_front 0)
 first_second = record {

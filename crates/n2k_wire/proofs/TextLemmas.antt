@@ -1,5 +1,5 @@
 -- Numbers of up to three digits as pieces of a plain line.
-use Rattle.std.proofs.Common.{◌≡◌, ℕ, zero, suc, ◌+◌, ◌/◌, ◌%◌, ◌<◌, ◌≤◌, List, [], ◌∷◌, drop, get_or, length, refl, ap, ◌∙◌, arith}
+use Rattle.std.proofs.Common.{◌≡◌, ℕ, zero, suc, ◌+◌, ◌/◌, ◌%◌, ◌<◌, ◌≤◌, List, [], ◌∷◌, drop, get_or, length, ap, ◌∙◌, arith}
 use Rattle.std.proofs.Math.ListN.{drop_of_length-le}
 use Rattle.std.proofs.Math.Seq.{drop-cons}
 use Rattle.std.proofs.lemmas.Fmt.{decimal_digit}
@@ -7,20 +7,13 @@ use Rattle.itoa.proofs.Decimal.{decimal_two, decimal_pair}
 use Rattle.n2k_wire.specs.Texts.{number_piece}
 
 pub piece_of_one : (n : ℕ) → n < 10 → number_piece n ≡ 44 ∷ (48 + n % 10) ∷ []
-piece_of_one n small =
-    let same : n % 10 ≡ n = omega arith in
-    rw (same, decimal_digit n small) refl
+piece_of_one n small = grind (arith, decimal_digit)
 
 pub piece_of_two : (n : ℕ) → 10 ≤ n → n < 100 → number_piece n ≡ 44 ∷ (48 + n / 10 % 10) ∷ (48 + n % 10) ∷ []
-piece_of_two n large small =
-    let same : n / 10 % 10 ≡ n / 10 = omega arith in
-    rw (same, decimal_two n large small) refl
+piece_of_two n large small = grind (arith, decimal_two)
 
 pub piece_of_three : (n : ℕ) → 100 ≤ n → n < 1000 → number_piece n ≡ 44 ∷ (48 + n / 100) ∷ (48 + n / 10 % 10) ∷ (48 + n % 10) ∷ []
-piece_of_three n large small =
-    let tens : n % 100 / 10 ≡ n / 10 % 10 = omega arith in
-    let ones : n % 100 % 10 ≡ n % 10 = omega arith in
-    rw (decimal_pair n large (omega arith), decimal_digit (n / 100) (omega arith), tens, ones) refl
+piece_of_three n large small = grind (arith, decimal_pair, decimal_digit)
 
 -- the bytes of a text from a place on, one by one
 unfoldable pub listed : ℕ → ℕ → List ℕ → List ℕ

@@ -1,11 +1,7 @@
 -- The text `YYYY-MM-DDTHH:MM:SS.mmmZ` of the moment that such a text names is that text.
-use Rattle.std.proofs.Common.{◌≡◌, ℕ, ◌+◌, ◌-◌, ◌*◌, ◌/◌, ◌%◌, ◌<◌, ◌≤◌, Bool, true, false, List, [], ◌∷◌, ◌++◌, get_or, length, take, drop, Option, Some, None, Result, Ok, Err, refl, sym, ap, subst, ◌∙◌, append_assoc, arith, ltb, leb, pos, inl, inr}
-use Rattle.std.specs.Prelude.{codes, option_and_then, slice_index, ◌&&◌, ◌==◌}
-use Rattle.std.specs.Char.{is_ascii_digit}
-use Rattle.std.proofs.lemmas.Bool.{and_parts, cases_Bool, eqb-true, leb-true, ltb-true}
-use Rattle.std.proofs.lemmas.List.{length-take-le, length-drop}
-use Rattle.jiff_core.specs.Calendar.{IsCivilDate, days_in_month}
-use Rattle.jiff_core.proofs.SignedLemmas.{signed_arith}
+use Rattle.std.proofs.Common.{◌≡◌, ℕ, ◌+◌, ◌*◌, ◌/◌, ◌%◌, ◌<◌, ◌≤◌, Bool, true, List, [], ◌∷◌, ◌++◌, get_or, length, take, drop, Option, Some, Result, Ok, refl, sym, ap, subst, ◌∙◌, append_assoc, arith, ltb, pos, codes, option_and_then, slice_index, ◌&&◌, ◌==◌, length-take-le, length-drop}
+use Rattle.std.proofs.lemmas.Bool.{and_parts, eqb-true, ltb-true}
+use Rattle.jiff_core.specs.Calendar.{IsCivilDate}
 use Rattle.n2k_wire.specs.Calendar.{day_number, is_date, year_of, month_of, day_of_month}
 use Rattle.n2k_wire.specs.Digits.{decimal_digit, decimal_after, decimal_number}
 use Rattle.n2k_wire.specs.Stamp.{Moment, two_digits, four_digits, millis_digits, date_text, time_text, utc_text, has_utc_form, number_at, day_at_start, second_behind_date, utc_moment}
@@ -16,50 +12,30 @@ use Rattle.n2k_wire.proofs.TextLemmas.{listed, listed_all}
 
 -- ---- steps that found something
 
-pub then_some : {A B : Type 0} (o : Option A) (f : A → Option B) (y : B) → option_and_then f o ≡ Some y → (x : A) × (o ≡ Some x) × (f x ≡ Some y)
-then_some None f y e = absurd cc
-then_some (Some x) f y e = (x, refl, e)
-
 -- what follows from the first step's value follows
 pub with_some : {A B : Type 0} {P : Type 0} (o : Option A) (f : A → Option B) (y : B) → option_and_then f o ≡ Some y → ((x : A) → o ≡ Some x → f x ≡ Some y → P) → P
-with_some None f y e follows = absurd cc
-with_some (Some x) f y e follows = follows x refl e
+with_some o f y e follows = grind arith
 
 pub with_ok : {A B E : Type 0} {P : Type 0} (r : Result A E) (f : A → Result B E) (y : B) → (r >>= f) ≡ Ok y → ((x : A) → r ≡ Ok x → f x ≡ Ok y → P) → P
-with_ok (Ok x) f y e follows = follows x refl e
-with_ok (Err cause) f y e follows = absurd cc
+with_ok r f y e follows = grind arith
 
 pub found : {A E : Type 0} (cause : E) (o : Option A) (x : A) → or_cause cause o ≡ Ok x → o ≡ Some x
-found cause None x e = absurd cc
-found cause (Some y) x e = let same : y ≡ x = cc in ap Some same
+found cause o x e = grind arith
 
 pub if_some : {A : Type 0} (test : Bool) (x y : A) → some_if test x ≡ Some y → (test ≡ true) × (x ≡ y)
-if_some true x y e = (refl, let same : x ≡ y = cc in same)
-if_some false x y e = absurd cc
+if_some test x y e = grind arith
 
 -- ---- digits
 
 -- a digit and its value
 digit_is : (b d : ℕ) → decimal_digit b ≡ Some d → (b ≡ 48 + d) × (d < 10)
 unfolding decimal_digit
-digit_is b d e =
-    elim (cases_Bool (is_ascii_digit b)) [
-      | inl digit ↦
-          let parts = and_parts (leb 48 b) (leb b 57) digit in
-          let low = leb-true 48 b parts.0 in
-          let high = leb-true b 57 parts.1 in
-          let value : b - 48 ≡ d = let some = rw digit at e in cc in
-          (omega arith, omega arith)
-      | inr other ↦ absurd (let none = rw other at e in cc)
-    ]
+digit_is b d e = grind arith
 
 -- one digit, then the others
 pub after_cons : (before b n : ℕ) (digits : List ℕ) → decimal_after before (b ∷ digits) ≡ Some n → (d : ℕ) × (b ≡ 48 + d) × (d < 10) × (decimal_after (10 * before + d) digits ≡ Some n)
 unfolding decimal_after
-after_cons before b n digits e =
-    let step = then_some (decimal_digit b) (λ digit. decimal_after (10 * before + digit) digits) n e in
-    let digit = digit_is b step.0 step.1 in
-    (step.0, digit.0, digit.1, step.2)
+after_cons before b n digits e = grind (arith, digit_is)
 
 pub after_nil : (before n : ℕ) → decimal_after before [] ≡ Some n → before ≡ n
 unfolding decimal_after
@@ -68,50 +44,19 @@ after_nil before n e = cc
 -- the digits of a number that was read
 pub number_parts : (most n : ℕ) (text : List ℕ) → decimal_number most text ≡ Some n → (length text ≤ most) × (decimal_after 0 text ≡ Some n)
 unfolding decimal_number
-number_parts most n text e =
-    elim (cases_Bool (ltb 0 (length text) && leb (length text) most)) [
-      | inl fits ↦ (leb-true (length text) most (and_parts (ltb 0 (length text)) (leb (length text) most) fits).1, rw fits at e)
-      | inr other ↦ absurd (let none = rw other at e in cc)
-    ]
+number_parts most n text e = grind arith
 
 two_back : (n : ℕ) (text : List ℕ) → length text ≡ 2 → decimal_after 0 text ≡ Some n → (two_digits n ≡ text) × (n < 100)
 unfolding listed
-two_back n text two e =
-    let each = listed_all 2 0 text two in
-    let x = after_cons 0 _ n _ (subst (λ t. decimal_after 0 t ≡ Some n) each e) in
-    let y = after_cons (10 * 0 + x.0) _ n [] x.3 in
-    let value = after_nil (10 * (10 * 0 + x.0) + y.0) n y.3 in
-    let tens : 48 + n / 10 ≡ get_or text 0 0 = omega arith in
-    let ones : 48 + n % 10 ≡ get_or text 1 0 = omega arith in
-    (rw (tens, ones) (sym each), omega arith)
+two_back n text two e = grind (arith, listed_all 2 0 text two, after_cons, after_nil)
 
 pub three_back : (n : ℕ) (text : List ℕ) → length text ≡ 3 → decimal_after 0 text ≡ Some n → (millis_digits n ≡ text) × (n < 1000)
 unfolding listed
-three_back n text three e =
-    let each = listed_all 3 0 text three in
-    let x = after_cons 0 _ n _ (subst (λ t. decimal_after 0 t ≡ Some n) each e) in
-    let y = after_cons (10 * 0 + x.0) _ n _ x.3 in
-    let z = after_cons (10 * (10 * 0 + x.0) + y.0) _ n [] y.3 in
-    let value = after_nil (10 * (10 * (10 * 0 + x.0) + y.0) + z.0) n z.3 in
-    let hundreds : 48 + n / 100 ≡ get_or text 0 0 = omega arith in
-    let tens : 48 + n % 100 / 10 ≡ get_or text 1 0 = omega arith in
-    let ones : 48 + n % 100 % 10 ≡ get_or text 2 0 = omega arith in
-    (rw (hundreds, tens, ones) (sym each), omega arith)
+three_back n text three e = grind (arith, listed_all 3 0 text three, after_cons, after_nil)
 
 four_back : (n : ℕ) (text : List ℕ) → length text ≡ 4 → decimal_after 0 text ≡ Some n → (four_digits n ≡ text) × (n < 10000)
 unfolding listed
-four_back n text four e =
-    let each = listed_all 4 0 text four in
-    let x = after_cons 0 _ n _ (subst (λ t. decimal_after 0 t ≡ Some n) each e) in
-    let y = after_cons (10 * 0 + x.0) _ n _ x.3 in
-    let z = after_cons (10 * (10 * 0 + x.0) + y.0) _ n _ y.3 in
-    let w = after_cons (10 * (10 * (10 * 0 + x.0) + y.0) + z.0) _ n [] z.3 in
-    let value = after_nil (10 * (10 * (10 * (10 * 0 + x.0) + y.0) + z.0) + w.0) n w.3 in
-    let thousands : 48 + n / 100 / 10 ≡ get_or text 0 0 = omega arith in
-    let hundreds : 48 + n / 100 % 10 ≡ get_or text 1 0 = omega arith in
-    let tens : 48 + n % 100 / 10 ≡ get_or text 2 0 = omega arith in
-    let ones : 48 + n % 100 % 10 ≡ get_or text 3 0 = omega arith in
-    (rw (thousands, hundreds, tens, ones) (sym each), omega arith)
+four_back n text four e = grind (arith, listed_all 4 0 text four, after_cons, after_nil)
 
 -- ---- a text of 24 bytes, part by part
 
@@ -120,15 +65,7 @@ length_at place digits text within = length-take-le digits (drop place text) (om
 
 -- each of eight tests that hold
 pub eight : (a b c d e f g h : Bool) → (a && b && c && d && e && f && g && h) ≡ true → (a ≡ true) × (b ≡ true) × (c ≡ true) × (d ≡ true) × (e ≡ true) × (f ≡ true) × (g ≡ true) × (h ≡ true)
-eight a b c d e f g h all =
-    let p7 = and_parts (a && b && c && d && e && f && g) h all in
-    let p6 = and_parts (a && b && c && d && e && f) g p7.0 in
-    let p5 = and_parts (a && b && c && d && e) f p6.0 in
-    let p4 = and_parts (a && b && c && d) e p5.0 in
-    let p3 = and_parts (a && b && c) d p4.0 in
-    let p2 = and_parts (a && b) c p3.0 in
-    let p1 = and_parts a b p2.0 in
-    (p1.0, p1.1, p2.1, p3.1, p4.1, p5.1, p6.1, p7.1)
+eight a b c d e f g h all = grind arith
 
 -- what stands in the form of a stamp
 module _ (text : List ℕ) (form : has_utc_form text ≡ true) where
@@ -161,18 +98,7 @@ module _ (text : List ℕ) (form : has_utc_form text ≡ true) where
 -- ---- dates and times
 
 civil_of : (y m d : ℕ) → y < 10000 → is_date y m d ≡ true → (1970 ≤ y) × IsCivilDate (pos y) m d
-civil_of y m d few date =
-    let p4 = and_parts (leb 1970 y && leb 1 m && leb m 12 && leb 1 d) (leb d (days_in_month (pos y) m)) date in
-    let p3 = and_parts (leb 1970 y && leb 1 m && leb m 12) (leb 1 d) p4.0 in
-    let p2 = and_parts (leb 1970 y && leb 1 m) (leb m 12) p3.0 in
-    let p1 = and_parts (leb 1970 y) (leb 1 m) p2.0 in (
-      leb-true 1970 y p1.0,
-      (
-        (omega (arith, signed_arith), omega (arith, signed_arith)),
-        (leb-true 1 m p1.1, leb-true m 12 p2.1),
-        (leb-true 1 d p3.1, leb-true d (days_in_month (pos y) m) p4.1),
-      ),
-    )
+civil_of y m d few date = grind arith
 
 -- texts of dates and times by their numbers
 date_by : (day y m d : ℕ) → year_of day ≡ y → month_of day ≡ m → day_of_month day ≡ d → date_text day ≡ four_digits y ++ codes "-" ++ two_digits m ++ codes "-" ++ two_digits d
@@ -255,18 +181,7 @@ grouped y m d h n s f = simp append_assoc
 found_parts : (text : List ℕ) (seen : Moment) (day second millis : ℕ) → has_utc_form text ≡ true → day_at_start text ≡ Some day → second_behind_date text ≡ Some second
     → number_at 20 3 text ≡ Some millis → day * 86400 + second ≡ seen.seconds → millis ≡ seen.millis → (utc_text seen ≡ text) × IsMoment seen
 unfolding utc_text
-found_parts text seen day second millis form ed es em seconds fraction =
-    let date = date_back text form day ed in
-    let time = time_back text form second es in
-    let digits = three_at text form 20 millis (omega arith) em in
-    let day_is : day ≡ seen.seconds / 86400 = omega (arith, seconds, time.1) in
-    let second_is : second ≡ seen.seconds % 86400 = omega (arith, seconds, time.1) in (
-      sym (texts (date_text day) (time_text second) (millis_digits millis) _ _ _ (ap date_text day_is) (ap time_text second_is) (ap millis_digits fraction))
-          ∙ texts _ _ _ _ _ _ date.0 time.0 digits.0
-          ∙ grouped (take 4 (drop 0 text)) (take 2 (drop 5 text)) (take 2 (drop 8 text)) (take 2 (drop 11 text)) (take 2 (drop 14 text)) (take 2 (drop 17 text)) (take 3 (drop 20 text))
-          ∙ sym (whole text form),
-      record { seconds_fit = omega (arith, seconds, time.1, date.1); millis_fit = omega (arith, fraction, digits.1) },
-    )
+found_parts text seen day second millis form ed es em seconds fraction = grind (arith, date_back text form day ed, time_back text form second es, three_at text form 20 millis (omega arith) em, whole text form)
 
 pub moment_is : (seen : Moment) (seconds millis : ℕ) → Some (record { seconds = seconds; millis = millis }) ≡ Some seen → (seconds ≡ seen.seconds) × (millis ≡ seen.millis)
 moment_is seen seconds millis e = let same : (record { seconds = seconds; millis = millis }) ≡ seen = cc in (ap (λ (m : Moment). m.seconds) same, ap (λ (m : Moment). m.millis) same)

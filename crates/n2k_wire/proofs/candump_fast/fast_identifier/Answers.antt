@@ -1,5 +1,4 @@
-use Rattle.std.proofs.Common.{Some, ap, sym, ◌∙◌}
-use Rattle.std.specs.Prelude.{option_map}
+use Rattle.std.proofs.Common.{Some, ap, sym, ◌∙◌, option_map}
 use Rattle.std.specs.Int.{w32, from_be_bytes}
 use Rattle.n2k_wire.proofs.FastFrames.{identifier_of, word_of}
 use Rattle.n2k_wire.proofs.candump_fast.fast_identifier.Goals as goal

@@ -1,5 +1,4 @@
-use Rattle.std.proofs.Common.{sym}
-use Rattle.std.proofs.lemmas.List.{take-append-drop}
+use Rattle.std.proofs.Common.{sym, take-append-drop}
 use Rattle.n2k_wire.proofs.PlainFast.{numbered}
 use Rattle.n2k_wire.proofs.plain_fast.number_before.Goals as goal
 

@@ -1,5 +1,4 @@
-use Rattle.std.proofs.Common.{◌≡◌, true, sym, ap, subst, ◌∙◌, arith, rules}
-use Rattle.std.proofs.lemmas.Bool.{eq-eqb}
+use Rattle.std.proofs.Common.{◌≡◌, true, sym, ap, subst, ◌∙◌, arith, rules, eq-eqb}
 use Rattle.std.specs.Str.{bytes_eq}
 use Rattle.n2k_table.specs.Table.{kind}
 use Rattle.n2k_join.specs.Refusal.{GivesOrMemory}

@@ -2,14 +2,12 @@ use Rattle.std.proofs.Common.{◌≡◌, ◌+◌, ◌<◌, ◌≤◌, ◌∙◌,
 use Rattle.n2k_join.specs.declared.counts.Counts.{Counts}
 use Rattle.n2k_table.specs.Table.{kind}
 use Rattle.n2k_join.specs.Counts.{most_lines}
-use Rattle.n2k_wire.specs.Packet.{PacketParts}
 use Rattle.n2k_join.specs.declared.step.Step.{Step}
 use Rattle.n2k_join.specs.State.{State, step_after, IsState, AreWaiting}
 use Rattle.n2k_join.specs.Inner.Order.{listed, IsKept}
 use Rattle.n2k_join.specs.Step.{packet_in, message_in}
 use Rattle.n2k_join.proofs.Keeping.{step-keeps, step-waits, few-open}
-use Rattle.n2k_join.proofs.LineLemmas.{line-gives, line-leads}
-use Rattle.n2k_join.proofs.LineLemmas.{own_counted}
+use Rattle.n2k_join.proofs.LineLemmas.{line-gives, line-leads, own_counted}
 use Rattle.n2k_join.proofs.join.Join.take.Goals as goal
 
 pub invariant_of-self-2 : goal.invariant_of-self-2

@@ -1,5 +1,4 @@
-use Rattle.std.proofs.Common.{◌≡◌, ◌+◌, ◌<◌, ◌∙◌, ◌++◌, [], ◌∷◌, inr, ap, sym, subst, refl, length, arith}
-use Rattle.std.proofs.lemmas.List.{length-append}
+use Rattle.std.proofs.Common.{◌≡◌, ◌+◌, ◌<◌, ◌∙◌, ◌++◌, [], ◌∷◌, inr, ap, refl, length, arith, length-append}
 use Rattle.indexmap.proofs.CallerLemmas.{insert_entry-new}
 use Rattle.n2k_join.specs.declared.piece.FrameKey.{FrameKey}
 use Rattle.n2k_join.specs.declared.open_groups.Linked.{Linked}

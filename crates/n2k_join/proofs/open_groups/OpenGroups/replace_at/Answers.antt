@@ -1,10 +1,9 @@
-use Rattle.std.proofs.Common.{◌≡◌, ◌+◌, ◌<◌, ◌++◌, [], ◌∷◌, ℕ, List, Some, option_map, length, refl, sym, ap, subst, ◌∙◌, arith}
+use Rattle.std.proofs.Common.{◌≡◌, ◌++◌, [], ◌∷◌, option_map, refl, sym, ap, subst, ◌∙◌, arith}
 use Rattle.indexmap.specs.Layout.{length-set_value_at}
 use Rattle.std.proofs.lemmas.Option.{same_Some}
 use Rattle.n2k_join.specs.declared.piece.FrameKey.{FrameKey}
 use Rattle.n2k_join.specs.declared.piece.OpenGroup.{OpenGroup}
 use Rattle.n2k_join.specs.declared.open_groups.Linked.{Linked}
-use Rattle.n2k_join.specs.declared.open_groups.OpenGroups.{OpenGroups}
 use Rattle.n2k_join.specs.Inner.Stored.{key_of}
 use Rattle.n2k_join.specs.Inner.Slots.{group_in}
 use Rattle.n2k_join.specs.Inner.Places.{nowhere}

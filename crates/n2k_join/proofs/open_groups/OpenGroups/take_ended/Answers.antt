@@ -1,4 +1,4 @@
-use Rattle.std.proofs.Common.{◌≡◌, ◌+◌, List, [], ◌∷◌, ◌∙◌, ap, sym, drop, nat_lt, slice_get, option_map, Some, None}
+use Rattle.std.proofs.Common.{◌+◌, List, [], ◌∙◌, ap, sym, drop, nat_lt, slice_get, option_map, Some}
 use Rattle.std.proofs.lemmas.Option.{slice_get_within}
 use Rattle.n2k_join.specs.declared.piece.FrameKey.{FrameKey}
 use Rattle.n2k_join.specs.declared.open_groups.Linked.{Linked}

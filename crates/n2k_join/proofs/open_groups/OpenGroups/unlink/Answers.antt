@@ -1,4 +1,4 @@
-use Rattle.std.proofs.Common.{◌≡◌, ◌∙◌, inl, sym, ap, subst, length, arith}
+use Rattle.std.proofs.Common.{◌≡◌, inl, sym, subst, length, arith}
 use Rattle.n2k_join.specs.Inner.Places.{nowhere, put}
 use Rattle.n2k_join.specs.Inner.Order.{IsPlace, behind_of, before_of, AreRelinked}
 use Rattle.n2k_join.proofs.Order.{beside-at, before-place, behind-place, both-told}

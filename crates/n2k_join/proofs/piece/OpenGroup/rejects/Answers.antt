@@ -1,5 +1,4 @@
-use Rattle.std.proofs.Common.{◌∙◌, cond, sym, ap}
-use Rattle.std.specs.Prelude.{is_some}
+use Rattle.std.proofs.Common.{◌∙◌, cond, sym, ap, is_some}
 use Rattle.n2k_join.specs.Groups.{has_from, has_number}
 use Rattle.n2k_join.specs.State.{held_of}
 use Rattle.n2k_join.specs.Inner.Slots.{group_in}

@@ -1,6 +1,5 @@
-use Rattle.std.proofs.Common.{◌≡◌, ◌∙◌, sym, subst, refl, ℕ, ◌^◌, ◌%◌, ◌*◌, bit_or, slice_set, slice_index_or, slice_index, ◌≤◌, []}
+use Rattle.std.proofs.Common.{◌≡◌, ◌∙◌, sym, subst, refl, ℕ, ◌^◌, ◌%◌, ◌*◌, bit_or, slice_set, slice_index_or, slice_index, ◌≤◌, [], length-set}
 use Rattle.std.specs.Int.{bit_at}
-use Rattle.std.proofs.lemmas.List.{length-set}
 use Rattle.n2k_wire.specs.Packet.{longest_message}
 use Rattle.n2k_join.specs.Inner.Slots.{group_by}
 use Rattle.n2k_join.proofs.SlotLemmas.{total-slot, taken-slots, seven-slots}

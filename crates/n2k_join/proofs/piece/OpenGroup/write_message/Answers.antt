@@ -1,5 +1,4 @@
-use Rattle.std.proofs.Common.{◌≡◌, ◌≤◌, ℕ, ◌+◌, ◌-◌, take, drop, length, slice_index, get_or, [], ap, sym, ◌∙◌, arith}
-use Rattle.std.proofs.lemmas.List.{length-take}
+use Rattle.std.proofs.Common.{◌≡◌, ◌≤◌, ℕ, ◌+◌, ◌-◌, take, drop, slice_index, get_or, [], ap, sym, ◌∙◌, arith, length-take}
 use Rattle.n2k_wire.specs.Packet.{longest_message}
 use Rattle.n2k_join.specs.Frames.{Key}
 use Rattle.n2k_join.proofs.SlotLemmas.{zeroth-slot, data-slots}

@@ -1,5 +1,4 @@
-use Rattle.std.proofs.Common.{◌≡◌, ◌+◌, ◌++◌, [], ◌∷◌, true, false, IfSome, sym, ap, subst, ◌∙◌, arith}
-use Rattle.std.specs.Prelude.{is_some}
+use Rattle.std.proofs.Common.{◌≡◌, ◌+◌, ◌++◌, [], ◌∷◌, true, false, IfSome, sym, ap, subst, ◌∙◌, arith, is_some}
 use Rattle.std.specs.List.{list_any, AllByRecursion}
 use Rattle.n2k_table.specs.Table.{kind}
 use Rattle.n2k_join.specs.Frames.{same_key}
@@ -7,7 +6,7 @@ use Rattle.n2k_join.specs.Open.{Group}
 use Rattle.n2k_join.specs.Resumed.{group_holds, valid_if}
 use Rattle.n2k_join.specs.State.{HasParts}
 use Rattle.n2k_join.specs.Inner.Apart.{each_new, SomeUnder}
-use Rattle.n2k_join.specs.Inner.Slots.{group_in, group_at}
+use Rattle.n2k_join.specs.Inner.Slots.{group_at}
 use Rattle.n2k_join.specs.Inner.Stored.{key_of}
 use Rattle.n2k_join.specs.Inner.Order.{found, listed, IsKept}
 use Rattle.n2k_join.proofs.Apart.{keys_in, hold-each_new, key_again, key_listed, stored_kept, stored_left, stored_parts, next_rises}

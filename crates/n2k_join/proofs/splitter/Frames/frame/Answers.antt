@@ -1,5 +1,4 @@
-use Rattle.std.proofs.Common.{◌≡◌, ◌<◌, List, length, Some, ap, sym, subst, ◌∙◌}
-use Rattle.std.specs.Prelude.{slice_get}
+use Rattle.std.proofs.Common.{◌≡◌, ◌<◌, List, length, Some, ap, sym, subst, ◌∙◌, slice_get}
 use Rattle.n2k_wire.specs.Packet.{PacketParts}
 use Rattle.n2k_table.specs.declared.definition.Kind.TheVariants.{Single, Fast}
 use Rattle.n2k_join.specs.Pieces.{pieces_as}

@@ -1,6 +1,5 @@
-use Rattle.std.proofs.Common.{◌≡◌, ◌+◌, ◌%◌, cond, Some, ap, ◌∙◌, arith, rules}
+use Rattle.std.proofs.Common.{◌≡◌, ◌+◌, ◌%◌, cond, Some, ap, ◌∙◌, arith, rules, unwrap_or}
 use Rattle.std.specs.Map.{lookup}
-use Rattle.std.specs.Prelude.{unwrap_or}
 use Rattle.n2k_join.specs.Pieces.{same_stream}
 use Rattle.n2k_join.specs.Splitter.{sequences}
 use Rattle.n2k_join.proofs.Numbered.{raised_below, raised_by_map}

@@ -1,5 +1,4 @@
-use Rattle.std.proofs.Common.{◌≡◌, Some, refl, sym, ◌∙◌}
-use Rattle.std.specs.Prelude.{IsTrue}
+use Rattle.std.proofs.Common.{◌≡◌, Some, refl, sym, ◌∙◌, IsTrue}
 use Rattle.n2k_wire.specs.Packet.{is_stamp}
 use Rattle.n2k_wire.specs.Inner.Candump.{stamp_behind}
 use Rattle.n2k_wire.proofs.SecondCaches.{first_chunk, stamped_text}
