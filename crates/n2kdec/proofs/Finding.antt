@@ -1,107 +1,85 @@
 -- From link to link, up to where a name leads.
-use Rattle.std.proofs.Common.{◌≡◌, ◌⊎◌, ◌≤◌, ◌+◌, ℕ, suc, Bool, true, false, Option, Some, None, IfSome, Result, Ok, Err, String, string_bytes, IsErrAnd, inl, inr, subst, sym, add-one}
+use Rattle.std.proofs.Common.{◌≡◌, ◌<◌, ◌-◌, ℕ, suc, Bool, true, false, Option, None, Some, IfSome, Result, Ok, Err, IsErrAnd, if◌then◌else◌, inl, inr, refl, subst, sym, arith}
 use Rattle.std.specs.IoError.{error_kind}
 use Rattle.std.specs.declared.io.Error.{Error}
 use Rattle.std.specs.declared.io.ErrorKind.{ErrorKind}
-use Rattle.std.specs.declared.io.ErrorKind.TheVariants.{FilesystemLoop, InvalidFilename, OutOfMemory}
+use Rattle.std.specs.declared.io.ErrorKind.TheVariants.{FilesystemLoop}
 use Rattle.clap.specs.Words.{Text}
-use Rattle.n2kdec.specs.Destination.{Follows, GoesTo, HasNoDestination, IsNoLink, IsNoOpenFile, IsOpenFile, LeadsNowhere, LeadsTo, LeadsToOpenFile, is_no_link, linked_path, most_links, new_path}
-use Rattle.n2kdec.specs.Disk.{Answers}
-use Rattle.n2kdec.specs.Inner.Finding.{AnswersDestination, AnswersFolder, AnswersFound, AnswersLink, AnswersLinks, AnswersTarget}
-use Rattle.n2kdec.specs.declared.destination.Destination.{Destination}
-use Rattle.n2kdec.specs.declared.destination.Kind.{Kind}
-use Rattle.n2kdec.specs.declared.disk.Found.{Found}
+use Rattle.n2k_wire.specs.Steps.{◌>>=◌}
+use Rattle.n2kdec.specs.Destination.{behind, is_open_file, linked, onward}
+use Rattle.n2kdec.specs.Disk.{Answers, IsAnswerUnlessMemory}
 
--- it stands for an open file
-pub at_open_file : (answers : Option Answers) (name path asked : Text) (links : ℕ) (is_open : Bool) → asked ≡ path → links ≤ most_links → IfSome answers (λ a. Follows a links name path)
-    → IfSome answers (λ a. AnswersFolder a asked (Ok is_open)) → is_open ≡ true → IfSome answers (λ a. LeadsToOpenFile a name)
-at_open_file None name path asked links is_open is few follows folder opens = tt
-at_open_file (Some a) name path asked links is_open is few follows folder opens =
-    (links, path, few, follows, subst (λ p. IsOpenFile a p) is (subst (λ b. AnswersFolder a asked (Ok b)) opens folder))
+-- this is the known answer, unless memory was refused
+abbrev Tells : {T : Type 0} → Option Answers → (Answers → Result T ErrorKind) → Result T Error → Type 0
+Tells answers known result = IfSome answers (λ a. IsAnswerUnlessMemory (λ x. x) (known a) result)
 
--- it stands for none
-not_open : (a : Answers) (path asked : Text) (is_open : Bool) → asked ≡ path → AnswersFolder a asked (Ok is_open) → is_open ≡ false → IsNoOpenFile a path
-not_open a path asked is_open is folder closed = subst (λ p. IsNoOpenFile a p) is (subst (λ b. AnswersFolder a asked (Ok b)) closed folder)
+told : {T : Type 0} (answers : Option Answers) (x : T) → Tells answers (λ a. Ok x) (Ok x)
+told None x = tt
+told (Some a) x = refl
 
--- and is no link
-pub at_end : {A : Type 0} (answers : Option Answers) (name path asked then : Text) (links : ℕ) (is_open : Bool) (next : Option (String A)) → asked ≡ path → then ≡ path → links ≤ most_links
-    → IfSome answers (λ a. Follows a links name path) → IfSome answers (λ a. AnswersFolder a asked (Ok is_open)) → is_open ≡ false
-    → IfSome answers (λ a. AnswersLink a then (Ok next)) → next ≡ None → IfSome answers (λ a. LeadsTo a name path)
-at_end None name path asked then links is_open next is is_then few follows folder closed link none = tt
-at_end {A} (Some a) name path asked then links is_open next is is_then few follows folder closed link none = (
-  links,
-  few,
-  follows,
-  not_open a path asked is_open is folder closed,
-  subst (λ p. IsNoLink a p) is_then (subst (λ n. AnswersLink {A = A} a then (Ok n)) none link),
-)
+-- a step that fails, and one that another follows
+module _ {T U : Type 0} (known : Answers → Result T ErrorKind) (further : Answers → T → Result U ErrorKind) where
+  fails : (answers : Option Answers) (error : Error) (result : Result U Error) → Tells {T = T} answers known (Err error) → IsErrAnd result (λ why. why ≡ error) → Tells answers (λ a. known a >>= further a) result
+  fails None error result tells is = tt
+  fails (Some a) error (Ok value) tells is = absurd is
+  fails (Some a) error (Err why) tells is = subst (λ e. IsAnswerUnlessMemory {T = U} (λ x. x) (known a >>= further a) (Err e)) (sym is) (go tells)
+    where
+      go : IsAnswerUnlessMemory {T = T} (λ x. x) (known a) (Err error) → IsAnswerUnlessMemory {T = U} (λ x. x) (known a >>= further a) (Err error)
+      go (inl so) = inl (rw so)
+      go (inr memory) = inr memory
 
--- or is one
-pub at_link : {A : Type 0} (answers : Option Answers) (name path asked then : Text) (links : ℕ) (is_open : Bool) (next : Option (String A)) (to : String A) → asked ≡ path → then ≡ path
-    → IfSome answers (λ a. Follows a links name path) → IfSome answers (λ a. AnswersFolder a asked (Ok is_open)) → is_open ≡ false
-    → IfSome answers (λ a. AnswersLink a then (Ok next)) → next ≡ Some to → IfSome answers (λ a. Follows a (links + 1) name (string_bytes to))
-at_link None name path asked then links is_open next to is is_then follows folder closed link some = tt
-at_link {A} (Some a) name path asked then links is_open next to is is_then follows folder closed link some =
-    let step = subst (λ p. (text : Text) × (a.link p ≡ Ok text) × (string_bytes to ≡ linked_path p text)) is_then (subst (λ n. AnswersLink {A = A} a then (Ok n)) some link) in
-    rw add-one (path, step.0, follows, not_open a path asked is_open is folder closed, step.1, step.2)
+  follows : (answers : Option Answers) (x : T) (result : Result U Error) → Tells answers known (Ok x) → Tells answers (λ a. further a x) result → Tells answers (λ a. known a >>= further a) result
+  follows None x result is so = tt
+  follows (Some a) x result is so = subst (λ k. IsAnswerUnlessMemory (λ x. x) (k >>= further a) result) (sym is) so
 
--- the system does not tell whether it is one
-pub at_unread_link : {A : Type 0} (answers : Option Answers) (name path then : Text) (links : ℕ) (error : Error) (result : Result (Option (String A)) Error) → then ≡ path
-    → IfSome answers (λ a. Follows a links name path) → IfSome answers (λ a. AnswersLink {A = A} a then (Err error)) → IsErrAnd result (λ told. told ≡ error)
-    → IfSome answers (λ a. AnswersLinks a name result)
-at_unread_link None name path then links error result is follows link told = tt
-at_unread_link (Some a) name path then links error (Ok value) is follows link told = absurd told
-at_unread_link {A} (Some a) name path then links error (Err answered) is follows link told =
-    subst (λ e. AnswersLinks {A = A} a name (Err e)) (sym told) (stuck (subst (λ p. ((a.link p ≡ Err (error_kind error)) × (is_no_link (error_kind error) ≡ false)) ⊎ (error_kind error ≡ OutOfMemory)) is link))
-  where
-    stuck : ((a.link path ≡ Err (error_kind error)) × (is_no_link (error_kind error) ≡ false)) ⊎ (error_kind error ≡ OutOfMemory) → LeadsNowhere a name (error_kind error) ⊎ (error_kind error ≡ OutOfMemory)
-    stuck (inl unread) = inl (inr (inl (links, path, follows, unread.0, unread.1)))
-    stuck (inr memory) = inr memory
+module _ (answers : Option Answers) (path : Text) (looks : ℕ) where
+  abbrev Leads : Result (Option Text) Error → Type 0
+  Leads result = Tells answers (λ a. behind looks a path) result
 
--- there were too many
-pub at_last : (answers : Option Answers) (name path : Text) (links : ℕ) (why : ErrorKind) → links ≡ suc most_links → IfSome answers (λ a. Follows a links name path)
-    → why ≡ FilesystemLoop → IfSome answers (λ a. LeadsNowhere a name why ⊎ (why ≡ OutOfMemory))
-at_last None name path links why all follows kind = tt
-at_last (Some a) name path links why all follows kind = inl (inr (inr (path, subst (λ n. Follows a n name path) all follows, kind)))
+  pub too_many : (error : Error) → looks ≡ 0 → error_kind error ≡ FilesystemLoop → Leads (Err error)
+  unfolding behind
+  too_many error none is = subst (λ n. Tells {T = Option Text} answers (λ a. behind n a path) (Err error)) (sym none) (go answers)
+    where
+      go : (known : Option Answers) → Tells {T = Option Text} known (λ a. behind 0 a path) (Err error)
+      go None = tt
+      go (Some a) = inl (rw is)
 
--- ---- where a state goes
+  module _ (some : 0 < looks) where
+    abbrev rest : Answers → Bool → Result (Option Text) ErrorKind
+    rest a is_open = if is_open then Ok None else (linked path (a.link path) >>= onward (behind (looks - 1) a) path)
 
--- the error of links is that of the name
-pub at_unled : {A : Type 0} (answers : Option Answers) (name : Text) (was : Option Found) (error : Error) (result : Result (String A × Kind) Error)
-    → IfSome answers (λ a. LeadsNowhere a name (error_kind error) ⊎ (error_kind error ≡ OutOfMemory)) → IsErrAnd result (λ told. told ≡ error)
-    → IfSome answers (λ a. AnswersTarget a name result was)
-at_unled None name was error result links told = tt
-at_unled (Some a) name was error (Ok to) links told = absurd told
-at_unled (Some a) name was error (Err answered) links told = subst (λ e. LeadsNowhere a name (error_kind e) ⊎ (error_kind e ≡ OutOfMemory)) (sym told) links
+    unfolded : (result : Result (Option Text) Error) → Tells answers (λ a. is_open_file a path >>= rest a) result → Leads result
+    unfolding behind
+    unfolded result so =
+        let one : looks ≡ suc (looks - 1) = omega arith in
+        subst (λ n. Tells answers (λ a. behind n a path) result) (sym one) so
 
--- and that of the destination
-pub no_target : (answers : Option Answers) (name : Text) (error : Error) (result : Result Destination Error)
-    → IfSome answers (λ a. LeadsNowhere a name (error_kind error) ⊎ (error_kind error ≡ OutOfMemory)) → IsErrAnd result (λ told. told ≡ error)
-    → IfSome answers (λ a. AnswersDestination a name result)
-no_target None name error result target told = tt
-no_target (Some a) name error (Ok d) target told = absurd told
-no_target (Some a) name error (Err answered) target told = subst (λ e. HasNoDestination a name (error_kind e) ⊎ (error_kind e ≡ OutOfMemory)) (sym told) (unled target)
-  where
-    unled : LeadsNowhere a name (error_kind error) ⊎ (error_kind error ≡ OutOfMemory) → HasNoDestination a name (error_kind error) ⊎ (error_kind error ≡ OutOfMemory)
-    unled (inl nowhere) = inl (inr (inl nowhere))
-    unled (inr memory) = inr memory
+    pub not_told : (error : Error) (result : Result (Option Text) Error) → Tells {T = Bool} answers (λ a. is_open_file a path) (Err error) → IsErrAnd result (λ why. why ≡ error) → Leads result
+    not_told error result tells is = unfolded result (fails (λ a. is_open_file a path) rest answers error result tells is)
 
--- or of the new file's path
-pub no_temp : {A : Type 0} (answers : Option Answers) (name asked : Text) (was : Option Found) (to : String A × Kind) (error : Error) (result : Result Destination Error) → asked ≡ string_bytes to.0
-    → IfSome answers (λ a. AnswersFound a name (Ok was)) → IfSome answers (λ a. AnswersTarget a name (Ok to) was)
-    → ((new_path asked ≡ None) × (error_kind error ≡ InvalidFilename)) ⊎ (error_kind error ≡ OutOfMemory)
-    → IsErrAnd result (λ told. told ≡ error) → IfSome answers (λ a. AnswersDestination a name result)
-no_temp None name asked was to error result is found target temp told = tt
-no_temp (Some a) name asked was to error (Ok d) is found target temp told = absurd told
-no_temp (Some a) name asked was to error (Err answered) is found target temp told =
-    subst (λ e. HasNoDestination a name (error_kind e) ⊎ (error_kind e ≡ OutOfMemory)) (sym told) (nameless was found target temp)
-  where
-    goes : (was : Option Found) → AnswersFound a name (Ok was) → AnswersTarget a name (Ok to) was → GoesTo a name (a.found name) (string_bytes to.0) to.1
-    goes None (why, is_err, missing) target = subst (λ known. GoesTo a name known (string_bytes to.0) to.1) (sym is_err) (target why missing)
-    goes (Some was) is_ok target = subst (λ known. GoesTo a name known (string_bytes to.0) to.1) (sym is_ok) target
+    module _ (is_open : Bool) (opens : Tells answers (λ a. is_open_file a path) (Ok is_open)) where
+      onto : (b : Bool) (result : Result (Option Text) Error) → is_open ≡ b → Tells answers (λ a. rest a b) result → Leads result
+      onto b result is so = unfolded result (follows (λ a. is_open_file a path) rest answers is_open result opens (subst (λ o. Tells answers (λ a. rest a o) result) (sym is) so))
 
-    nameless : (was : Option Found) → AnswersFound a name (Ok was) → AnswersTarget a name (Ok to) was
-        → ((new_path asked ≡ None) × (error_kind error ≡ InvalidFilename)) ⊎ (error_kind error ≡ OutOfMemory) → HasNoDestination a name (error_kind error) ⊎ (error_kind error ≡ OutOfMemory)
-    nameless was found target (inl none) =
-        inl (inr (inr (string_bytes to.0, to.1, goes was found target, subst (λ p. new_path p ≡ None) is none.0, none.1)))
-    nameless was found target (inr memory) = inr memory
+      pub at_open : is_open ≡ true → Leads (Ok None)
+      at_open is = onto true (Ok None) is (told answers None)
+
+      module _ (closed : is_open ≡ false) where
+        abbrev link : Answers → Result (Option Text) ErrorKind
+        link a = linked path (a.link path)
+
+        pub not_read : (error : Error) (result : Result (Option Text) Error) → Tells {T = Option Text} answers link (Err error) → IsErrAnd result (λ why. why ≡ error) → Leads result
+        not_read error result tells is = onto false result closed (fails link (λ a. onward (behind (looks - 1) a) path) answers error result tells is)
+
+        module _ (next : Option Text) (links : Tells answers link (Ok next)) where
+          along : (n : Option Text) (result : Result (Option Text) Error) → next ≡ n → Tells answers (λ a. onward (behind (looks - 1) a) path n) result → Leads result
+          along n result is so =
+              onto false result closed (follows link (λ a. onward (behind (looks - 1) a) path) answers next result links (subst (λ o. Tells answers (λ a. onward (behind (looks - 1) a) path o) result) (sym is) so))
+
+          pub at_end : (end : Text) → next ≡ None → end ≡ path → Leads (Ok (Some end))
+          at_end end none is = along None (Ok (Some end)) none (subst (λ p. Tells answers (λ a. Ok (Some path)) (Ok (Some p))) (sym is) (told answers (Some path)))
+
+          pub at_link : (further asked : Text) (result : Result (Option Text) Error) → next ≡ Some further → asked ≡ further → Tells answers (λ a. behind (looks - 1) a asked) result → Leads result
+          at_link further asked result is same leads = along (Some further) result is (subst (λ p. Tells answers (λ a. behind (looks - 1) a p) result) same leads)
+
+pub ruleset links = (too_many, not_told, at_open, not_read, at_end, at_link)

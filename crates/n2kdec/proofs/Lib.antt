@@ -6,7 +6,6 @@ pub mod Keeping
 pub mod Lines
 pub mod MachineLemmas
 pub mod Making
-pub mod Placing
 pub mod Replacing
 pub mod Rows
 pub mod Tables

@@ -1,242 +1,138 @@
--- Which calls of the system a call of the folder is.
-use Rattle.std.proofs.Common.{◌≡◌, ℕ, Bool, true, false, List, [], ◌∷◌, ◌++◌, Option, None, Some, IfSome, OnOk, Result, Ok, Err, is_ok, inl, inr, refl, subst, sym, ap, ◌∙◌, if◌then◌else◌}
-use Rattle.std.specs.Option.{is_none}
+-- Which calls a function makes of a folder, one after the other.
+use Rattle.std.proofs.Common.{◌≡◌, ◌≢◌, ◌⊎◌, ℕ, true, false, List, [], ◌∷◌, ◌++◌, Option, None, Some, IfSome, Result, Ok, Err, IsErrAnd, inl, inr, refl, subst, sym, ap, ◌∙◌}
 use Rattle.std.specs.IoError.{error_kind}
 use Rattle.std.specs.declared.fs.OpenOptions.{OpenOptions}
 use Rattle.std.specs.declared.io.Error.{Error}
-use Rattle.std.specs.declared.io.ErrorKind.{ErrorKind}
 use Rattle.clap.specs.Words.{Text}
-use Rattle.n2kdec.specs.Destination.{folder_of, is_missing}
-use Rattle.n2kdec.specs.Disk as act
-use Rattle.n2kdec.specs.Disk.{Act, IsOpenAt, Notes, NotesOpen, failure}
-use Rattle.n2kdec.specs.Folder.{AreClearing, AreNoNewFile, Does, IsDoneBy, Target, Temp, create, created, empty, is_refusal, is_taken, makes_new, path_of, remove, renamed, sync_folder, with_mode, writes_behind, writes_over}
-use Rattle.n2kdec.specs.Inner.Placing.{AreMakingNew, MakesNew, unplaced_of}
-use Rattle.n2kdec.specs.Replacement.{WritesBehind}
+use Rattle.n2kdec.specs.Destination.{destination, folder_of}
+use Rattle.n2kdec.specs.Disk.{Act, Acts, Answers, Call, IsAnswerUnlessMemory, acted, failure, noted, open_at, remove, rename, set_mode, sync_folder}
+use Rattle.n2kdec.specs.Folder.{Name, Target, Temp, act_at, behind, is_taken, path_of}
+use Rattle.n2kdec.specs.Replacement.{By, Doing, IsAppended, IsFoundFor, IsKept, IsKeptAs, IsMade, IsMadeAnew, IsModed, IsNamed, IsOfMemory, IsOne, IsOver, IsPlaced, IsWritten, KeepsText, Makes, Then, is_memory, judged, make}
 use Rattle.n2kdec.specs.declared.destination.Destination.{Destination}
+use Rattle.n2kdec.specs.declared.destination.Kind.{Kind}
+use Rattle.n2kdec.specs.declared.destination.Kind.TheVariants.{Alone, Shared, Special}
 use Rattle.n2kdec.specs.declared.replacement.Unplaced.{Unplaced}
 use Rattle.n2kdec.specs.declared.replacement.Unplaced.TheVariants.{Refused, Failed}
+use Rattle.n2kdec.proofs.Replacing.{leaves_one, leaves_written}
 
--- ---- acts, one after the other
+module _ (d : Destination) where
+  both : (later made : List (Act Name)) (a : Acts) → behind d (later ++ made) a ≡ behind d later (behind d made a)
+  both [] made a = refl
+  both (act ∷ later) made a = ap (noted (act_at d act)) (both later made a)
 
-abbrev Adds : Option (List Act) → Option (List Act) → (List Act → Type 0) → Type 0
-Adds a b P = IfSome b (λ all. (acts had : List Act) × (a ≡ Some had) × (all ≡ acts ++ had) × P acts)
+  -- one call, and calls of functions one after the other
+  pub one : (a b : Acts) (call : Call Name) (result : Result (Unit {0}) Error) → b ≡ noted (act_at d (acted call result)) a → Makes d a b (IsOne call) result
+  one a b call result is = (acted call result ∷ [], is, refl)
 
-one : (a b : Option (List Act)) (it : Act) → Notes a b it → Adds a b (λ acts. acts ≡ it ∷ [])
-one a None it notes = tt
-one a (Some all) it (had, was, is) = (it ∷ [], had, was, is, refl)
+  pub opened : (a b : Acts) (name : Name) (path : Text) (how asked : OpenOptions) (result : Result (Unit {0}) Error) → path ≡ path_of d name → asked ≡ how → b ≡ noted (acted (open_at path asked) result) a
+      → Makes d a b (IsOne (open_at name how)) result
+  opened a b name path how asked result at so is =
+      one a b (open_at name how) result (subst (λ p. b ≡ noted (acted (open_at p how) result) a) at (subst (λ h. b ≡ noted (acted (open_at path h) result) a) so is))
 
-more : (a b c : Option (List Act)) (acts : List Act) (it : Act) → Adds a b (λ these. these ≡ acts) → Notes b c it → Adds a c (λ these. these ≡ it ∷ acts)
-more a b None acts it first notes = tt
-more a b (Some all) acts it first (middle, was, is) =
-    let before_it = subst (λ known. IfSome known (λ them. (these had : List Act) × (a ≡ Some had) × (them ≡ these ++ had) × (these ≡ acts))) was first in
-    (it ∷ acts, before_it.1, before_it.2, is ∙ ap (λ them. it ∷ them) (before_it.3 ∙ ap (λ these. these ++ before_it.1) before_it.4), refl)
+  pub removed : (a b : Acts) (name : Name) (path : Text) (result : Result (Unit {0}) Error) → path ≡ path_of d name → b ≡ noted (acted (remove path) result) a → Makes d a b (IsOne (remove name)) result
+  removed a b name path result at is = one a b (remove name) result (subst (λ p. b ≡ noted (acted (remove p) result) a) at is)
 
-holds : (a b : Option (List Act)) (acts : List Act) (P : List Act → Type 0) → Adds a b (λ these. these ≡ acts) → P acts → Adds a b P
-holds a None acts P adds is = tt
-holds a (Some all) acts P (these, had, was, all_is, same) is = (these, had, was, all_is, subst P (sym same) is)
+  pub renamed : (a b : Acts) (from to : Text) (result : Result (Unit {0}) Error) → from ≡ d.temp → to ≡ d.target → b ≡ noted (acted (rename from to) result) a → Makes d a b (IsOne (rename Temp Target)) result
+  renamed a b from to result is_from is_to is =
+      one a b (rename Temp Target) result (subst (λ p. b ≡ noted (acted (rename p d.target) result) a) is_from (subst (λ p. b ≡ noted (acted (rename from p) result) a) is_to is))
 
--- what is so of acts is so of more
-weaken : (a b : Option (List Act)) (P Q : List Act → Type 0) → ((acts : List Act) → P acts → Q acts) → Adds a b P → Adds a b Q
-weaken a None P Q from adds = tt
-weaken a (Some all) P Q from (acts, had, was, is, so) = (acts, had, was, is, from acts so)
+  pub folder_synced : (a b : Acts) (path folder : Text) (result : Result (Unit {0}) Error) → folder ≡ folder_of path → path ≡ d.target → b ≡ noted (acted (sync_folder folder) result) a
+      → Makes d a b (IsOne (sync_folder Target)) result
+  folder_synced a b path folder result of_path at is =
+      one a b (sync_folder Target) result (subst (λ p. b ≡ noted (acted (sync_folder p) result) a) (of_path ∙ ap folder_of at) is)
 
--- ---- a new file is made
+  pub after : {E : Type 0} (a b c : Acts) (One Other : Doing E) (value : Unit {0}) (result : Result (Unit {0}) E) → Makes d a b One (Ok value) → Makes d b c Other result → Makes d a c (Then One Other) result
+  after a b c One Other value result (first, from, one_is) (later, to, other_is) =
+      (later ++ first, to ∙ ap (behind d later) from ∙ sym (both later first a), inl (first, later, one_is, other_is, refl))
 
-judged : (path : Text) (acts : List Act) (error : Error) (refusal : Bool) → is_refusal (error_kind error) ≡ refusal → AreNoNewFile path acts (error_kind error)
-    → AreMakingNew {T = Unit {0}} path (Err (if refusal then Refused else Failed error)) acts
-judged path acts error true is none = (error_kind error, is, none)
-judged path acts error false is none = inl (error_kind error, is, none)
+  pub ended : {E : Type 0} (a b : Acts) (One Other : Doing E) (error : E) (result : Result (Unit {0}) E) → Makes d a b One (Err error) → IsErrAnd result (λ why. why ≡ error) → Makes d a b (Then One Other) result
+  ended a b One Other error (Ok value) makes told = absurd told
+  ended {E} a b One Other error (Err why) (made, from, is) told = (made, from, inr (subst (λ (e : E). One (Err e) made) (sym told) is))
 
-module _ (path : Text) (a b : Option (List Act)) where
-  pub made_at_once : (value : Unit {0}) → Notes a b (act.open_at path makes_new None) → MakesNew path a b (Ok value)
-  made_at_once value opening = holds a b (act.open_at path makes_new None ∷ []) (AreMakingNew path (Ok value)) (one a b _ opening) ([], inl refl, refl)
+  pub by : (a b : Acts) (answers : Result (Unit {0}) Error → Result (Unit {0}) Unplaced) (Does : Doing Error) (answer : Result (Unit {0}) Error) (result : Result (Unit {0}) Unplaced)
+      → Makes d a b Does answer → result ≡ answers answer → Makes d a b (By answers Does) result
+  by a b answers Does answer result (made, from, is) same = (made, from, (answer, is, same))
 
-  pub not_made : (error : Error) (why : Unplaced) → Notes a b (act.open_at path makes_new (Some (error_kind error))) → is_taken (error_kind error) ≡ false → why ≡ unplaced_of error
-      → MakesNew {T = Unit {0}} path a b (Err why)
-  not_made error why opening free is =
-      subst (λ w. MakesNew {T = Unit {0}} path a b (Err w)) (sym is)
-      (holds a b (act.open_at path makes_new (Some (error_kind error)) ∷ []) (AreMakingNew {T = Unit {0}} path (Err (unplaced_of error))) (one a b _ opening)
-      (judged path _ error (is_refusal (error_kind error)) refl (inl (free, refl))))
+  -- a new file is made
+  pub made_at_once : (a b : Acts) (answer : Result (Unit {0}) Error) (result : Result (Unit {0}) Unplaced) → Makes d a b (IsOne make) answer → is_taken (failure answer) ≡ false → result ≡ judged answer → Makes d a b IsMade result
+  made_at_once a b answer result (made, from, is) free same = (made, from, (answer, inl (free, same, is)))
 
-  module _ (taken : Error) (c : Option (List Act)) (opening : Notes a b (act.open_at path makes_new (Some (error_kind taken)))) (is_there : is_taken (error_kind taken) ≡ true) where
-    pub not_cleared : (error : Error) (why : Unplaced) → Notes b c (act.remove path (Some (error_kind error))) → why ≡ unplaced_of error → MakesNew {T = Unit {0}} path a c (Err why)
-    not_cleared error why removing is =
-        subst (λ w. MakesNew {T = Unit {0}} path a c (Err w)) (sym is)
-        (holds a c _ (AreMakingNew {T = Unit {0}} path (Err (unplaced_of error))) (more a b c _ _ (one a b _ opening) removing)
-        (judged path _ error (is_refusal (error_kind error)) refl (inr (error_kind taken, is_there, refl))))
+  pub made_anew : (a b c : Acts) (answer : Result (Unit {0}) Error) (result : Result (Unit {0}) Unplaced) → Makes d a b (IsOne make) answer → is_taken (failure answer) ≡ true → Makes d b c IsMadeAnew result → Makes d a c IsMade result
+  made_anew a b c answer result (made, from, is) taken (later, to, anew) =
+      (later ++ made, to ∙ ap (behind d later) from ∙ sym (both later made a), (answer, inr (later, taken, anew, ap (λ acts. later ++ acts) is)))
 
-    module _ (d : Option (List Act)) (removing : Notes b c (act.remove path None)) where
-      pub made_anew : (value : Unit {0}) → Notes c d (act.open_at path makes_new None) → MakesNew path a d (Ok value)
-      made_anew value again =
-          holds a d _ (AreMakingNew path (Ok value)) (more a c d _ _ (more a b c _ _ (one a b _ opening) removing) again)
-          (act.remove path None ∷ act.open_at path makes_new (Some (error_kind taken)) ∷ [], inr (error_kind taken, is_there, refl), refl)
+  pub moded : (a b : Acts) (mode : Option ℕ) (bits : ℕ) (result : Result (Unit {0}) Error) → mode ≡ Some bits → b ≡ noted (acted (set_mode bits) result) a → Makes d a b (IsModed mode) result
+  moded a b mode bits result is noted_so = subst (λ m. Makes d a b (IsModed m) result) (sym is) (one a b (set_mode bits) result noted_so)
 
-      pub not_made_anew : (error : Error) (why : Unplaced) → Notes c d (act.open_at path makes_new (Some (error_kind error))) → why ≡ Failed error → MakesNew {T = Unit {0}} path a d (Err why)
-      not_made_anew error why again is =
-          subst (λ w. MakesNew {T = Unit {0}} path a d (Err w)) (sym is)
-          (holds a d _ (AreMakingNew {T = Unit {0}} path (Err (Failed error))) (more a c d _ _ (more a b c _ _ (one a b _ opening) removing) again)
-          (inr (error_kind error, error_kind taken, is_there, refl)))
+  pub not_moded : (a : Acts) (mode : Option ℕ) (value : Unit {0}) → mode ≡ None → Makes d a a (IsModed mode) (Ok value)
+  not_moded a mode value is = subst (λ m. Makes d a a (IsModed m) (Ok value)) (sym is) ([], refl, (refl, refl))
 
--- for `create_anew`
-pub ruleset makes_anew = (made_at_once, not_made, not_cleared, made_anew, not_made_anew)
+  -- and named
+  pub named : (a b : Acts) (kind : Kind) (result : Result (Unit {0}) Unplaced) → kind ≡ Alone → Makes d a b (By judged (IsOne (rename Temp Target))) result → Makes d a b (IsNamed kind) result
+  named a b kind result is makes = subst (λ k. Makes d a b (IsNamed k) result) (sym is) makes
 
-module _ (to : Destination) (a b : Option (List Act)) where
-  -- none is made
-  pub not_created : (asked : Text) (held why : Unplaced) → asked ≡ path_of to Temp → MakesNew {T = Unit {0}} asked a b (Err held) → why ≡ held → Does to a b (created {T = Unit {0}} Temp (Err why))
-  not_created asked held why is makes same =
-      subst (λ w. Does to a b (created {T = Unit {0}} Temp (Err w))) (sym same) (go held (subst (λ p. MakesNew {T = Unit {0}} p a b (Err held)) is makes))
+  pub not_named : (a : Acts) (kind : Kind) → kind ≢ Alone → Makes d a a (IsNamed kind) (Err Refused)
+  not_named a Alone other = absurd (other refl)
+  not_named a Shared other = ([], refl, (refl, refl))
+  not_named a Special other = ([], refl, (refl, refl))
+
+  -- ---- in the three ways
+  module _ (text : List ℕ) where
+    pub over : (a b c : Acts) (value done : Unit {0}) (removed : Result (Unit {0}) Error) → Makes d a b (IsWritten d text) (Ok value) → Makes d b c (IsOne (remove Temp)) removed → Makes d a c (IsOver d text) (Ok done)
+    over a b c value done removed (written, from, is) (gone, to, gone_is) =
+        (gone ++ written, to ∙ ap (behind d gone) from ∙ sym (both gone written a), (written, is, (failure removed, ap (λ acts. acts ++ written) gone_is)))
+
+    pub not_over : (a b : Acts) (error : Error) (result : Result (Unit {0}) Error) → Makes d a b (IsWritten d text) (Err error) → IsErrAnd result (λ why. why ≡ error) → Makes d a b (IsOver d text) result
+    not_over a b error (Ok value) makes told = absurd told
+    not_over a b error (Err why) (made, from, is) told = (made, from, (made, subst (λ e. IsWritten d text (Err e) made) (sym told) is, refl))
+
+    pub synced : (a b c : Acts) (value : Unit {0}) (result : Result (Unit {0}) Error) → Makes d a b (IsPlaced d text) (Ok value) → Makes d b c (IsOne (sync_folder Target)) result → Makes d a c (IsKept d text) result
+    synced a b c value result (placed, from, is) (last, to, last_is) =
+        let so = inl (placed, is, ap (λ acts. acts ++ placed) last_is) in
+        (last ++ placed, to ∙ ap (behind d last) from ∙ sym (both last placed a), inl (so, λ first before. leaves_one first before d text result (last ++ placed) so))
+
+    pub given_up : (a b c : Acts) (error : Error) (removed : Result (Unit {0}) Error) → Makes d a b (IsPlaced d text) (Err (Failed error)) → Makes d b c (IsOne (remove Temp)) removed → Makes d a c (IsKept d text) (Err error)
+    given_up a b c error removed (tried, from, is) (gone, to, gone_is) =
+        let so = inr (error, tried, failure removed, refl, is, ap (λ acts. acts ++ tried) gone_is) in
+        (gone ++ tried, to ∙ ap (behind d gone) from ∙ sym (both gone tried a), inl (so, λ first before. leaves_one first before d text (Err error) (gone ++ tried) so))
+
+    pub written_over : (a b c : Acts) (result : Result (Unit {0}) Error) → Makes d a b (IsPlaced d text) (Err Refused) → Makes d b c (IsOver d text) result → Makes d a c (IsKept d text) result
+    written_over a b c result (tried, from, is) (over, to, (written, written_is, ends)) = (
+      over ++ tried,
+      to ∙ ap (behind d over) from ∙ sym (both over tried a),
+      inr (tried, written, over, is, written_is, ends, refl, λ first before. leaves_written first before d text result tried written over is written_is ends),
+    )
+
+    -- by what is there
+    pub kept_alone : (a b : Acts) (kind : Kind) (result : Result (Unit {0}) Error) → kind ≡ Alone → Makes d a b (IsKept d text) result → Makes d a b (IsKeptAs kind d text) result
+    kept_alone a b kind result is makes = subst (λ k. Makes d a b (IsKeptAs k d text) result) (sym is) makes
+
+    pub kept_shared : (a b : Acts) (kind : Kind) (result : Result (Unit {0}) Error) → kind ≡ Shared → Makes d a b (IsKept d text) result → Makes d a b (IsKeptAs kind d text) result
+    kept_shared a b kind result is makes = subst (λ k. Makes d a b (IsKeptAs k d text) result) (sym is) makes
+
+    pub kept_special : (a b : Acts) (kind : Kind) (result : Result (Unit {0}) Error) → kind ≡ Special → Makes d a b (IsAppended text) result → Makes d a b (IsKeptAs kind d text) result
+    kept_special a b kind result is makes = subst (λ k. Makes d a b (IsKeptAs k d text) result) (sym is) makes
+
+-- for each of these functions
+pub ruleset steps = (one, opened, removed, renamed, folder_synced, after, ended, by, made_at_once, made_anew, moded, not_moded, named, not_named, over, not_over, synced, given_up, written_over, kept_alone, kept_shared, kept_special)
+
+-- ---- where a name leads
+
+module _ (answers : Option Answers) (old new : Acts) (name : Text) (text : List ℕ) (result : Result (Unit {0}) Error) where
+  pub kept_nowhere : (error : Error) → IfSome answers (λ a. IsAnswerUnlessMemory {T = Destination} (λ to. to) (destination a name) (Err error)) → IsErrAnd result (λ why. why ≡ error)
+      → KeepsText answers old old name text result
+  kept_nowhere error nowhere is = by_error result is
     where
-      go : (held : Unplaced) → MakesNew {T = Unit {0}} (path_of to Temp) a b (Err held) → Does to a b (created {T = Unit {0}} Temp (Err held))
-      go Refused makes = weaken a b _ _ (λ acts so. (so.0, so.1, inl so.2)) makes
-      go (Failed error) makes = weaken a b _ _ failing makes
-        where
-          failing : (acts : List Act) → AreMakingNew {T = Unit {0}} (path_of to Temp) (Err (Failed error)) acts → IsDoneBy to (create Temp false) acts
-          failing acts (inl none) = inl none
-          failing acts (inr again) = inr (inl again)
+      of_kind : (known : Option Answers) → IfSome known (λ a. IsAnswerUnlessMemory {T = Destination} (λ to. to) (destination a name) (Err error)) → IsFoundFor known name (Err (error_kind error)) ⊎ IsOfMemory error
+      of_kind None nowhere = inl tt
+      of_kind (Some a) (inl none) = inl none
+      of_kind (Some a) (inr memory) = inr (ap is_memory memory)
 
-  -- one is, as it is
-  pub created_plain : (asked : Text) (value : Unit {0}) → asked ≡ path_of to Temp → MakesNew asked a b (Ok value) → to.mode ≡ None → Does to a b (create Temp true)
-  created_plain asked value is makes none =
-      weaken a b _ _ (λ acts so. (so.0, so.1, so.2 ∙ ap (λ m. with_mode (path_of to Temp) m (act.open_at (path_of to Temp) makes_new None ∷ so.0)) (sym none)))
-      (subst (λ p. MakesNew p a b (Ok value)) is makes)
+      by_error : (r : Result (Unit {0}) Error) → IsErrAnd r (λ why. why ≡ error) → KeepsText answers old old name text r
+      by_error (Ok value) told = absurd told
+      by_error (Err why) told = inr (refl, subst (λ e. IsFoundFor answers name (Err (error_kind e)) ⊎ IsOfMemory e) (sym told) (of_kind answers nowhere))
 
-  -- it is open
-  pub created_open : (asked : Text) (value : Unit {0}) → asked ≡ path_of to Temp → MakesNew asked a b (Ok value) → IsOpenAt b (path_of to Temp)
-  created_open asked value is makes = go b (subst (λ p. MakesNew p a b (Ok value)) is makes)
-    where
-      go : (b : Option (List Act)) → MakesNew (path_of to Temp) a b (Ok value) → IsOpenAt b (path_of to Temp)
-      go None makes = tt
-      go (Some all) (acts, had, was, all_is, (cleared, clearing, is)) =
-          subst (λ these. act.open_path these ≡ Some (path_of to Temp)) (sym (all_is ∙ ap (λ these. these ++ had) is)) refl
+  pub kept_as : (d : Destination) → IfSome answers (λ a. IsAnswerUnlessMemory (λ to. to) (destination a name) (Ok d)) → Makes d old new (IsKeptAs d.kind d text) result → KeepsText answers old new name text result
+  kept_as d found keeps = inl (d, found, keeps)
 
-  module _ (asked : Text) (value : Unit {0}) (mode : ℕ) (is : asked ≡ path_of to Temp) (makes : MakesNew asked a b (Ok value)) (some : to.mode ≡ Some mode) (c : Option (List Act)) where
-    moded : (why : Option ErrorKind) (P : List Act → Type 0)
-        → ((cleared : List Act) → AreClearing (path_of to Temp) cleared → P (act.set_mode (Some (path_of to Temp)) mode why ∷ act.open_at (path_of to Temp) makes_new None ∷ cleared))
-        → NotesOpen b c (λ at. act.set_mode at mode why) → Adds a c P
-    moded why P from notes = go c (subst (λ p. MakesNew p a b (Ok value)) is makes) notes
-      where
-        go : (c : Option (List Act)) → MakesNew (path_of to Temp) a b (Ok value) → NotesOpen b c (λ at. act.set_mode at mode why) → Adds a c P
-        go None makes notes = tt
-        go (Some all) makes (middle, was, all_is) =
-            let begun = subst (λ known. MakesNew (path_of to Temp) a known (Ok value)) was makes in
-            let they : middle ≡ (act.open_at (path_of to Temp) makes_new None ∷ begun.4.0) ++ begun.1 = begun.3 ∙ ap (λ these. these ++ begun.1) begun.4.2 in (
-              act.set_mode (Some (path_of to Temp)) mode why ∷ act.open_at (path_of to Temp) makes_new None ∷ begun.4.0,
-              begun.1,
-              begun.2,
-              all_is ∙ ap (λ these. act.set_mode (act.open_path these) mode why ∷ these) they,
-              from begun.4.0 begun.4.1,
-            )
-
-    pub created_with_mode : NotesOpen b c (λ at. act.set_mode at mode None) → Does to a c (create Temp true)
-    created_with_mode notes =
-        moded None (IsDoneBy to (create Temp true))
-        (λ cleared clearing. (cleared, clearing, ap (λ m. with_mode (path_of to Temp) m (act.open_at (path_of to Temp) makes_new None ∷ cleared)) (sym some))) notes
-
-    pub not_created_with_mode : (error : Error) (why : Unplaced) → why ≡ Failed error → NotesOpen b c (λ at. act.set_mode at mode (Some (error_kind error)))
-        → Does to a c (created {T = Unit {0}} Temp (Err why))
-    not_created_with_mode error why failed notes =
-        subst (λ w. Does to a c (created {T = Unit {0}} Temp (Err w))) (sym failed)
-        (moded (Some (error_kind error)) (IsDoneBy to (create Temp false)) (λ cleared clearing. inr (inr (error_kind error, mode, cleared, clearing, some, refl))) notes)
-
-    pub open_with_mode : NotesOpen b c (λ at. act.set_mode at mode None) → IsOpenAt c (path_of to Temp)
-    open_with_mode notes = go c notes
-      where
-        go : (c : Option (List Act)) → NotesOpen b c (λ at. act.set_mode at mode None) → IsOpenAt c (path_of to Temp)
-        go None notes = tt
-        go (Some all) (had, was, all_is) =
-            subst (λ these. act.open_path these ≡ Some (path_of to Temp)) (sym all_is) (subst (λ known. IsOpenAt known (path_of to Temp)) was (created_open asked value is makes))
-
--- for `create`
-pub ruleset creates = (not_created, created_plain, created_open, created_with_mode, not_created_with_mode, open_with_mode)
-
--- ---- the other calls
-
--- a call that is one of the system
-is_one : {T : Type 0} (a b : Option (List Act)) (it : Option ErrorKind → Act) (result : Result T Error) (P : Bool → List Act → Type 0)
-    → ((acts : List Act) → acts ≡ it None ∷ [] → P true acts) → ((why : ErrorKind) (acts : List Act) → acts ≡ it (Some why) ∷ [] → P false acts)
-    → Notes a b (it (failure result)) → Adds a b (P (is_ok result))
-is_one a b it (Ok value) P done failed notes = weaken a b _ _ done (one a b _ notes)
-is_one a b it (Err error) P done failed notes = weaken a b _ _ (failed (error_kind error)) (one a b _ notes)
-
-module _ {T : Type 0} (to : Destination) (a b : Option (List Act)) (asked : Text) (result : Result T Error) where
-  pub emptied : (how : OpenOptions) (is_new : Bool) → asked ≡ path_of to Target → how ≡ writes_over is_new → is_new ≡ is_none to.mode → Notes a b (act.open_at asked how (failure result))
-      → Does to a b (empty Target (is_ok result))
-  emptied how is_new is so new notes =
-      is_one a b (λ why. act.open_at (path_of to Target) (writes_over (is_none to.mode)) why) result (λ done. IsDoneBy to (empty Target done)) (λ acts same. same) (λ why acts same. (why, same))
-      (subst (λ p. Notes a b (act.open_at p (writes_over (is_none to.mode)) (failure result))) is
-      (subst (λ n. Notes a b (act.open_at asked (writes_over n) (failure result))) new (subst (λ h. Notes a b (act.open_at asked h (failure result))) so notes)))
-
-  pub emptied_open : (how : OpenOptions) → asked ≡ path_of to Target → Notes a b (act.open_at asked how (failure result)) → OnOk result (IsOpenAt b (path_of to Target))
-  emptied_open how is notes = go result b notes
-    where
-      go : (result : Result T Error) (b : Option (List Act)) → Notes a b (act.open_at asked how (failure result)) → OnOk result (IsOpenAt b (path_of to Target))
-      go (Err error) b notes = tt
-      go (Ok value) None notes = tt
-      go (Ok value) (Some all) (had, was, all_is) = subst (λ these. act.open_path these ≡ Some (path_of to Target)) (sym all_is) (ap (λ (p : Text). Some p) is)
-
-  pub folder_synced : (asked_of : Text) → asked ≡ folder_of asked_of → asked_of ≡ path_of to Target → Notes a b (act.sync_folder asked (failure result)) → Does to a b (sync_folder (is_ok result))
-  folder_synced asked_of is of notes =
-      is_one a b (λ why. act.sync_folder (folder_of (path_of to Target)) why) result (λ done. IsDoneBy to (sync_folder done)) (λ acts same. same) (λ why acts same. (why, same))
-      (subst (λ p. Notes a b (act.sync_folder p (failure result))) (is ∙ ap folder_of of) notes)
-
-module _ (to : Destination) (a b : Option (List Act)) where
-  pub moved : (from at : Text) (value : Unit {0}) → from ≡ path_of to Temp → at ≡ path_of to Target → Notes a b (act.rename from at None) → Does to a b (renamed Temp Target (Ok value))
-  moved from at value is_from is_at notes =
-      weaken a b _ _ (λ acts same. same) (one a b (act.rename (path_of to Temp) (path_of to Target) None)
-      (subst (λ p. Notes a b (act.rename (path_of to Temp) p None)) is_at (subst (λ p. Notes a b (act.rename p at None)) is_from notes)))
-
-  pub not_moved : (from at : Text) (error : Error) (why : Unplaced) → from ≡ path_of to Temp → at ≡ path_of to Target → Notes a b (act.rename from at (Some (error_kind error)))
-      → why ≡ unplaced_of error → Does to a b (renamed {T = Unit {0}} Temp Target (Err why))
-  not_moved from at error why is_from is_at notes is =
-      subst (λ w. Does to a b (renamed {T = Unit {0}} Temp Target (Err w))) (sym is) (go (is_refusal (error_kind error)) refl)
-    where
-      there : Adds a b (λ acts. acts ≡ act.rename (path_of to Temp) (path_of to Target) (Some (error_kind error)) ∷ [])
-      there = one a b _ (subst (λ p. Notes a b (act.rename (path_of to Temp) p (Some (error_kind error)))) is_at (subst (λ p. Notes a b (act.rename p at (Some (error_kind error)))) is_from notes))
-
-      go : (refusal : Bool) → is_refusal (error_kind error) ≡ refusal → Does to a b (renamed {T = Unit {0}} Temp Target (Err (if refusal then Refused else Failed error)))
-      go true is = weaken a b _ _ (λ acts same. (error_kind error, is, inr same)) there
-      go false is = weaken a b _ _ (λ acts same. (error_kind error, is, same)) there
-
-  pub taken_away : (asked : Text) (value : Unit {0}) → asked ≡ path_of to Temp → Notes a b (act.remove asked None) → Does to a b (remove Temp true)
-  taken_away asked value is notes = weaken a b _ _ (λ acts same. inl same) (one a b _ (subst (λ p. Notes a b (act.remove p None)) is notes))
-
-  pub not_there : (asked : Text) (error : Error) → asked ≡ path_of to Temp → Notes a b (act.remove asked (Some (error_kind error))) → is_missing (error_kind error) ≡ true → Does to a b (remove Temp true)
-  not_there asked error is notes missing =
-      weaken a b _ _ (λ acts same. inr (error_kind error, missing, same)) (one a b _ (subst (λ p. Notes a b (act.remove p (Some (error_kind error)))) is notes))
-
-  pub not_taken_away : (asked : Text) (error : Error) → asked ≡ path_of to Temp → Notes a b (act.remove asked (Some (error_kind error))) → is_missing (error_kind error) ≡ false
-      → Does to a b (remove Temp false)
-  not_taken_away asked error is notes there =
-      weaken a b _ _ (λ acts same. (error_kind error, there, same)) (one a b _ (subst (λ p. Notes a b (act.remove p (Some (error_kind error)))) is notes))
-
--- ---- what is no regular file
-
-module _ (path text : List ℕ) (a b : Option (List Act)) where
-  pub not_opened : {E : Type 0} (error : Error) (why : E) → Notes a b (act.open_at path writes_behind (Some (error_kind error))) → WritesBehind {T = Unit {0}} path a b text (Err why)
-  not_opened error why notes = weaken a b _ _ (λ acts same. (error_kind error, inl same)) (one a b _ notes)
-
-  pub appended : {T : Type 0} (c : Option (List Act)) (result : Result T Error) → Notes a b (act.open_at path writes_behind None) → NotesOpen b c (λ at. act.write at text (failure result))
-      → WritesBehind path a c text result
-  appended {T} c result opening writing = go c result opening writing
-    where
-      both : (c : Option (List Act)) (why : Option ErrorKind) → Notes a b (act.open_at path writes_behind None) → NotesOpen b c (λ at. act.write at text why)
-          → Adds a c (λ acts. acts ≡ act.write (Some path) text why ∷ act.open_at path writes_behind None ∷ [])
-      both None why opening writing = tt
-      both (Some all) why opening (middle, was, all_is) =
-          let begun = subst (λ known. Notes a known (act.open_at path writes_behind None)) was opening in
-          (act.write (Some path) text why ∷ act.open_at path writes_behind None ∷ [], begun.0, begun.1, all_is ∙ ap (λ these. act.write (act.open_path these) text why ∷ these) begun.2, refl)
-
-      go : (c : Option (List Act)) (result : Result T Error) → Notes a b (act.open_at path writes_behind None) → NotesOpen b c (λ at. act.write at text (failure result)) → WritesBehind path a c text result
-      go c (Ok value) opening writing = weaken a c _ _ (λ acts same. same) (both c None opening writing)
-      go c (Err error) opening writing = weaken a c _ _ (λ acts same. (error_kind error, inr same)) (both c (Some (error_kind error)) opening writing)
-
--- for `empty`, `rename`, `remove_temp`, `sync_folder` and `append`
-pub ruleset empties = (emptied, emptied_open)
-
-pub ruleset renames = (moved, not_moved)
-
-pub ruleset removes = (taken_away, not_there, not_taken_away)
-
-pub ruleset syncs_folder = (folder_synced)
-
-pub ruleset appends = (not_opened, appended)
+pub ruleset keeps = (kept_nowhere, kept_as)

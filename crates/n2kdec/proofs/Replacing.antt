@@ -1,390 +1,456 @@
 -- What is there at each moment of a replacement, and after a text is written over another.
-use Rattle.std.proofs.Common.{◌≡◌, ◌⊎◌, List, ℕ, Bool, true, false, [], ◌∷◌, ◌++◌, Option, None, Some, Result, Ok, Err, is_ok, refl, inl, inr, subst, sym, ap, ◌∙◌, ⊎_elim, append_assoc, arith}
+use Rattle.std.proofs.Common.{◌≡◌, ◌⊎◌, ◌||◌, List, ℕ, Bool, true, false, [], ◌∷◌, ◌++◌, Option, None, Some, OnOk, Result, Ok, Err, refl, inl, inr, subst, sym, ap, ◌∙◌, append_assoc, if◌then◌else◌}
+use Rattle.std.specs.Fs.{asks_create_new, asks_truncate}
+use Rattle.std.specs.IoError.{error_kind}
 use Rattle.std.specs.declared.io.Error.{Error}
 use Rattle.std.specs.declared.io.ErrorKind.{ErrorKind}
-use Rattle.n2kdec.specs.Disk as act
-use Rattle.n2kdec.specs.Disk.{Act, IsOpenAt, NotesOpen}
-use Rattle.n2kdec.specs.Folder.{AreDoneBy, Call, Content, Does, MayBeLeft, MayHave, Name, Target, Temp, create, cut_short, empty, failures, path_of, refused, remove, rename, sync, sync_folder, write}
-use Rattle.n2kdec.specs.Inner.Placing.{HasFilled, HasPlaced, IsStuck, IsUnfilled, Makes}
-use Rattle.n2kdec.specs.Replacement.{AreRefused, AreUnfilled, AreWritingOver, AtEachMoment, AtomicReplacement, FromTo, HasOldOrNew, IsAsBefore, IsGivenUp, KeepsNames, LeftAlone, Overwrites, Overwriting, PutsInPlace, RefusedReplacement, filled, placed}
+use Rattle.n2kdec.specs.Destination.{is_missing}
+use Rattle.n2kdec.specs.Disk.{Act, Call, acted, failure, open_at, set_mode, write, sync, rename, remove, sync_folder}
+use Rattle.n2kdec.specs.Folder.{Content, Extent, FileAfter, FileMayBeLeft, HasAfter, LeftAfter, MayBeLeft, MayHave, Name, Target, Temp, Unsure, Nothing, Whole, Where, changed_by, cut_failure, cut_short, extent_of, is_refusal, opened, opened_by}
+use Rattle.n2kdec.specs.Replacement.{AtEachMoment, By, Doing, EndsWith, HasOldOrNew, IsAlone, IsAsBefore, IsFilled, IsGivenUp, IsMade, IsModed, IsNamed, IsOne, IsPlaced, IsPoured, IsSynced, IsWritten, LeavesOne, LeavesWritten, Then, empty, failed, judged, make}
 use Rattle.n2kdec.specs.declared.destination.Destination.{Destination}
 use Rattle.n2kdec.specs.declared.destination.Kind.{Kind}
-use Rattle.n2kdec.specs.declared.destination.Kind.TheVariants.{Alone, Shared}
+use Rattle.n2kdec.specs.declared.destination.Kind.TheVariants.{Alone, Shared, Special}
 use Rattle.n2kdec.specs.declared.replacement.Unplaced.{Unplaced}
 use Rattle.n2kdec.specs.declared.replacement.Unplaced.TheVariants.{Refused, Failed}
-use Rattle.n2kdec.proofs.Placing.{known, noted, only, still_open_written, synced_by, synced_not, wrote, wrote_not}
+
+-- a call that is done
+abbrev pub done : Call Name → Act Name
+done call = record { call = call; failed = None }
+
+last : (P : List (Act Name) → Type 0) (made before : List (Act Name)) → AtEachMoment P made before → P (made ++ before)
+last P [] before here = here
+last P (act ∷ made) before here = here.2
+
+weaken : (P Q : List (Act Name) → Type 0) → ((acts : List (Act Name)) → P acts → Q acts) → (made before : List (Act Name)) → AtEachMoment P made before → AtEachMoment Q made before
+weaken P Q so [] before here = so before here
+weaken P Q so (act ∷ made) before here = (weaken P Q so made before here.0, so _ here.1, so _ here.2)
+
+-- ---- calls of the file of one name
+
+abbrev IsOf : Name → Call Name → Option Name → Type 0
+IsOf own (open_at name how) current = name ≡ own
+IsOf own (rename from to) current = ⊥
+IsOf own (remove name) current = name ≡ own
+IsOf own (sync_folder name) current = ⊥
+IsOf own _ current = current ≡ Some own
+
+abbrev AreOf : Name → List (Act Name) → List (Act Name) → Type 0
+AreOf own [] before = Unit {0}
+AreOf own (act ∷ made) before = IsOf own act.call (opened (made ++ before)) × AreOf own made before
+
+of_both : (own : Name) (later made before : List (Act Name)) → AreOf own later (made ++ before) → AreOf own made before → AreOf own (later ++ made) before
+of_both own [] made before of so = so
+of_both own (act ∷ later) made before of so =
+    (subst (λ acts. IsOf own act.call (opened acts)) (sym (append_assoc later made before)) of.0, of_both own later made before of.1 so)
+
+-- what the other name has they leave as it is
+module _ (own other : Name) (apart : (A B : Type 0) → Where other (Some own) A B → B) where
+  elsewhere : (call : Call Name) (current : Option Name) (A B : Type 0) → IsOf own call current → Where other (changed_by call current) A B → B
+  elsewhere (open_at name how) current A B is here = at (asks_create_new how || asks_truncate how) (subst (λ n. Where other (changed_by (open_at n how) current) A B) is here)
+    where
+      at : (b : Bool) → Where other (if b then Some own else None) A B → B
+      at true here = apart A B here
+      at false here = here
+  elsewhere (rename from to) current A B is here = absurd is
+  elsewhere (remove name) current A B is here = apart A B (subst (λ n. Where other (Some n) A B) is here)
+  elsewhere (sync_folder name) current A B is here = absurd is
+  elsewhere (set_mode mode) current A B is here = apart A B (subst (λ o. Where other o A B) is here)
+  elsewhere (write text) current A B is here = apart A B (subst (λ o. Where other o A B) is here)
+  elsewhere sync current A B is here = apart A B (subst (λ o. Where other o A B) is here)
+
+  found_still : (extent : Extent) (call : Call Name) (current : Option Name) (had : Name → Content → Type 0) (c : Content) → IsOf own call current → HasAfter extent call current had other c → had other c
+  found_still Nothing call current had c is here = here
+  found_still extent (rename from to) current had c is here = absurd is
+  found_still extent (sync_folder name) current had c is here = absurd is
+  found_still Whole (open_at name how) current had c is here = elsewhere (open_at name how) current _ _ is here
+  found_still Whole (write text) current had c is here = elsewhere (write text) current _ _ is here
+  found_still Whole (remove name) current had c is here = elsewhere (remove name) current _ _ is here
+  found_still Whole _ current had c is here = here
+  found_still Unsure call current had c is here = elsewhere call current _ _ is here
+
+  left_still : (extent : Extent) (call : Call Name) (current : Option Name) (had : Name → Content → Type 0) (file : Name → List ℕ → Type 0) (left : Name → Content → Type 0) (c : Content)
+      → IsOf own call current → LeftAfter extent call current had file left other c → left other c
+  left_still Nothing call current had file left c is here = here
+  left_still extent (rename from to) current had file left c is here = absurd is
+  left_still extent (sync_folder name) current had file left c is here = absurd is
+  left_still Whole call current had file left c is here = elsewhere call current _ _ is here
+  left_still Unsure call current had file left c is here = elsewhere call current _ _ is here
+
+  module _ (first : Name → Content) (before : List (Act Name)) where
+    still : (act : Act Name) (acts : List (Act Name)) → IsOf own act.call (opened acts) → IsAsBefore first before other acts → IsAsBefore first before other (act ∷ acts)
+    still act acts is here = record {
+      found = λ c now. here.found c (found_still (extent_of act.call act.failed) act.call (opened acts) (MayHave first acts) c is now);
+      left = λ c now. here.left c (left_still (extent_of act.call act.failed) act.call (opened acts) (MayHave first acts) (FileMayBeLeft first acts) (MayBeLeft first acts) c is now);
+    }
+
+    all_still : (made : List (Act Name)) → AreOf own made before → AtEachMoment (IsAsBefore first before other) made before
+    all_still [] of = record { found = λ c is. is; left = λ c is. is }
+    all_still (act ∷ made) of =
+        let so = all_still made of.1 in
+        let here = last (IsAsBefore first before other) made before so in
+        (so, still (cut_short act) (made ++ before) of.0 here, still act (made ++ before) of.0 here)
+
+from_temp : (A B : Type 0) → Where Target (Some Temp) A B → B
+from_temp A B here = here
+
+from_target : (A B : Type 0) → Where Temp (Some Target) A B → B
+from_target A B here = here
+
+-- ---- what a function does with the file of one name
+
+-- It makes no other calls, where the open file is such a one; and after Ok it is such a one.
+abbrev Stays : {E : Type 0} → Name → (Option Name → Type 0) → Doing E → (Option Name → Type 0) → Type 0
+Stays {E} own P Does Q = (result : Result (Unit {0}) E) (made before : List (Act Name)) → P (opened before) → Does result made → AreOf own made before × OnOk result (Q (opened (made ++ before)))
+
+abbrev Any : Option Name → Type 0
+Any current = Unit {0}
+
+abbrev Is : Name → Option Name → Type 0
+Is own current = current ≡ Some own
+
+stays_one : (own : Name) (P Q : Option Name → Type 0) (call : Call Name) → ((o : Option Name) → P o → IsOf own call o) → ((o : Option Name) → P o → Q (opened_by call None o)) → Stays own P (IsOne call) Q
+stays_one own P Q call of opens (Ok value) made before current is = subst (λ acts. AreOf own acts before × Q (opened (acts ++ before))) (sym is) ((of (opened before) current, tt), opens (opened before) current)
+stays_one own P Q call of opens (Err error) made before current is = (subst (λ acts. AreOf own acts before) (sym is) (of (opened before) current, tt), tt)
+
+stays_then : {E : Type 0} (own : Name) (P Q R : Option Name → Type 0) (One Other : Doing E) → Stays own P One Q → Stays own Q Other R → Stays own P (Then One Other) R
+stays_then own P Q R One Other one other result made before current (inl (first, later, is_one, is_other, is)) =
+    let f = one (Ok tt) first before current is_one in
+    let l = other result later (first ++ before) f.1 is_other in
+    subst (λ acts. AreOf own acts before × OnOk result (R (opened (acts ++ before)))) (sym is)
+    (of_both own later first before l.0 f.0, subst (λ acts. OnOk result (R (opened acts))) (sym (append_assoc later first before)) l.1)
+stays_then own P Q R One Other one other (Ok value) made before current (inr none) = absurd none
+stays_then own P Q R One Other one other (Err error) made before current (inr is) = ((one (Err error) made before current is).0, tt)
+
+stays_by : (own : Name) (P Q : Option Name → Type 0) (answers : Result (Unit {0}) Error → Result (Unit {0}) Unplaced) (Does : Doing Error) → ((answer : Result (Unit {0}) Error) (X : Type 0) → OnOk answer X → OnOk (answers answer) X)
+    → Stays own P Does Q → Stays own P (By answers Does) Q
+stays_by own P Q answers Does ok does result made before current (answer, is, same) =
+    let so = does answer made before current is in
+    (so.0, subst (λ r. OnOk r (Q (opened (made ++ before)))) (sym same) (ok answer _ so.1))
+
+by_failed : (answer : Result (Unit {0}) Error) (X : Type 0) → OnOk answer X → OnOk (failed answer) X
+by_failed (Ok value) X x = x
+by_failed (Err error) X x = tt
+
+by_judged : (answer : Result (Unit {0}) Error) (X : Type 0) → OnOk answer X → OnOk (judged answer) X
+by_judged (Ok value) X x = x
+by_judged (Err error) X x = tt
+
+stays_make : Stays Temp Any (IsOne make) (Is Temp)
+stays_make = stays_one Temp Any (Is Temp) make (λ o any. refl) (λ o any. refl)
+
+stays_made : Stays Temp Any IsMade (Is Temp)
+stays_made result made before current (answer, inl (free, same, is)) = stays_by Temp Any (Is Temp) judged (IsOne make) by_judged stays_make result made before current (answer, is, same)
+stays_made result made before current (answer, inr (later, taken, anew, is)) =
+    let l = stays_then Temp Any Any (Is Temp) (By judged (IsOne (remove Temp))) (By failed (IsOne make)) (stays_by Temp Any Any judged (IsOne (remove Temp)) by_judged (stays_one Temp Any Any (remove Temp) (λ o any. refl) (λ o any. tt)))
+    (stays_by Temp Any (Is Temp) failed (IsOne make) by_failed stays_make) result later (acted make answer ∷ before) tt anew in
+    subst (λ acts. AreOf Temp acts before × OnOk result (opened (acts ++ before) ≡ Some Temp)) (sym is)
+    (of_both Temp later (acted make answer ∷ []) before l.0 (refl, tt), subst (λ acts. OnOk result (opened acts ≡ Some Temp)) (sym (append_assoc later (acted make answer ∷ []) before)) l.1)
+
+stays_moded : (own : Name) (mode : Option ℕ) → Stays own (Is own) (IsModed mode) (Is own)
+stays_moded own None (Ok value) made before current (ok, is) = subst (λ acts. AreOf own acts before × (opened (acts ++ before) ≡ Some own)) (sym is) (tt, current)
+stays_moded own None (Err error) made before current (ok, is) = (subst (λ acts. AreOf own acts before) (sym is) tt, tt)
+stays_moded own (Some mode) result made before current is = stays_one own (Is own) (Is own) (set_mode mode) (λ o so. so) (λ o so. so) result made before current is
+
+stays_poured : (own : Name) (mode : Option ℕ) (text : List ℕ) → Stays own (Is own) (IsPoured mode text) (Is own)
+stays_poured own mode text =
+    stays_then own (Is own) (Is own) (Is own) (Then (IsModed mode) (IsOne (write text))) (IsOne sync)
+    (stays_then own (Is own) (Is own) (Is own) (IsModed mode) (IsOne (write text)) (stays_moded own mode) (stays_one own (Is own) (Is own) (write text) (λ o so. so) (λ o so. so)))
+    (stays_one own (Is own) (Is own) sync (λ o so. so) (λ o so. so))
+
+stays_filled : (d : Destination) (text : List ℕ) → Stays Temp Any (IsFilled d text) (Is Temp)
+stays_filled d text = stays_then Temp Any (Is Temp) (Is Temp) IsMade (By failed (IsPoured d.mode text)) stays_made (stays_by Temp (Is Temp) (Is Temp) failed (IsPoured d.mode text) by_failed (stays_poured Temp d.mode text))
+
+stays_written : (d : Destination) (text : List ℕ) → Stays Target Any (IsWritten d text) (Is Target)
+stays_written d text = stays_then Target Any (Is Target) (Is Target) (IsOne (empty d)) (IsPoured None text) (stays_one Target Any (Is Target) (empty d) (λ o any. refl) (λ o any. refl)) (stays_poured Target None text)
+
+-- ---- all of it is done
+
+abbrev unplaced : Unplaced → Result (Unit {0}) Unplaced
+unplaced why = Err why
+
+ok_failed : (answer : Result (Unit {0}) Error) → Ok tt ≡ failed answer → answer ≡ Ok tt
+ok_failed (Ok value) is = refl
+ok_failed (Err error) is = cc
+
+ok_judged : (answer : Result (Unit {0}) Error) → Ok tt ≡ judged answer → answer ≡ Ok tt
+ok_judged (Ok value) is = refl
+ok_judged (Err error) is = cc
+
+abbrev moded : Option ℕ → List (Act Name)
+moded None = []
+moded (Some mode) = done (set_mode mode) ∷ []
+
+abbrev poured : Option ℕ → List ℕ → List (Act Name)
+poured mode text = done sync ∷ done (write text) ∷ moded mode
+
+made_is : (made : List (Act Name)) → IsMade (Ok tt) made → (rest : List (Act Name)) × (made ≡ done make ∷ rest)
+made_is made (answer, inl (free, same, is)) = ([], is ∙ ap (λ r. acted make r ∷ []) (ok_judged answer same))
+made_is made (answer, inr (later, taken, inl (first, tail, cleared, (again, last_is, same), both_is), is)) =
+    (first ++ acted make answer ∷ [], is ∙ ap (λ acts. acts ++ acted make answer ∷ []) (both_is ∙ ap (λ acts. acts ++ first) (last_is ∙ ap (λ r. acted make r ∷ []) (ok_failed again same))))
+made_is made (answer, inr (later, taken, inr none, is)) = absurd none
+
+moded_is : (mode : Option ℕ) (made : List (Act Name)) → IsModed mode (Ok tt) made → made ≡ moded mode
+moded_is None made is = is.1
+moded_is (Some mode) made is = is
+
+poured_is : (mode : Option ℕ) (text : List ℕ) (made : List (Act Name)) → IsPoured mode text (Ok tt) made → made ≡ poured mode text
+poured_is mode text made (inl (first, tail, inl (begun, next, begun_is, then_is, first_is), last_is, is)) =
+    is ∙ ap (λ acts. acts ++ first) last_is ∙ ap (λ acts. done sync ∷ acts) (first_is ∙ ap (λ acts. acts ++ begun) then_is ∙ ap (λ acts. done (write text) ∷ acts) (moded_is mode begun begun_is))
+poured_is mode text made (inl (first, tail, inr none, last_is, is)) = absurd none
+poured_is mode text made (inr none) = absurd none
+
+filled_is : (d : Destination) (text : List ℕ) (made : List (Act Name)) → IsFilled d text (Ok tt) made → (rest : List (Act Name)) × (made ≡ poured d.mode text ++ done make ∷ rest)
+filled_is d text made (inl (first, tail, first_is, (answer, last_is, same), is)) =
+    let base = made_is first first_is in
+    (base.0, is ∙ ap (λ acts. acts ++ first) (poured_is d.mode text tail (subst (λ r. IsPoured d.mode text r tail) (ok_failed answer same) last_is)) ∙ ap (λ acts. poured d.mode text ++ acts) base.1)
+filled_is d text made (inr none) = absurd none
+
+written_is : (d : Destination) (text : List ℕ) (made : List (Act Name)) → IsWritten d text (Ok tt) made → made ≡ poured None text ++ done (empty d) ∷ []
+written_is d text made (inl (first, tail, first_is, last_is, is)) = is ∙ ap (λ acts. acts ++ first) (poured_is None text tail last_is) ∙ ap (λ acts. poured None text ++ acts) first_is
+written_is d text made (inr none) = absurd none
+
+named_is : (kind : Kind) (made : List (Act Name)) → IsNamed kind (Ok tt) made → (kind ≡ Alone) × (made ≡ done (rename Temp Target) ∷ [])
+named_is Alone made (answer, is, same) = (refl, is ∙ ap (λ r. acted (rename Temp Target) r ∷ []) (ok_judged answer same))
+named_is Shared made (same, is) = absurd cc
+named_is Special made (same, is) = absurd cc
 
 -- the text of a file
 text_of : Content → List ℕ
 text_of None = []
 text_of (Some text) = text
 
--- one of the calls that place a text failed
-abbrev AreUnplaced : List ℕ → List Call → Type 0
-AreUnplaced text tried = AreUnfilled text tried ⊎ (tried ≡ rename Temp Target false ∷ sync Temp true ∷ filled text)
+module _ (first : Name → Content) (before : List (Act Name)) (d : Destination) (text : List ℕ) where
+  abbrev IsStill : List (Act Name) → Type 0
+  IsStill acts = IsAsBefore first before Target acts
 
-module _ (first : Name → Content) (before : List Call) (text : List ℕ) where
-  abbrev IsSafe : List Call → Type 0
-  IsSafe calls = HasOldOrNew first before text calls
+  abbrev IsSafe : List (Act Name) → Type 0
+  IsSafe acts = HasOldOrNew d.kind first before text acts
 
-  -- the new file, where the text is written to it
-  whole : (c : Content) → MayHave first (filled text ++ before) Temp c → c ≡ Some text
+  abbrev OldOrNew : (Content → Type 0) → Content → Type 0
+  OldOrNew old c = old c ⊎ ((d.kind ≡ Alone) × (c ≡ Some text))
+
+  safe : (acts : List (Act Name)) → IsStill acts → IsSafe acts
+  safe acts here = record { found = λ c is. inl (here.found c is); left = λ c is. inl (here.left c is) }
+
+  -- where the new file is filled it has the text, and a cut leaves that
+  whole : (filled : List (Act Name)) → IsFilled d text (Ok tt) filled → (c : Content) → MayHave first (filled ++ before) Temp c → c ≡ Some text
   unfolding text_of
-  whole c (had, began, is) = is ∙ ap (λ front. Some (text_of front ++ text)) began
+  whole filled are c =
+      let is = filled_is d text filled are in
+      subst (λ acts. MayHave first (acts ++ before) Temp c → c ≡ Some text) (sym is.1) (go d.mode is.0)
+    where
+      begun : ((front : List ℕ) × (Some front ≡ Some []) × (c ≡ Some (front ++ text))) → c ≡ Some text
+      begun (front, had, so) = so ∙ ap (λ f. Some (text_of f ++ text)) had
 
-  -- nothing is done with the name yet
-  abbrev IsStill : List Call → Type 0
-  IsStill calls = IsAsBefore first before Target calls
+      go : (mode : Option ℕ) (rest : List (Act Name)) → MayHave first ((poured mode text ++ done make ∷ rest) ++ before) Temp c → c ≡ Some text
+      go None rest now = begun now
+      go (Some mode) rest now = begun now
 
-  still : (calls : List Call) → ((c : Content) → MayHave first calls Target c → MayHave first before Target c) → ((c : Content) → MayBeLeft first calls Target c → MayBeLeft first before Target c) → IsStill calls
-  still calls found left = record { found = found; left = left }
+  synced : (filled : List (Act Name)) → IsFilled d text (Ok tt) filled → (kept : List ℕ) → FileMayBeLeft first (filled ++ before) Temp kept → MayHave first (filled ++ before) Temp (Some kept)
+  synced filled are kept =
+      let is = filled_is d text filled are in
+      subst (λ acts. FileMayBeLeft first (acts ++ before) Temp kept → MayHave first (acts ++ before) Temp (Some kept)) (sym is.1) (go d.mode is.0)
+    where
+      go : (mode : Option ℕ) (rest : List (Act Name)) → FileMayBeLeft first ((poured mode text ++ done make ∷ rest) ++ before) Temp kept → MayHave first ((poured mode text ++ done make ∷ rest) ++ before) Temp (Some kept)
+      go None rest now = now
+      go (Some mode) rest now = now
 
-  at_first : AtEachMoment IsStill [] before
-  at_first = still before (λ c is. is) (λ c is. is)
+  -- the name has the old text while the new file is made, which is then given the name
+  filled_safe : (filled : List (Act Name)) → AreOf Temp filled before → AtEachMoment IsSafe filled before
+  filled_safe filled of = weaken IsStill IsSafe safe filled before (all_still Temp Target from_temp first before filled of)
 
-  creating : (done : Bool) → AtEachMoment IsStill (create Temp done ∷ []) before
-  creating true = (at_first, still _ (λ c is. is) (λ c is. is), still _ (λ c is. is) (λ c is. is))
-  creating false = (at_first, still _ (λ c is. is) (λ c is. is), still _ (λ c is. is) (λ c is. is))
+  module _ (filled : List (Act Name)) (are : IsFilled d text (Ok tt) filled) where
+    of : AreOf Temp filled before
+    of = (stays_filled d text (Ok tt) filled before tt are).0
 
-  writing : (done : Bool) → AtEachMoment IsStill (write Temp text done ∷ create Temp true ∷ []) before
-  writing true = (creating true, still _ (λ c is. is) (λ c is. is), still _ (λ c is. is) (λ c is. is))
-  writing false = (creating true, still _ (λ c is. is) (λ c is. is), still _ (λ c is. is) (λ c is. is))
+    here : IsStill (filled ++ before)
+    here = last IsStill filled before (all_still Temp Target from_temp first before filled of)
 
-  syncing : (done : Bool) → AtEachMoment IsStill (sync Temp done ∷ filled text) before
-  syncing true = (writing true, still _ (λ c is. is) (λ c is. is), still _ (λ c is. is) (λ c is. is))
-  syncing false = (writing true, still _ (λ c is. is) (λ c is. is), still _ (λ c is. is) (λ c is. is))
+    abbrev naming : Option ErrorKind → List (Act Name)
+    naming failed = record { call = rename Temp Target; failed = failed } ∷ filled ++ before
 
-  -- so the old text is there
-  old_is_safe : (calls : List Call) → IsStill calls → IsSafe calls
-  old_is_safe calls same = record { found = λ c is. inl (same.found c is); left = λ c is. inl (same.left c is) }
+    named : d.kind ≡ Alone → (failed : Option ErrorKind) → IsSafe (naming failed)
+    named alone failed = record { found = found (extent_of (rename Temp Target) failed); left = left (extent_of (rename Temp Target) failed) }
+      where
+        found : (extent : Extent) (c : Content) → HasAfter extent (rename Temp Target) (opened (filled ++ before)) (MayHave first (filled ++ before)) Target c → OldOrNew (MayHave first before Target) c
+        found Whole c now = inr (alone, whole filled are c now)
+        found Unsure c (inl now) = inl (here.found c now)
+        found Unsure c (inr now) = inr (alone, whole filled are c now)
+        found Nothing c now = inl (here.found c now)
 
-  are_safe : (made : List Call) → AtEachMoment IsStill made before → AtEachMoment IsSafe made before
-  are_safe [] here = old_is_safe before here
-  are_safe (call ∷ made) here = (are_safe made here.0, old_is_safe (cut_short call ∷ made ++ before) here.1, old_is_safe (call ∷ made ++ before) here.2)
+        left : (extent : Extent) (c : Content)
+            → LeftAfter extent (rename Temp Target) (opened (filled ++ before)) (MayHave first (filled ++ before)) (FileMayBeLeft first (filled ++ before)) (MayBeLeft first (filled ++ before)) Target c
+            → OldOrNew (MayBeLeft first before Target) c
+        left Nothing c now = inl (here.left c now)
+        left Whole c (inl now) = inl (here.left c now)
+        left Whole c (inr (kept, file, is)) = inr (alone, is ∙ whole filled are (Some kept) (synced filled are kept file))
+        left Unsure c (inl now) = inl (here.left c now)
+        left Unsure c (inr (kept, file, is)) = inr (alone, is ∙ whole filled are (Some kept) (synced filled are kept file))
 
-  -- what a cut leaves of the new file is the text, once that is synced
-  left_or_whole : (c : Content) → MayBeLeft first before Target c ⊎ ((kept : List ℕ) × MayHave first (filled text ++ before) Temp (Some kept) × (c ≡ Some kept)) → MayBeLeft first before Target c ⊎ (c ≡ Some text)
-  left_or_whole c (inl old) = inl old
-  left_or_whole c (inr (kept, found, is)) = inr (is ∙ whole (Some kept) found)
+    naming_safe : d.kind ≡ Alone → (failed : Option ErrorKind) → AtEachMoment IsSafe (record { call = rename Temp Target; failed = failed } ∷ filled) before
+    naming_safe alone failed = (filled_safe filled of, named alone (cut_failure (extent_of (rename Temp Target) failed) failed), named alone failed)
 
-  unsure : IsSafe (rename Temp Target false ∷ sync Temp true ∷ filled text ++ before)
-  unsure = record { found = λ c is. ⊎_elim (λ old. inl old) (λ new. inr (whole c new)) is; left = left_or_whole }
+    -- or that is refused
+    not_named : (why : ErrorKind) → is_refusal why ≡ true → AtEachMoment IsStill (record { call = rename Temp Target; failed = Some why } ∷ filled) before
+    not_named why refusal = (
+      all_still Temp Target from_temp first before filled of,
+      at (cut_short (record { call = rename Temp Target; failed = Some why })) (subst (λ e. extent_of (rename Temp Target) (cut_failure e (Some why)) ≡ Nothing) (sym nothing) nothing),
+      at (record { call = rename Temp Target; failed = Some why }) nothing,
+    )
+      where
+        nothing : extent_of (rename Temp Target) (Some why) ≡ Nothing
+        nothing = rw refusal
 
-  moved : IsSafe (placed text ++ before)
-  moved = record { found = λ c is. inr (whole c is); left = left_or_whole }
+        at : (act : Act Name) → extent_of act.call act.failed ≡ Nothing → IsStill (act ∷ filled ++ before)
+        at act nothing = record {
+          found = λ c now. here.found c (subst (λ e. HasAfter e act.call (opened (filled ++ before)) (MayHave first (filled ++ before)) Target c) nothing now);
+          left = λ c now. here.left c (subst (λ e. LeftAfter e act.call (opened (filled ++ before)) (MayHave first (filled ++ before)) (FileMayBeLeft first (filled ++ before)) (MayBeLeft first (filled ++ before)) Target c) nothing now);
+        }
 
-  renaming : (done : Bool) → AtEachMoment IsSafe (rename Temp Target done ∷ sync Temp true ∷ filled text) before
-  renaming true = (are_safe (sync Temp true ∷ filled text) (syncing true), unsure, moved)
-  renaming false = (are_safe (sync Temp true ∷ filled text) (syncing true), unsure, unsure)
+    -- and then the folder is synced
+    module _ (alone : d.kind ≡ Alone) where
+      settled : (c : Content) → MayBeLeft first (done (sync_folder Target) ∷ naming None) Target c → c ≡ Some text
+      settled c (inl (kept, file, is)) = is ∙ whole filled are (Some kept) (synced filled are kept file)
+      settled c (inr (none, is)) = is ∙ whole filled are None none
 
-  -- and then the folder is synced
-  settled : (c : Content) → MayBeLeft first (sync_folder true ∷ placed text ++ before) Target c → c ≡ Some text
-  settled c (inl (kept, found, is)) = is ∙ whole (Some kept) found
-  settled c (inr (found, is)) = is ∙ whole None found
+      folder_synced : (result : Result (Unit {0}) Error) → IsSafe (record { call = sync_folder Target; failed = failure result } ∷ naming None)
+      folder_synced (Ok value) = record { found = (named alone None).found; left = λ c now. inr (alone, settled c now) }
+      folder_synced (Err error) = record { found = (named alone None).found; left = (named alone None).left }
 
-  at_last : IsSafe (sync_folder false ∷ placed text ++ before)
-  at_last = record { found = moved.found; left = moved.left }
+      placed : (result : Result (Unit {0}) Error)
+          → LeavesOne d.kind first (record { call = sync_folder Target; failed = failure result } ∷ done (rename Temp Target) ∷ filled) before text result
+      placed result = record {
+        each_moment = (naming_safe alone None, cut result, folder_synced result);
+        found = found result;
+        left = left result;
+        beside = beside result;
+      }
+        where
+          cut : (r : Result (Unit {0}) Error) → IsSafe (cut_short (record { call = sync_folder Target; failed = failure r }) ∷ naming None)
+          cut (Ok value) = record { found = (named alone None).found; left = (named alone None).left }
+          cut (Err error) = record { found = (named alone None).found; left = (named alone None).left }
 
-  ended : IsSafe (sync_folder true ∷ placed text ++ before)
-  ended = record { found = moved.found; left = λ c is. inr (settled c is) }
+          found : (r : Result (Unit {0}) Error) → OnOk r ((c : Content) → MayHave first (record { call = sync_folder Target; failed = failure r } ∷ naming None) Target c → c ≡ Some text)
+          found (Ok value) = whole filled are
+          found (Err error) = tt
 
-  done : {T E : Type 0} (value : T) → AtomicReplacement {T = T} {E = E} first before (sync_folder true ∷ placed text ++ before) text (Ok value)
-  done value = record {
-    made = sync_folder true ∷ placed text;
-    calls = refl;
-    order = refl;
-    each_moment = (renaming true, at_last, ended);
-    answer = record { found = whole; left = settled; beside = λ c is. is; none_failed = refl };
+          left : (r : Result (Unit {0}) Error) → OnOk r ((c : Content) → MayBeLeft first (record { call = sync_folder Target; failed = failure r } ∷ naming None) Target c → c ≡ Some text)
+          left (Ok value) = settled
+          left (Err error) = tt
+
+          beside : (r : Result (Unit {0}) Error) → IsAlone first (record { call = sync_folder Target; failed = failure r } ∷ done (rename Temp Target) ∷ filled) before
+          beside (Ok value) c now = inl now
+          beside (Err error) c now = inl now
+
+  -- ---- a call failed, and the new file is to be taken away
+
+  taken_away : (made : List (Act Name)) (gone : Option ErrorKind) → IsAlone first (record { call = remove Temp; failed = gone } ∷ made) before
+  taken_away made None c now = inl now
+  taken_away made (Some why) c now = at (is_missing why) refl now
+    where
+      at : (missing : Bool) → is_missing why ≡ missing → HasAfter (if missing then Whole else if is_refusal why then Nothing else Unsure) (remove Temp) (opened (made ++ before)) (MayHave first (made ++ before)) Temp c
+          → (c ≡ None) ⊎ ((w : ErrorKind) × (rest : List (Act Name)) × (is_missing w ≡ false) × (record { call = remove Temp; failed = Some why } ∷ made ≡ record { call = remove Temp; failed = Some w } ∷ rest))
+      at true is now = inl now
+      at false is now = inr (why, made, is, refl)
+
+  still_safe : (gone : Option ErrorKind) (acts : List (Act Name)) → IsSafe acts → IsSafe (record { call = remove Temp; failed = gone } ∷ acts)
+  still_safe gone acts here = record {
+    found = λ c now. here.found c (found_still Temp Target from_temp (extent_of (remove Temp) gone) (remove Temp) (opened acts) (MayHave first acts) c refl now);
+    left = λ c now. here.left c (left_still Temp Target from_temp (extent_of (remove Temp) gone) (remove Temp) (opened acts) (MayHave first acts) (FileMayBeLeft first acts) (MayBeLeft first acts) c refl now);
   }
 
-  unsettled : {T E : Type 0} (error : E) → AtomicReplacement {T = T} {E = E} first before (sync_folder false ∷ placed text ++ before) text (Err error)
-  unsettled error = record {
-    made = sync_folder false ∷ placed text;
-    calls = refl;
-    order = inl refl;
-    each_moment = (renaming true, at_last, at_last);
-    answer = record { failed = omega arith; beside = λ c is. inl is };
-  }
+  given_up : (error : Error) (made : List (Act Name)) (gone : Option ErrorKind) → AtEachMoment IsSafe made before
+      → LeavesOne d.kind first (record { call = remove Temp; failed = gone } ∷ made) before text (Err error)
+  given_up error made gone safely =
+      let here = last IsSafe made before safely in record {
+        each_moment = (safely, still_safe (cut_failure (extent_of (remove Temp) gone) gone) (made ++ before) here, still_safe gone (made ++ before) here);
+        found = tt;
+        left = tt;
+        beside = taken_away made gone;
+      }
 
-  -- the new file is taken away
-  last : (made : List Call) → AtEachMoment IsSafe made before → IsSafe (made ++ before)
-  last [] here = here
-  last (call ∷ made) here = here.2
+  -- the new file does not come to the name
+  unplaced_safe : (why : Unplaced) (made : List (Act Name)) → IsPlaced d text (Err why) made → AtEachMoment IsSafe made before
+  unplaced_safe why made (inr is) = filled_safe made (stays_filled d text (Err why) made before tt is).0
+  unplaced_safe why made (inl (filled, later, are, named_so, is)) = subst (λ acts. AtEachMoment IsSafe acts before) (sym is) (go d.kind refl named_so)
+    where
+      so : AtEachMoment IsSafe filled before
+      so = filled_safe filled (of filled are)
 
-  removing : (removed : Bool) (calls : List Call) → IsSafe calls → IsSafe (remove Temp removed ∷ calls)
-  removing true calls safe = record { found = safe.found; left = λ c is. safe.left c is }
-  removing false calls safe = record { found = safe.found; left = λ c is. safe.left c is }
+      go : (kind : Kind) → d.kind ≡ kind → IsNamed kind (Err why) later → AtEachMoment IsSafe (later ++ filled) before
+      go Alone alone (answer, one, same) = subst (λ acts. AtEachMoment IsSafe (acts ++ filled) before) (sym one) (naming_safe filled are alone (failure answer))
+      go Shared alone (same, none) = subst (λ acts. AtEachMoment IsSafe (acts ++ filled) before) (sym none) so
+      go Special alone (same, none) = subst (λ acts. AtEachMoment IsSafe (acts ++ filled) before) (sym none) so
 
-  beside : (removed : Bool) (made : List Call) → failures made ≡ 1 → IsGivenUp first (remove Temp removed ∷ made ++ before) (remove Temp removed ∷ made)
-  beside true made one = record { failed = omega (arith, one); beside = λ c is. inl is }
-  beside false made one = record { failed = omega (arith, one); beside = λ c is. inr (omega (arith, one)) }
+  refused_still : (made : List (Act Name)) → IsPlaced d text (Err Refused) made → AtEachMoment IsStill made before
+  refused_still made (inr is) = all_still Temp Target from_temp first before made (stays_filled d text (Err Refused) made before tt is).0
+  refused_still made (inl (filled, later, are, named_so, is)) = subst (λ acts. AtEachMoment IsStill acts before) (sym is) (go d.kind named_so)
+    where
+      so : AtEachMoment IsStill filled before
+      so = all_still Temp Target from_temp first before filled (of filled are)
 
-  given_up : {T E : Type 0} (error : E) (removed : Bool) (made : List Call) → AreUnplaced text made → AtEachMoment IsSafe made before → failures made ≡ 1
-      → AtomicReplacement {T = T} {E = E} first before (remove Temp removed ∷ made ++ before) text (Err error)
-  given_up error removed made are here one = record {
-    made = remove Temp removed ∷ made;
-    calls = refl;
-    order = inr (removed, made, refl, are);
-    each_moment = (here, removing false _ (last made here), removing removed _ (last made here));
-    answer = beside removed made one;
-  }
+      refused : (refusal : Bool) (error : Error) → is_refusal (error_kind error) ≡ refusal → unplaced Refused ≡ unplaced (if refusal then Refused else Failed error) → is_refusal (error_kind error) ≡ true
+      refused true error is same = is
+      refused false error is same = cc
 
-  -- or while the new file was filled, and the file is left alone
-  last_still : (made : List Call) → AtEachMoment IsStill made before → IsStill (made ++ before)
-  last_still [] here = here
-  last_still (call ∷ made) here = here.2
+      by : (answer : Result (Unit {0}) Error) → Err Refused ≡ judged answer → AtEachMoment IsStill (acted (rename Temp Target) answer ∷ filled) before
+      by (Ok value) same = absurd cc
+      by (Err error) same = not_named filled are (error_kind error) (refused (is_refusal (error_kind error)) error refl same)
 
-  removing_still : (removed : Bool) (calls : List Call) → IsStill calls → IsStill (remove Temp removed ∷ calls)
-  removing_still true calls same = record { found = same.found; left = λ c is. same.left c is }
-  removing_still false calls same = record { found = same.found; left = λ c is. same.left c is }
+      go : (kind : Kind) → IsNamed kind (Err Refused) later → AtEachMoment IsStill (later ++ filled) before
+      go Alone (answer, one, same) = subst (λ acts. AtEachMoment IsStill (acts ++ filled) before) (sym one) (by answer same)
+      go Shared (same, none) = subst (λ acts. AtEachMoment IsStill (acts ++ filled) before) (sym none) so
+      go Special (same, none) = subst (λ acts. AtEachMoment IsStill (acts ++ filled) before) (sym none) so
 
-  gone_or_stays : (gone : Bool) (made : List Call) (c : Content) → MayHave first (remove Temp gone ∷ made ++ before) Temp c → (c ≡ None) ⊎ (gone ≡ false)
-  gone_or_stays true made c is = inl is
-  gone_or_stays false made c is = inr refl
+  pub leaves_one : (result : Result (Unit {0}) Error) (made : List (Act Name)) → IsSynced d text result made ⊎ IsGivenUp d text result made → LeavesOne d.kind first made before text result
+  leaves_one result made (inl (all, inl (filled, later, are, named_so, is), last_is)) =
+      let so = named_is d.kind later named_so in
+      subst (λ acts. LeavesOne d.kind first acts before text result) (sym (last_is ∙ ap (λ acts. acted (sync_folder Target) result ∷ acts) (is ∙ ap (λ acts. acts ++ filled) so.1))) (placed filled are so.0 result)
+  leaves_one result made (inl (all, inr none, last_is)) = absurd none
+  leaves_one result made (inr (error, tried, gone, failed_so, are, is)) =
+      subst (λ r. LeavesOne d.kind first made before text r) (sym failed_so)
+      (subst (λ acts. LeavesOne d.kind first acts before text (Err error)) (sym is) (given_up error tried gone (unplaced_safe (Failed error) tried are)))
 
-  left_alone : {T E : Type 0} (error : E) (removed : Bool) (made : List Call) → AreUnfilled text made → AtEachMoment IsStill made before
-      → LeftAlone {T = T} {E = E} first before (remove Temp removed ∷ made ++ before) text (Err error)
-  left_alone error removed made are here = record {
-    tried = made;
-    order = are;
-    gone = removed;
-    calls = refl;
-    each_moment = (here, removing_still false _ (last_still made here), removing_still removed _ (last_still made here));
-    beside = gone_or_stays removed made;
-    answer = refl;
-  }
+-- ---- a text over another
 
-  -- the folder refuses
-  refusing : (calls : List Call) → IsStill calls → IsStill (refused ∷ calls)
-  refusing calls same = record { found = same.found; left = same.left }
+module _ (first : Name → Content) (d : Destination) (text : List ℕ) (at : List (Act Name)) where
+  abbrev written : List (Act Name)
+  written = poured None text ++ done (empty d) ∷ []
 
-  refused_at : (made : List Call) → AtEachMoment IsStill made before → AtEachMoment IsStill (refused ∷ made) before
-  refused_at made here = let same = refusing (made ++ before) (last_still made here) in (here, same, same)
-
-  refusal : {T E : Type 0} (kind : Kind) (result : Result T E) (after made : List Call) → AreRefused kind text made
-      → AtEachMoment IsStill made before → Overwriting first (made ++ before) after text result
-      → RefusedReplacement kind first before after text result
-  refusal kind result after made are here over = record { tried = made; refusal = are; each_moment = here; overwriting = over }
-
-  -- the file, where the text is written over what it had
-  whole_over : (c : Content) → MayHave first (write Target text true ∷ empty Target true ∷ before) Target c → c ≡ Some text
+  whole_over : (c : Content) → MayHave first (written ++ at) Target c → c ≡ Some text
   unfolding text_of
   whole_over c (had, began, is) = is ∙ ap (λ front. Some (text_of front ++ text)) began
 
-  left_over : (kept : List ℕ) → MayHave first (write Target text true ∷ empty Target true ∷ before) Target (Some kept) → kept ≡ text
+  left_over : (kept : List ℕ) → FileMayBeLeft first (written ++ at) Target kept → kept ≡ text
   unfolding text_of
   left_over kept is = ap text_of (whole_over (Some kept) is)
 
-  -- the new file stays meanwhile
-  abbrev Stays : List Call → Type 0
-  Stays calls = IsAsBefore first before Temp calls
+  file_still : (gone : Option ErrorKind) (acts : List (Act Name)) (kept : List ℕ) → FileMayBeLeft first (record { call = remove Temp; failed = gone } ∷ acts) Target kept → FileMayBeLeft first acts Target kept
+  file_still gone acts kept now = by (extent_of (remove Temp) gone) now
+    where
+      by : (extent : Extent) → FileAfter extent (remove Temp) (opened acts) (MayHave first acts) (FileMayBeLeft first acts) Target kept → FileMayBeLeft first acts Target kept
+      by Whole now = now
+      by Unsure now = now
+      by Nothing now = now
 
-  stays : (calls : List Call) → ((c : Content) → MayHave first calls Temp c → MayHave first before Temp c) → ((c : Content) → MayBeLeft first calls Temp c → MayBeLeft first before Temp c) → Stays calls
-  stays calls found left = record { found = found; left = left }
-
-  emptying : (done : Bool) → AtEachMoment Stays (empty Target done ∷ []) before
-  emptying true = (stays _ (λ c is. is) (λ c is. is), stays _ (λ c is. is) (λ c is. is), stays _ (λ c is. is) (λ c is. is))
-  emptying false = (stays _ (λ c is. is) (λ c is. is), stays _ (λ c is. is) (λ c is. is), stays _ (λ c is. is) (λ c is. is))
-
-  pouring : (done : Bool) → AtEachMoment Stays (write Target text done ∷ empty Target true ∷ []) before
-  pouring true = (emptying true, stays _ (λ c is. is) (λ c is. is), stays _ (λ c is. is) (λ c is. is))
-  pouring false = (emptying true, stays _ (λ c is. is) (λ c is. is), stays _ (λ c is. is) (λ c is. is))
-
-  settling : (done : Bool) → AtEachMoment Stays (sync Target done ∷ write Target text true ∷ empty Target true ∷ []) before
-  settling true = (pouring true, stays _ (λ c is. is) (λ c is. is), stays _ (λ c is. is) (λ c is. is))
-  settling false = (pouring true, stays _ (λ c is. is) (λ c is. is), stays _ (λ c is. is) (λ c is. is))
-
-  cleared : (gone : Bool) (made : List Call) (c : Content) → MayHave first (remove Temp gone ∷ made ++ before) Temp c
-      → (c ≡ None) ⊎ (remove Temp gone ∷ made ++ before ≡ remove Temp false ∷ made ++ before)
-  cleared true made c is = inl is
-  cleared false made c is = inr refl
-
-  found_over : (gone : Bool) (c : Content) → MayHave first (remove Temp gone ∷ sync Target true ∷ write Target text true ∷ empty Target true ∷ before) Target c → c ≡ Some text
-  found_over true c is = whole_over c is
-  found_over false c is = whole_over c is
-
-  overwritten : {T E : Type 0} (value : T) (gone : Bool)
-      → Overwriting {T = T} {E = E} first before (remove Temp gone ∷ sync Target true ∷ write Target text true ∷ empty Target true ∷ before) text (Ok value)
-  overwritten value gone = record {
-    made = sync Target true ∷ write Target text true ∷ empty Target true ∷ [];
-    order = refl;
-    calls = (gone, refl);
-    new_stays = settling true;
-    found = found_over gone;
-    left = left_over;
-    beside = cleared gone (sync Target true ∷ write Target text true ∷ empty Target true ∷ []);
-  }
-
-  broken_off : {E : Type 0} (why : E) (made : List Call) → AreWritingOver {T = Unit {0}} text (Err why) made → AtEachMoment Stays made before
-      → Overwriting {T = Unit {0}} {E = E} first before (made ++ before) text (Err why)
-  broken_off why made are here = record { made = made; order = are; calls = refl; new_stays = here; found = tt; left = tt; beside = tt }
-
--- what holds from the calls before to those after
-abbrev Replaced : {T E : Type 0} → List ℕ → Result T E → List Call → List Call → Type 0
-Replaced text result before after = (first : Name → Content) → AtomicReplacement first before after text result ⊎ RefusedReplacement Alone first before after text result
-
-abbrev Spared : {T E : Type 0} → List ℕ → Result T E → List Call → List Call → Type 0
-Spared text result before after = (first : Name → Content) → LeftAlone first before after text result ⊎ RefusedReplacement Shared first before after text result
-
-abbrev Overwritten : {T E : Type 0} → List ℕ → Result T E → List Call → List Call → Type 0
-Overwritten text result before after = (first : Name → Content) → Overwriting first before after text result
-
--- calls that are done by acts, and more of them
-done_after : (to : Destination) (more made : List Call) (acts first : List Act) → AreDoneBy to more acts → AreDoneBy to made first → AreDoneBy to (more ++ made) (acts ++ first)
-done_after to [] made acts first none done = subst (λ these. AreDoneBy to made (these ++ first)) (sym none) done
-done_after to (call ∷ more) made acts first (last, earlier, is, by, others) done =
-    (last, earlier ++ first, ap (λ these. these ++ first) is ∙ append_assoc last earlier first, by, done_after to more made earlier first others done)
-
-module _ (to : Destination) where
-  -- in the three ways that the calls go
-  pub placed_in : {T E : Type 0} (old between new : Option (List Act)) (text : List ℕ) (result : Result T E) → HasPlaced to old between text
-      → Does to between new (sync_folder (is_ok result)) → PutsInPlace to old new text result
-  placed_in {T} {E} old between new text (Ok value) placing done_so =
-      known to (Replaced {T = T} {E = E} text (Ok value)) old new (sync_folder true ∷ placed text) (noted to old between new (placed text) (sync_folder true) placing done_so) (λ before first. inl (done first before text value))
-  placed_in {T} {E} old between new text (Err error) placing done_so =
-      known to (Replaced {T = T} {E = E} text (Err error)) old new (sync_folder false ∷ placed text) (noted to old between new (placed text) (sync_folder false) placing done_so) (λ before first. inl (unsettled first before text error))
-
-  -- one of the four calls failed, and the new file was to be taken away
-  taken_away : {E : Type 0} (old between new : Option (List Act)) (text : List ℕ) (error : E) (removed : Bool) (made : List Call) → AreUnplaced text made → Makes to old between made
-      → Does to between new (remove Temp removed) → ((first : Name → Content) (before : List Call) → AtEachMoment (HasOldOrNew first before text) made before)
-      → failures made ≡ 1 → PutsInPlace {T = Unit {0}} {E = E} to old new text (Err error)
-  taken_away {E} old between new text error removed made are makes taking safe one =
-      known to (Replaced {T = Unit {0}} {E = E} text (Err error)) old new (remove Temp removed ∷ made) (noted to old between new made (remove Temp removed) makes taking)
-      (λ before first. inl (given_up first before text error removed made are (safe first before) one))
-
-  given_up_by : {E : Type 0} (reason : Error) (old between new : Option (List Act)) (text : List ℕ) (error : E) (removed : Bool)
-      → Does to between new (remove Temp removed) → IsStuck to old between text (Failed reason) → PutsInPlace {T = Unit {0}} {E = E} to old new text (Err error)
-  given_up_by reason old between new text error removed taking (inl (inl made)) =
-      taken_away old between new text error removed (create Temp false ∷ []) (inl (inl refl)) made taking
-      (λ first before. are_safe first before text (create Temp false ∷ []) (creating first before text false)) refl
-  given_up_by reason old between new text error removed taking (inl (inr (inl made))) =
-      taken_away old between new text error removed (write Temp text false ∷ create Temp true ∷ []) (inl (inr (inl refl))) made taking
-      (λ first before. are_safe first before text (write Temp text false ∷ create Temp true ∷ []) (writing first before text false)) refl
-  given_up_by reason old between new text error removed taking (inl (inr (inr made))) =
-      taken_away old between new text error removed (sync Temp false ∷ filled text) (inl (inr (inr refl))) made taking
-      (λ first before. are_safe first before text (sync Temp false ∷ filled text) (syncing first before text false)) refl
-  given_up_by reason old between new text error removed taking (inr made) =
-      taken_away old between new text error removed (rename Temp Target false ∷ sync Temp true ∷ filled text) (inr refl) made taking
-      (λ first before. renaming first before text false) refl
-
-  pub given_up_in : {T E F : Type 0} (reason : Error) (old between new : Option (List Act)) (text : List ℕ) (error : E) (removed : Result T F) (why : Unplaced)
-      → Does to between new (remove Temp (is_ok removed)) → IsStuck to old between text why → why ≡ Failed reason → PutsInPlace {T = Unit {0}} {E = E} to old new text (Err error)
-  given_up_in reason old between new text error removed why taking stuck is =
-      given_up_by reason old between new text error (is_ok removed) taking (subst (λ w. IsStuck to old between text w) is stuck)
-
-  -- the new file did not come to the name, and the text was written over the old one
-  instead : {T E : Type 0} (kind : Kind) (old between new : Option (List Act)) (text : List ℕ) (result : Result T E) (made : List Call)
-      → AreRefused kind text made → ((first : Name → Content) (before : List Call) → AtEachMoment (IsAsBefore first before Target) made before)
-      → Makes to old between made → Overwrites to between new text result
-      → FromTo to old new (λ before after. (first : Name → Content) → RefusedReplacement kind first before after text result)
-  instead kind old between None text result made are safe makes over = tt
-  instead kind old between (Some all) text result made are safe makes (acts, middle, written, was, is, done, over) =
-      let before_it = subst (λ known. Makes to old known made) was makes in (
-        acts ++ before_it.0,
-        before_it.1,
-        written ++ made,
-        before_it.2,
-        is ∙ ap (λ these. acts ++ these) before_it.3 ∙ sym (append_assoc acts before_it.0 before_it.1),
-        done_after to written made acts before_it.0 done before_it.4,
-        λ before first. subst (λ these. RefusedReplacement kind first before these text result) (sym (append_assoc written made before))
-            (refusal first before text kind result (written ++ (made ++ before)) made are (safe first before) (over (made ++ before) first)),
-      )
-
-  -- one of two ways
-  second : (A B : (Name → Content) → List Call → List Call → Type 0) (old new : Option (List Act)) → FromTo to old new (λ before after. (first : Name → Content) → B first before after)
-      → FromTo to old new (λ before after. (first : Name → Content) → A first before after ⊎ B first before after)
-  second A B old None holds = tt
-  second A B old (Some all) (acts, had, made, was, is, done, holds) = (acts, had, made, was, is, done, λ before first. inr (holds before first))
-
-  refused_by : {T E : Type 0} (old between new : Option (List Act)) (text : List ℕ) (result : Result T E)
-      → Overwrites to between new text result → IsStuck to old between text Refused → PutsInPlace to old new text result
-  refused_by old between new text result over (inl made) =
-      second (λ first before after. AtomicReplacement first before after text result) (λ first before after. RefusedReplacement Alone first before after text result) old new
-      (instead Alone old between new text result (refused ∷ []) (inl refl) (λ first before. refused_at first before text [] (at_first first before text)) made over)
-  refused_by old between new text result over (inr made) =
-      second (λ first before after. AtomicReplacement first before after text result) (λ first before after. RefusedReplacement Alone first before after text result) old new
-      (instead Alone old between new text result (refused ∷ sync Temp true ∷ filled text) (inr refl)
-      (λ first before. refused_at first before text (sync Temp true ∷ filled text) (syncing first before text true)) made over)
-
-  pub refused_in : {T E : Type 0} (old between new : Option (List Act)) (text : List ℕ) (result : Result T E) (why : Unplaced)
-      → Overwrites to between new text result → IsStuck to old between text why → why ≡ Refused → PutsInPlace to old new text result
-  refused_in old between new text result why over stuck is =
-      refused_by old between new text result over (subst (λ w. IsStuck to old between text w) is stuck)
-
-  -- ---- a file with other names
-
-  spare : {E : Type 0} (old between new : Option (List Act)) (text : List ℕ) (error : E) (removed : Bool) (made : List Call) → AreUnfilled text made → Makes to old between made
-      → Does to between new (remove Temp removed) → ((first : Name → Content) (before : List Call) → AtEachMoment (IsAsBefore first before Target) made before)
-      → KeepsNames {T = Unit {0}} {E = E} to old new text (Err error)
-  spare {E} old between new text error removed made are makes taking safe =
-      known to (Spared {T = Unit {0}} {E = E} text (Err error)) old new (remove Temp removed ∷ made) (noted to old between new made (remove Temp removed) makes taking)
-      (λ before first. inl (left_alone first before text error removed made are (safe first before)))
-
-  spare_by : {E : Type 0} (reason : Error) (old between new : Option (List Act)) (text : List ℕ) (error : E) (removed : Bool)
-      → Does to between new (remove Temp removed) → IsUnfilled to old between text (Failed reason) → KeepsNames {T = Unit {0}} {E = E} to old new text (Err error)
-  spare_by reason old between new text error removed taking (inl made) =
-      spare old between new text error removed (create Temp false ∷ []) (inl refl) made taking (λ first before. creating first before text false)
-  spare_by reason old between new text error removed taking (inr (inl made)) =
-      spare old between new text error removed (write Temp text false ∷ create Temp true ∷ []) (inr (inl refl)) made taking (λ first before. writing first before text false)
-  spare_by reason old between new text error removed taking (inr (inr made)) =
-      spare old between new text error removed (sync Temp false ∷ filled text) (inr (inr refl)) made taking (λ first before. syncing first before text false)
-
-  pub names_spared : {T E F : Type 0} (reason : Error) (old between new : Option (List Act)) (text : List ℕ) (error : E) (removed : Result T F) (why : Unplaced)
-      → Does to between new (remove Temp (is_ok removed)) → IsUnfilled to old between text why → why ≡ Failed reason → KeepsNames {T = Unit {0}} {E = E} to old new text (Err error)
-  names_spared reason old between new text error removed why taking stuck is =
-      spare_by reason old between new text error (is_ok removed) taking (subst (λ w. IsUnfilled to old between text w) is stuck)
-
-  pub names_kept : {T E : Type 0} (old between new : Option (List Act)) (text : List ℕ) (result : Result T E)
-      → HasFilled to old between text → Overwrites to between new text result → KeepsNames to old new text result
-  names_kept old between new text result made over =
-      second (λ first before after. LeftAlone first before after text result) (λ first before after. RefusedReplacement Shared first before after text result) old new
-      (instead Shared old between new text result (sync Temp true ∷ filled text) (inr refl) (λ first before. syncing first before text true) made over)
-
-  names_refused_by : {T E : Type 0} (old between new : Option (List Act)) (text : List ℕ) (result : Result T E)
-      → Overwrites to between new text result → IsUnfilled to old between text Refused → KeepsNames to old new text result
-  names_refused_by old between new text result over made =
-      second (λ first before after. LeftAlone first before after text result) (λ first before after. RefusedReplacement Shared first before after text result) old new
-      (instead Shared old between new text result (refused ∷ []) (inl refl) (λ first before. refused_at first before text [] (at_first first before text)) made over)
-
-  pub names_refused : {T E : Type 0} (old between new : Option (List Act)) (text : List ℕ) (result : Result T E) (why : Unplaced)
-      → Overwrites to between new text result → IsUnfilled to old between text why → why ≡ Refused → KeepsNames to old new text result
-  names_refused old between new text result why over stuck is =
-      names_refused_by old between new text result over (subst (λ w. IsUnfilled to old between text w) is stuck)
-
-  -- ---- a text over another
-
-  -- the file is open
-  module _ (a b : Option (List Act)) (text : List ℕ) where
-    pub unopened_over : {E : Type 0} (why : E) → Does to a b (empty Target false) → Overwrites {T = Unit {0}} to a b text (Err why)
-    unopened_over {E} why opening =
-        known to (Overwritten {T = Unit {0}} {E = E} text (Err why)) a b (empty Target false ∷ []) (only to a b (empty Target false) opening) (λ before first. broken_off first before text why (empty Target false ∷ []) (inl refl) (emptying first before text false))
-
-    module _ (c : Option (List Act)) (opening : Does to a b (empty Target true)) (is_open : IsOpenAt b (path_of to Target)) where
-      pub unwritten_over : {E : Type 0} (failed : ErrorKind) (why : E) → NotesOpen b c (λ at. act.write at text (Some failed)) → Overwrites {T = Unit {0}} to a c text (Err why)
-      unwritten_over {E} failed why writing =
-          known to (Overwritten {T = Unit {0}} {E = E} text (Err why)) a c (write Target text false ∷ empty Target true ∷ []) (noted to a b c (empty Target true ∷ []) (write Target text false) (only to a b (empty Target true) opening) (wrote_not to Target b c text failed is_open writing))
-          (λ before first. broken_off first before text why (write Target text false ∷ empty Target true ∷ []) (inr (inl refl)) (pouring first before text false))
-
-      module _ (s : Option (List Act)) (writing : NotesOpen b c (λ at. act.write at text None)) where
-        poured : Makes to a c (write Target text true ∷ empty Target true ∷ [])
-        poured = noted to a b c (empty Target true ∷ []) (write Target text true) (only to a b (empty Target true) opening) (wrote to Target b c text is_open writing)
-
-        is_still_open : IsOpenAt c (path_of to Target)
-        is_still_open = still_open_written b c (path_of to Target) text None is_open writing
-
-        pub unsynced_over : {E : Type 0} (failed : ErrorKind) (why : E) → NotesOpen c s (λ at. act.sync at (Some failed)) → Overwrites {T = Unit {0}} to a s text (Err why)
-        unsynced_over {E} failed why done_so =
-            known to (Overwritten {T = Unit {0}} {E = E} text (Err why)) a s (sync Target false ∷ write Target text true ∷ empty Target true ∷ [])
-            (noted to a c s (write Target text true ∷ empty Target true ∷ []) (sync Target false) poured (synced_not to Target c s failed is_still_open done_so))
-            (λ before first. broken_off first before text why (sync Target false ∷ write Target text true ∷ empty Target true ∷ []) (inr (inr refl)) (settling first before text false))
-
-        pub cleared_over : {U F : Type 0} (E : Type 0) (e : Option (List Act)) (removed : Result U F) (value : Unit {0}) → NotesOpen c s (λ at. act.sync at None)
-            → Does to s e (remove Temp (is_ok removed)) → Overwrites {E = E} to a e text (Ok value)
-        cleared_over E e removed value done_so taking =
-            known to (Overwritten {T = Unit {0}} {E = E} text (Ok value)) a e (remove Temp (is_ok removed) ∷ sync Target true ∷ write Target text true ∷ empty Target true ∷ [])
-            (noted to a s e (sync Target true ∷ write Target text true ∷ empty Target true ∷ []) (remove Temp (is_ok removed))
-            (noted to a c s (write Target text true ∷ empty Target true ∷ []) (sync Target true) poured (synced_by to Target c s is_still_open done_so)) taking)
-            (λ before first. overwritten first before text value (is_ok removed))
-
--- for `keep_names`
-pub ruleset keeps_names = (names_spared, names_kept, names_refused)
+pub leaves_written : (first : Name → Content) (before : List (Act Name)) (d : Destination) (text : List ℕ) (result : Result (Unit {0}) Error) (tried all made : List (Act Name)) → IsPlaced d text (Err Refused) tried
+    → IsWritten d text result all → EndsWith result all made → LeavesWritten first tried all made before text result
+leaves_written first before d text (Ok value) tried all made are is (gone, ends) =
+    subst (λ acts. LeavesWritten first tried all acts before text (Ok value)) (sym ends)
+    (subst (λ acts. LeavesWritten first tried acts (record { call = remove Temp; failed = gone } ∷ acts) before text (Ok value)) (sym (written_is d text all is)) record {
+      each_moment = refused_still first before d text tried are;
+      new_stays = all_still Target Temp from_target first (tried ++ before) (written first d text before) (subst (λ acts. AreOf Target acts (tried ++ before)) (written_is d text all is) (stays_written d text (Ok tt) all (tried ++ before) tt is).0);
+      found = λ c now. whole_over first d text (tried ++ before) c
+          (found_still Temp Target from_temp (extent_of (remove Temp) gone) (remove Temp) (Some Target) (MayHave first (written first d text before ++ tried ++ before)) c refl now);
+      left = λ kept now. left_over first d text (tried ++ before) kept (file_still first d text (tried ++ before) gone (written first d text before ++ tried ++ before) kept now);
+      beside = taken_away first (tried ++ before) d text (written first d text before) gone;
+    })
+leaves_written first before d text (Err error) tried all made are is ends =
+    subst (λ acts. LeavesWritten first tried all acts before text (Err error)) (sym ends) record {
+      each_moment = refused_still first before d text tried are;
+      new_stays = all_still Target Temp from_target first (tried ++ before) all (stays_written d text (Err error) all (tried ++ before) tt is).0;
+      found = tt;
+      left = tt;
+      beside = tt;
+    }

@@ -1,12 +1,13 @@
 -- Where a state goes: the file to which a name leads, over links, what that is, and the new file beside it.
-use Rattle.std.specs.Prelude.{◌≡◌, ◌⊎◌, ◌<◌, ◌≤◌, ◌++◌, ◌&&◌, ◌==◌, ℕ, zero, suc, Bool, true, false, [], ◌∷◌}
-use Rattle.std.specs.Prelude.{Option, Some, None, Result, Ok, Err, codes, string_bytes, bit_and}
-use Rattle.std.specs.Option.{option_map, unwrap_or}
-use Rattle.std.specs.Path.{PathStartsWith, cur_dir, path_file_name, path_join, path_parent, path_with_file_name}
+use Rattle.std.specs.Prelude.{◌++◌, ◌&&◌, ◌||◌, ◌==◌, ℕ, zero, suc, Bool, true, false, [], ◌∷◌, if◌then◌else◌, nat_eq, nat_lt}
+use Rattle.std.specs.Prelude.{Option, Some, None, Result, Ok, Err, codes, bit_and, unwrap_or, option_map}
+use Rattle.std.specs.List.{starts_with}
 use Rattle.std.specs.Str.{bytes_eq}
+use Rattle.std.specs.Path.{cur_dir, path_file_name, path_join, path_parent, path_with_file_name}
 use Rattle.std.specs.declared.io.ErrorKind.{ErrorKind}
 use Rattle.std.specs.declared.io.ErrorKind.TheVariants.{NotFound, InvalidInput, InvalidFilename, FilesystemLoop}
 use Rattle.clap.specs.Words.{Text}
+use Rattle.n2k_wire.specs.Steps.{◌>>=◌, or_cause}
 use Rattle.n2kdec.specs.Disk.{Answers}
 use Rattle.n2kdec.specs.declared.destination.Destination.{Destination}
 use Rattle.n2kdec.specs.declared.destination.Kind.{Kind}
@@ -37,7 +38,11 @@ hidden_name name = codes "." ++ name ++ codes ".n2kdec-new"
 abbrev pub new_path : Text → Option Text
 new_path path = option_map (λ name. path_with_file_name path (hidden_name name)) (path_file_name path)
 
--- ---- links
+-- a folder of this path, behind all links, is one of `/proc`
+unfoldable pub is_of_proc : Text → Bool
+is_of_proc folder = bytes_eq folder (codes "/proc") || starts_with nat_eq folder (codes "/proc/")
+
+-- ---- where a name leads
 
 -- nothing is there
 abbrev pub is_missing : ErrorKind → Bool
@@ -50,85 +55,71 @@ is_no_link InvalidInput = true
 is_no_link NotFound = true
 is_no_link _ = false
 
--- A path stands for an open file: its folder, behind all links, is in `/proc`, as that of `/dev/fd/3` is.
-abbrev pub IsOpenFile : Answers → Text → Type 0
-IsOpenFile a path =
-    (folder : Text) × (a.real (folder_of path) ≡ Ok folder) × PathStartsWith folder (codes "/proc")
+-- what is answered of a path; none where nothing is there
+abbrev pub if_there : {T : Type 0} → Result T ErrorKind → Result (Option T) ErrorKind
+if_there (Ok answer) = Ok (Some answer)
+if_there (Err why) = if is_missing why then Ok None else Err why
 
--- it stands for none: its folder is elsewhere, or there is none
-abbrev pub IsNoOpenFile : Answers → Text → Type 0
-IsNoOpenFile a path =
-    ((folder : Text) × (a.real (folder_of path) ≡ Ok folder) × ¬ (PathStartsWith folder (codes "/proc")))
-    ⊎ ((why : ErrorKind) × (a.real (folder_of path) ≡ Err why) × (is_missing why ≡ true))
+-- whether a path stands for an open file: its folder is one of `/proc`, as that of `/dev/fd/3` is
+unfoldable pub is_open_file : Answers → Text → Result Bool ErrorKind
+is_open_file a path = do
+  folder ← if_there (a.real (folder_of path))
+  Ok (unwrap_or (option_map is_of_proc folder) false)
 
--- it can't be found out
-abbrev pub IsUnknownFolder : Answers → Text → ErrorKind → Type 0
-IsUnknownFolder a path why = (a.real (folder_of path) ≡ Err why) × (is_missing why ≡ false)
+-- the path to which the link at a path leads, by what is answered of that; none where it is no link
+abbrev pub linked : Text → Result Text ErrorKind → Result (Option Text) ErrorKind
+linked path (Ok link) = Ok (Some (linked_path path link))
+linked path (Err why) = if is_no_link why then Ok None else Err why
 
--- as many links are followed, one to the next, as the system follows
+-- The path behind all links, of which so many are looked at, one after the other; none where one on the way stands for
+-- an open file.
+abbrev pub onward : (Text → Result (Option Text) ErrorKind) → Text → Option Text → Result (Option Text) ErrorKind
+onward more path None = Ok (Some path)
+onward more path (Some next) = more next
+
+unfoldable pub behind : ℕ → Answers → Text → Result (Option Text) ErrorKind
+behind zero a path = Err FilesystemLoop
+behind (suc looks) a path = do
+  is_open ← is_open_file a path
+  if is_open then Ok None else (linked path (a.link path) >>= onward (behind looks a) path)
+
+-- as many links are followed as the system follows, and the path behind them is looked at too
 abbrev pub most_links : ℕ
 most_links = 40
 
--- one comes from the name to this path over so many links, of which none stands for an open file
-abbrev pub Follows : Answers → ℕ → Text → Text → Type 0
-Follows a zero name path = path ≡ name
-Follows a (suc links) name path =
-    (at link : Text) × Follows a links name at × IsNoOpenFile a at × (a.link at ≡ Ok link) × (path ≡ linked_path at link)
-
--- there the links end
-abbrev pub IsNoLink : Answers → Text → Type 0
-IsNoLink a path = (why : ErrorKind) × (a.link path ≡ Err why) × (is_no_link why ≡ true)
-
--- A name leads to this path, which is no link, or to an open file.
-abbrev pub LeadsTo : Answers → Text → Text → Type 0
-LeadsTo a name path =
-    (links : ℕ) × (links ≤ most_links) × Follows a links name path × IsNoOpenFile a path × IsNoLink a path
-
-abbrev pub LeadsToOpenFile : Answers → Text → Type 0
-LeadsToOpenFile a name = (links : ℕ) × (path : Text) × (links ≤ most_links) × Follows a links name path × IsOpenFile a path
-
--- Where it leads can't be found out: at a path on the way the system can't tell its folder or its link, or there are too
--- many links.
-abbrev pub LeadsNowhere : Answers → Text → ErrorKind → Type 0
-LeadsNowhere a name why =
-    ((links : ℕ) × (path : Text) × Follows a links name path × IsUnknownFolder a path why)
-    ⊎ ((links : ℕ) × (path : Text) × Follows a links name path × (a.link path ≡ Err why) × (is_no_link why ≡ false))
-    ⊎ ((path : Text) × Follows a (suc most_links) name path × (why ≡ FilesystemLoop))
-
 -- ---- what a state does to what is there
 
--- By what a name leads to, where that is known: a regular file, or none, is one of its name alone or has other names too,
--- and its path is that behind the links; what is no regular file, or stands for an open one, is named as it is.
-abbrev pub GoesTo : Answers → Text → Result Found ErrorKind → Text → Kind → Type 0
-GoesTo a name (Ok found) path Alone = (found.is_file ≡ true) × (found.links ≤ 1) × LeadsTo a name path
-GoesTo a name (Ok found) path Shared = (found.is_file ≡ true) × (1 < found.links) × LeadsTo a name path
-GoesTo a name (Ok found) path Special = ((found.is_file ≡ false) ⊎ LeadsToOpenFile a name) × (path ≡ name)
-GoesTo a name (Err why) path Alone = (is_missing why ≡ true) × LeadsTo a name path
-GoesTo a name (Err why) path Shared = ⊥
-GoesTo a name (Err why) path Special = (is_missing why ≡ true) × LeadsToOpenFile a name × (path ≡ name)
+-- nothing, or a regular file
+abbrev pub is_file : Option Found → Bool
+is_file None = true
+is_file (Some found) = found.is_file
+
+-- it has other names too
+abbrev pub is_shared : Option Found → Bool
+is_shared None = false
+is_shared (Some found) = nat_lt 1 found.links
+
+-- what is no regular file, or stands for an open one, is named as it is
+abbrev pub placed_at : Text → Option Found → Option Text → Text × Kind
+placed_at name was None = (name, Special)
+placed_at name was (Some path) = (path, if is_shared was then Shared else Alone)
+
+unfoldable pub target_of : Answers → Text → Option Found → Result (Text × Kind) ErrorKind
+target_of a name was =
+    if is_file was then (behind (suc most_links) a name >>= λ path. Ok (placed_at name was path)) else Ok (name, Special)
 
 -- those bits of a mode that say who may read, write and run a file
-abbrev pub permissions : ℕ → ℕ
-permissions mode = bit_and mode 0o777
+abbrev pub permissions : Found → ℕ
+permissions found = bit_and found.mode 0o777
 
--- the permissions of the file that is there, if one is
-abbrev pub permissions_of : Result Found ErrorKind → Option ℕ
-permissions_of (Ok found) = Some (permissions found.mode)
-permissions_of (Err why) = None
-
--- A state under this name goes there.
-pub record IsDestinationOf (a : Answers) (name : Text) (d : Destination) : Type 0 where
-  pub target : GoesTo a name (a.found name) (string_bytes d.target) d.kind
-  pub temp : new_path (string_bytes d.target) ≡ Some (string_bytes d.temp)
-  pub mode : d.mode ≡ permissions_of (a.found name)
-
--- Where it goes can't be found out: the system can't tell what is there, or where the name leads, by an error of this
--- kind; or the name ends with no name of a file.
-abbrev pub HasNoDestination : Answers → Text → ErrorKind → Type 0
-HasNoDestination a name why =
-    ((a.found name ≡ Err why) × (is_missing why ≡ false))
-    ⊎ LeadsNowhere a name why
-    ⊎ ((path : Text) × (kind : Kind) × GoesTo a name (a.found name) path kind × (new_path path ≡ None) × (why ≡ InvalidFilename))
+-- A state under this name goes there; or it can't be found out where, by the first answer of this kind, or since the name
+-- ends with no name of a file.
+unfoldable pub destination : Answers → Text → Result Destination ErrorKind
+destination a name = do
+  was ← if_there (a.found name)
+  to ← target_of a name was
+  temp ← or_cause InvalidFilename (new_path to.0)
+  Ok (record { target = to.0; temp = temp; kind = to.1; mode = option_map permissions was })
 
 -- ---- two paths
 
@@ -141,6 +132,6 @@ abbrev pub are_same : Result Found ErrorKind → Result Found ErrorKind → Bool
 are_same (Ok one) (Ok other) spelled = are_one one other
 are_same _ _ spelled = spelled
 
--- whether both paths lead to one regular file, where that is known
-abbrev pub leads : Option Answers → Text → Text → Option Bool
-leads answers own path = option_map (λ a. are_same (a.found own) (a.found path) (bytes_eq own path)) answers
+-- whether both paths lead to one regular file
+unfoldable pub leads : Answers → Text → Text → Bool
+leads a own path = are_same (a.found own) (a.found path) (bytes_eq own path)

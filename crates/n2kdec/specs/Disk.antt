@@ -1,5 +1,5 @@
 -- The system's files, as a contract can see them: what they answer of paths, and the calls that may change them.
-use Rattle.std.specs.Prelude.{◌≡◌, ◌⊎◌, ◌∷◌, ℕ, List, [], Option, Some, None, IfSome}
+use Rattle.std.specs.Prelude.{◌≡◌, ◌⊎◌, ◌∷◌, ℕ, List, Option, Some, None, option_map}
 use Rattle.std.specs.Prelude.{Result, Ok, Err}
 use Rattle.std.specs.IoError.{error_kind}
 use Rattle.std.specs.declared.io.Error.{Error}
@@ -23,49 +23,45 @@ abbrev pub IsAnswer : {T V : Type 0} → (T → V) → Result V ErrorKind → Re
 IsAnswer view known (Ok value) = known ≡ Ok (view value)
 IsAnswer view known (Err error) = known ≡ Err (error_kind error)
 
--- or memory was refused for the text of it
-abbrev pub IsAnswerInText : {T V : Type 0} → (T → V) → Result V ErrorKind → Result T Error → Type 0
-IsAnswerInText view known (Ok value) = known ≡ Ok (view value)
-IsAnswerInText view known (Err error) = (known ≡ Err (error_kind error)) ⊎ (error_kind error ≡ OutOfMemory)
+-- or memory was refused
+abbrev pub IsAnswerUnlessMemory : {T V : Type 0} → (T → V) → Result V ErrorKind → Result T Error → Type 0
+IsAnswerUnlessMemory view known (Ok value) = known ≡ Ok (view value)
+IsAnswerUnlessMemory view known (Err error) = (known ≡ Err (error_kind error)) ⊎ (error_kind error ≡ OutOfMemory)
 
 -- ---- what is done
 
--- A call that may change what is on the disk, and the kind of error that it answered; none where it is done. One that
--- answered an error may be done, done in part, or not done. A call of an open file has the path at which that was
--- opened.
-pub data Act : Type 0 where
-  -- the file of a path is opened in this way, in place of the one that is open
-  open_at : Text → OpenOptions → Option ErrorKind → Act
-  set_mode : Option Text → ℕ → Option ErrorKind → Act
+-- A call that may change what is on the disk. P says where: the disk's own calls have paths, those of the model of a
+-- folder two names of it. A call of a file is one of the file that was opened last.
+pub data Call (P : Type 0) : Type 0 where
+  -- the file that is there is opened in this way, in place of the one that is open
+  open_at : P → OpenOptions → Call P
+  set_mode : ℕ → Call P
   -- a text is written to the open file, whole
-  write : Option Text → List ℕ → Option ErrorKind → Act
-  sync : Option Text → Option ErrorKind → Act
-  -- what has the first path gets the second one, in the place of what had that
-  rename : Text → Text → Option ErrorKind → Act
-  remove : Text → Option ErrorKind → Act
-  -- the folder of this path is synced
-  sync_folder : Text → Option ErrorKind → Act
+  write : List ℕ → Call P
+  sync : Call P
+  -- what is at the first gets the second, in the place of what is there
+  rename : P → P → Call P
+  remove : P → Call P
+  -- the folder at this path, or in which this name is
+  sync_folder : P → Call P
 
--- the path at which the open file was opened, where one is open
-abbrev pub open_path : List Act → Option Text
-open_path [] = None
-open_path (open_at path how None ∷ acts) = Some path
-open_path (_ ∷ acts) = open_path acts
+-- A call that was made, and the kind of error that it answered; none where it is done. One that answered an error may be
+-- done, done in part, or not done.
+pub record Act (P : Type 0) : Type 0 where
+  pub call : Call P
+  pub failed : Option ErrorKind
 
 -- by which kind of error a call failed, if it did
 abbrev pub failure : {T : Type 0} → Result T Error → Option ErrorKind
 failure (Ok value) = None
 failure (Err error) = Some (error_kind error)
 
--- one act more, where the acts are known; the last one stands first
-abbrev pub Notes : Option (List Act) → Option (List Act) → Act → Type 0
-Notes before after act = IfSome after (λ all. (acts : List Act) × (before ≡ Some acts) × (all ≡ act ∷ acts))
+abbrev pub acted : {P T : Type 0} → Call P → Result T Error → Act P
+acted call result = record { call = call; failed = failure result }
 
--- one more of the open file
-abbrev pub NotesOpen : Option (List Act) → Option (List Act) → (Option Text → Act) → Type 0
-NotesOpen before after act =
-    IfSome after (λ all. (acts : List Act) × (before ≡ Some acts) × (all ≡ act (open_path acts) ∷ acts))
+-- The acts, where they are known, the last one first; and one more.
+abbrev pub Acts : Type 0
+Acts = Option (List (Act Text))
 
--- the file of this path is open, as far as the acts are known
-abbrev pub IsOpenAt : Option (List Act) → Text → Type 0
-IsOpenAt acts path = IfSome acts (λ all. open_path all ≡ Some path)
+unfoldable pub noted : Act Text → Acts → Acts
+noted act acts = option_map (λ before. act ∷ before) acts

@@ -1,20 +1,16 @@
--- A folder of two names, as a contract can see it: the calls that are made of it, what each name may be found to have
--- after them, what a cut of the power may leave of it, and which calls of the system each of them is.
-use Rattle.std.specs.Prelude.{◌≡◌, ◌⊎◌, ◌+◌, ◌++◌, ℕ, Bool, true, false, List, [], ◌∷◌, Option, Some, None, IfSome}
-use Rattle.std.specs.Prelude.{Result, Ok, Err, string_bytes}
-use Rattle.std.specs.Option.{is_none}
-use Rattle.std.specs.Fs.{new_options, with_append, with_create, with_create_new, with_truncate, with_write}
+-- A folder of two names, that to which a state goes and that of the new file beside it: what each may be found to have
+-- after calls of the disk, and what a cut of the power may leave of it.
+use Rattle.std.specs.Prelude.{◌≡◌, ◌⊎◌, ◌++◌, ◌||◌, ℕ, Bool, true, false, List, [], ◌∷◌, Option, Some, None}
+use Rattle.std.specs.Prelude.{if◌then◌else◌}
+use Rattle.std.specs.Fs.{asks_create_new, asks_truncate, new_options, with_append, with_create, with_create_new, with_truncate, with_write}
 use Rattle.std.specs.declared.fs.OpenOptions.{OpenOptions}
 use Rattle.std.specs.declared.io.ErrorKind.{ErrorKind}
 use Rattle.std.specs.declared.io.ErrorKind.TheVariants.{AlreadyExists, PermissionDenied, ReadOnlyFilesystem}
-use Rattle.std.specs.declared.io.ErrorKind.TheVariants.{InvalidFilename, ResourceBusy, IsADirectory}
+use Rattle.std.specs.declared.io.ErrorKind.TheVariants.{InvalidFilename, ResourceBusy, IsADirectory, Other}
 use Rattle.clap.specs.Words.{Text}
 use Rattle.n2kdec.specs.Destination.{folder_of, is_missing}
-use Rattle.n2kdec.specs.Disk.{Act}
-use Rattle.n2kdec.specs.Disk as act
+use Rattle.n2kdec.specs.Disk.{Act, Acts, Call, noted, open_at, set_mode, write, sync, rename, remove, sync_folder}
 use Rattle.n2kdec.specs.declared.destination.Destination.{Destination}
-use Rattle.n2kdec.specs.declared.replacement.Unplaced.{Unplaced}
-use Rattle.n2kdec.specs.declared.replacement.Unplaced.TheVariants.{Refused, Failed}
 
 -- the name that gets a text, and that of the new file beside it, until the text is whole
 pub data Name : Type 0 where
@@ -25,142 +21,29 @@ pub data Name : Type 0 where
 abbrev pub Content : Type 0
 Content = Option (List ℕ)
 
--- A call of a folder, and whether its answer was Ok. One whose answer was not, and one that a cut meets, may be done,
--- done in part, or not done.
-pub data Call : Type 0 where
-  create : Name → Bool → Call
-  -- the file keeps the names that it has, and loses its text
-  empty : Name → Bool → Call
-  write : Name → List ℕ → Bool → Call
-  sync : Name → Bool → Call
-  rename : Name → Name → Bool → Call
-  sync_folder : Bool → Call
-  remove : Name → Bool → Call
-  -- the folder does not allow a new file, or that it takes a name: nothing is done
-  refused : Call
+-- ---- the calls of the disk
 
--- the same call, where a cut meets it
-abbrev pub cut_short : Call → Call
-cut_short refused = refused
-cut_short (empty name done) = empty name false
-cut_short (create name done) = create name false
-cut_short (write name text done) = write name text false
-cut_short (sync name done) = sync name false
-cut_short (rename from to done) = rename from to false
-cut_short (sync_folder done) = sync_folder false
-cut_short (remove name done) = remove name false
+abbrev pub path_of : Destination → Name → Text
+path_of d Target = d.target
+path_of d Temp = d.temp
 
--- the call by which a file is made, or comes to another name, of which this was the answer
-abbrev pub created : {T : Type 0} → Name → Result T Unplaced → Call
-created name (Ok made) = create name true
-created name (Err Refused) = refused
-created name (Err (Failed why)) = create name false
+-- a call of the folder of this destination, as one of the disk
+abbrev pub call_at : Destination → Call Name → Call Text
+call_at d (open_at name how) = open_at (path_of d name) how
+call_at d (set_mode mode) = set_mode mode
+call_at d (write text) = write text
+call_at d sync = sync
+call_at d (rename from to) = rename (path_of d from) (path_of d to)
+call_at d (remove name) = remove (path_of d name)
+call_at d (sync_folder name) = sync_folder (folder_of (path_of d name))
 
-abbrev pub renamed : {T : Type 0} → Name → Name → Result T Unplaced → Call
-renamed from to (Ok moved) = rename from to true
-renamed from to (Err Refused) = refused
-renamed from to (Err (Failed why)) = rename from to false
+abbrev pub act_at : Destination → Act Name → Act Text
+act_at d act = record { call = call_at d act.call; failed = act.failed }
 
--- the one where the names are the same, and the other where they differ
-abbrev pub Where : Name → Name → Type 0 → Type 0 → Type 0
-Where Target Target same other = same
-Where Temp Temp same other = same
-Where Target Temp same other = other
-Where Temp Target same other = other
-
--- the text of some file
-abbrev pub IsSomeText : Content → Type 0
-IsSomeText held = (text : List ℕ) × (held ≡ Some text)
-
--- What a name may be found to have after these calls, of which the last stands first. It had `first` before them.
-abbrev pub MayHave : (Name → Content) → List Call → Name → Content → Type 0
-MayHave first [] name c = c ≡ first name
-MayHave first (refused ∷ calls) name c = MayHave first calls name c
--- an empty file, in the place of what had the name
-MayHave first (create new true ∷ calls) name c = Where name new (c ≡ Some []) (MayHave first calls name c)
-MayHave first (create new false ∷ calls) name c =
-    Where name new (MayHave first calls name c ⊎ (c ≡ None) ⊎ (c ≡ Some [])) (MayHave first calls name c)
-MayHave first (empty of true ∷ calls) name c = Where name of (c ≡ Some []) (MayHave first calls name c)
-MayHave first (empty of false ∷ calls) name c =
-    Where name of (MayHave first calls name c ⊎ (c ≡ Some [])) (MayHave first calls name c)
--- the text behind what the file has, or some part of it
-MayHave first (write to text true ∷ calls) name c =
-    Where name to ((had : List ℕ) × MayHave first calls name (Some had) × (c ≡ Some (had ++ text)))
-    (MayHave first calls name c)
-MayHave first (write to text false ∷ calls) name c =
-    Where name to (MayHave first calls name c ⊎ IsSomeText c) (MayHave first calls name c)
--- where a sync fails, what was written may be lost
-MayHave first (sync of true ∷ calls) name c = MayHave first calls name c
-MayHave first (sync of false ∷ calls) name c =
-    Where name of (MayHave first calls name c ⊎ IsSomeText c) (MayHave first calls name c)
--- a rename is done or not
-MayHave first (rename from to true ∷ calls) name c =
-    Where name to (MayHave first calls from c) (Where name from (c ≡ None) (MayHave first calls name c))
-MayHave first (rename from to false ∷ calls) name c =
-    Where name to (MayHave first calls name c ⊎ MayHave first calls from c)
-    (Where name from (MayHave first calls name c ⊎ (c ≡ None)) (MayHave first calls name c))
-MayHave first (sync_folder done ∷ calls) name c = MayHave first calls name c
-MayHave first (remove old true ∷ calls) name c = Where name old (c ≡ None) (MayHave first calls name c)
-MayHave first (remove old false ∷ calls) name c =
-    Where name old (MayHave first calls name c ⊎ (c ≡ None)) (MayHave first calls name c)
-
--- The texts that a cut may leave in the file that has a name now: any, from its creation, its emptying or a write on
--- until it is synced.
-abbrev pub FileMayBeLeft : (Name → Content) → List Call → Name → List ℕ → Type 0
-FileMayBeLeft first [] name text = first name ≡ Some text
-FileMayBeLeft first (refused ∷ calls) name text = FileMayBeLeft first calls name text
-FileMayBeLeft first (empty of done ∷ calls) name text = Where name of (Unit {0}) (FileMayBeLeft first calls name text)
-FileMayBeLeft first (create new done ∷ calls) name text =
-    Where name new (Unit {0}) (FileMayBeLeft first calls name text)
-FileMayBeLeft first (write to more done ∷ calls) name text =
-    Where name to (Unit {0}) (FileMayBeLeft first calls name text)
-FileMayBeLeft first (sync of true ∷ calls) name text =
-    Where name of (MayHave first calls name (Some text)) (FileMayBeLeft first calls name text)
-FileMayBeLeft first (sync of false ∷ calls) name text = FileMayBeLeft first calls name text
-FileMayBeLeft first (rename from to true ∷ calls) name text =
-    Where name to (FileMayBeLeft first calls from text) (FileMayBeLeft first calls name text)
-FileMayBeLeft first (rename from to false ∷ calls) name text =
-    Where name to (FileMayBeLeft first calls name text ⊎ FileMayBeLeft first calls from text)
-    (FileMayBeLeft first calls name text)
-FileMayBeLeft first (sync_folder done ∷ calls) name text = FileMayBeLeft first calls name text
-FileMayBeLeft first (remove old done ∷ calls) name text = FileMayBeLeft first calls name text
-
--- What a cut may leave under a name.
-abbrev pub MayBeLeft : (Name → Content) → List Call → Name → Content → Type 0
-MayBeLeft first [] name c = c ≡ first name
-MayBeLeft first (refused ∷ calls) name c = MayBeLeft first calls name c
-MayBeLeft first (empty of done ∷ calls) name c =
-    Where name of (MayBeLeft first calls name c ⊎ IsSomeText c) (MayBeLeft first calls name c)
-MayBeLeft first (create new done ∷ calls) name c =
-    Where name new (MayBeLeft first calls name c ⊎ (c ≡ None) ⊎ IsSomeText c) (MayBeLeft first calls name c)
-MayBeLeft first (write to text done ∷ calls) name c =
-    Where name to (MayBeLeft first calls name c ⊎ IsSomeText c) (MayBeLeft first calls name c)
-MayBeLeft first (sync of done ∷ calls) name c = MayBeLeft first calls name c
--- until the folder is synced a rename is there or not, and so is what was taken away
-MayBeLeft first (rename from to done ∷ calls) name c =
-    Where name to (MayBeLeft first calls name c
-    ⊎ ((text : List ℕ) × FileMayBeLeft first calls from text × (c ≡ Some text)))
-    (Where name from (MayBeLeft first calls name c ⊎ (c ≡ None)) (MayBeLeft first calls name c))
-MayBeLeft first (sync_folder true ∷ calls) name c =
-    ((text : List ℕ) × FileMayBeLeft first calls name text × (c ≡ Some text))
-    ⊎ (MayHave first calls name None × (c ≡ None))
-MayBeLeft first (sync_folder false ∷ calls) name c = MayBeLeft first calls name c
-MayBeLeft first (remove old done ∷ calls) name c =
-    Where name old (MayBeLeft first calls name c ⊎ (c ≡ None)) (MayBeLeft first calls name c)
-
--- how many of these calls failed
-abbrev pub failures : List Call → ℕ
-failures [] = 0
-failures (create name false ∷ calls) = failures calls + 1
-failures (empty name false ∷ calls) = failures calls + 1
-failures (write name text false ∷ calls) = failures calls + 1
-failures (sync name false ∷ calls) = failures calls + 1
-failures (rename from to false ∷ calls) = failures calls + 1
-failures (sync_folder false ∷ calls) = failures calls + 1
-failures (remove name false ∷ calls) = failures calls + 1
-failures (_ ∷ calls) = failures calls
-
--- ---- the calls of the system
+-- The disk's acts behind these of the folder of this destination, the last one first, and no other.
+abbrev pub behind : Destination → List (Act Name) → Acts → Acts
+behind d [] before = before
+behind d (act ∷ made) before = noted (act_at d act) (behind d made before)
 
 -- a new file is made, which follows no link
 abbrev pub makes_new : OpenOptions
@@ -175,8 +58,8 @@ abbrev pub writes_behind : OpenOptions
 writes_behind = with_append new_options true
 
 -- something has the path of the new file
-abbrev pub is_taken : ErrorKind → Bool
-is_taken AlreadyExists = true
+abbrev pub is_taken : Option ErrorKind → Bool
+is_taken (Some AlreadyExists) = true
 is_taken _ = false
 
 -- The folder does not allow what was asked of it: who may write there, a system that is read alone, a name that is too
@@ -189,75 +72,109 @@ is_refusal ResourceBusy = true
 is_refusal IsADirectory = true
 is_refusal _ = false
 
--- the path of a name
-abbrev pub path_of : Destination → Name → Text
-path_of d Target = string_bytes d.target
-path_of d Temp = string_bytes d.temp
+-- ---- what a call does
 
--- what a cut left under the path of the new file is taken away, or nothing was there
-abbrev pub AreClearing : Text → List Act → Type 0
-AreClearing path acts =
-    (acts ≡ [])
-    ⊎ ((why : ErrorKind) × (is_taken why ≡ true) × (acts ≡ act.remove path None ∷ act.open_at path makes_new (Some why) ∷ []))
+pub data Extent : Type 0 where
+  Whole : Extent
+  -- all of it, some of it or nothing
+  Unsure : Extent
+  Nothing : Extent
 
--- these are the acts by which the new file is made, up to one that failed, by this kind of error
-abbrev pub AreNoNewFile : Text → List Act → ErrorKind → Type 0
-AreNoNewFile path acts why =
-    ((is_taken why ≡ false) × (acts ≡ act.open_at path makes_new (Some why) ∷ []))
-    ⊎ ((taken : ErrorKind) × (is_taken taken ≡ true)
-    × (acts ≡ act.remove path (Some why) ∷ act.open_at path makes_new (Some taken) ∷ []))
+-- How much of a call is done, by its answer. What is to be taken away and is not there is gone.
+abbrev pub extent_of : Call Name → Option ErrorKind → Extent
+extent_of call None = Whole
+extent_of (open_at name how) (Some why) = if is_taken (Some why) || is_refusal why then Nothing else Unsure
+extent_of (rename from to) (Some why) = if is_refusal why then Nothing else Unsure
+extent_of (remove name) (Some why) = if is_missing why then Whole else if is_refusal why then Nothing else Unsure
+extent_of _ (Some why) = Unsure
 
--- it gets the permissions of the file in whose place it comes, if one is there
-abbrev pub with_mode : Text → Option ℕ → List Act → List Act
-with_mode path None acts = acts
-with_mode path (Some mode) acts = act.set_mode (Some path) mode None ∷ acts
+-- the same call, where a cut meets it: what is refused does nothing then too
+abbrev pub cut_failure : Extent → Option ErrorKind → Option ErrorKind
+cut_failure Nothing failed = failed
+cut_failure _ failed = Some Other
 
--- A call of the system that is one of the folder, done or failed: by no error, or by one of some kind.
-abbrev pub IsOne : (Option ErrorKind → Act) → Bool → List Act → Type 0
-IsOne one true acts = acts ≡ one None ∷ []
-IsOne one false acts = (why : ErrorKind) × (acts ≡ one (Some why) ∷ [])
+abbrev pub cut_short : Act Name → Act Name
+cut_short act = record { call = act.call; failed = cut_failure (extent_of act.call act.failed) act.failed }
 
--- A call of the folder of this destination is made by these acts, the last one first, and no other.
-abbrev pub IsDoneBy : Destination → Call → List Act → Type 0
-IsDoneBy d (create Temp true) acts =
-    (cleared : List Act) × AreClearing (path_of d Temp) cleared
-    × (acts ≡ with_mode (path_of d Temp) d.mode (act.open_at (path_of d Temp) makes_new None ∷ cleared))
-IsDoneBy d (create Temp false) acts =
-    ((why : ErrorKind) × (is_refusal why ≡ false) × AreNoNewFile (path_of d Temp) acts why)
-    ⊎ ((why taken : ErrorKind) × (is_taken taken ≡ true) × (acts ≡ act.open_at (path_of d Temp) makes_new (Some why)
-    ∷ act.remove (path_of d Temp) None ∷ act.open_at (path_of d Temp) makes_new (Some taken) ∷ []))
-    ⊎ ((why : ErrorKind) × (mode : ℕ) × (cleared : List Act) × AreClearing (path_of d Temp) cleared × (d.mode ≡ Some mode)
-    × (acts ≡ act.set_mode (Some (path_of d Temp)) mode (Some why) ∷ act.open_at (path_of d Temp) makes_new None
-    ∷ cleared))
-IsDoneBy d (create Target done) acts = ⊥
-IsDoneBy d refused acts =
-    (why : ErrorKind) × (is_refusal why ≡ true) × (AreNoNewFile (path_of d Temp) acts why
-    ⊎ (acts ≡ act.rename (path_of d Temp) (path_of d Target) (Some why) ∷ []))
-IsDoneBy d (empty Target done) acts =
-    IsOne (λ why. act.open_at (path_of d Target) (writes_over (is_none d.mode)) why) done acts
-IsDoneBy d (empty Temp done) acts = ⊥
-IsDoneBy d (write name text done) acts = IsOne (λ why. act.write (Some (path_of d name)) text why) done acts
-IsDoneBy d (sync name done) acts = IsOne (λ why. act.sync (Some (path_of d name)) why) done acts
-IsDoneBy d (rename Temp Target true) acts = acts ≡ act.rename (path_of d Temp) (path_of d Target) None ∷ []
-IsDoneBy d (rename Temp Target false) acts =
-    (why : ErrorKind) × (is_refusal why ≡ false)
-    × (acts ≡ act.rename (path_of d Temp) (path_of d Target) (Some why) ∷ [])
-IsDoneBy d (rename _ _ done) acts = ⊥
-IsDoneBy d (sync_folder done) acts = IsOne (λ why. act.sync_folder (folder_of (path_of d Target)) why) done acts
-IsDoneBy d (remove Temp true) acts =
-    (acts ≡ act.remove (path_of d Temp) None ∷ [])
-    ⊎ ((why : ErrorKind) × (is_missing why ≡ true) × (acts ≡ act.remove (path_of d Temp) (Some why) ∷ []))
-IsDoneBy d (remove Temp false) acts =
-    (why : ErrorKind) × (is_missing why ≡ false) × (acts ≡ act.remove (path_of d Temp) (Some why) ∷ [])
-IsDoneBy d (remove Target done) acts = ⊥
+-- the name at which the open file was opened, if one is
+abbrev pub opened_by : Call Name → Option ErrorKind → Option Name → Option Name
+opened_by (open_at name how) None current = Some name
+opened_by _ _ current = current
 
--- these calls are, one after the other
-abbrev pub AreDoneBy : Destination → List Call → List Act → Type 0
-AreDoneBy d [] acts = acts ≡ []
-AreDoneBy d (call ∷ calls) acts =
-    (last earlier : List Act) × (acts ≡ last ++ earlier) × IsDoneBy d call last × AreDoneBy d calls earlier
+abbrev pub opened : List (Act Name) → Option Name
+opened [] = None
+opened (act ∷ acts) = opened_by act.call act.failed (opened acts)
 
--- One call more was made of the folder of this destination, where the acts of the disk are known.
-abbrev pub Does : Destination → Option (List Act) → Option (List Act) → Call → Type 0
-Does d before after call =
-    IfSome after (λ all. (acts had : List Act) × (before ≡ Some had) × (all ≡ acts ++ had) × IsDoneBy d call acts)
+-- whose file a call makes, changes or takes away
+abbrev pub changed_by : Call Name → Option Name → Option Name
+changed_by (open_at name how) current = if asks_create_new how || asks_truncate how then Some name else None
+changed_by (rename from to) current = None
+changed_by (remove name) current = Some name
+changed_by (sync_folder name) current = None
+changed_by _ current = current
+
+-- ---- what a name has
+
+-- the one where the names are the same, and the other where they differ, or there is none
+abbrev pub Where : Name → Option Name → Type 0 → Type 0 → Type 0
+Where name None same other = other
+Where Target (Some Target) same other = same
+Where Temp (Some Temp) same other = same
+Where Target (Some Temp) same other = other
+Where Temp (Some Target) same other = other
+
+-- What a name may be found to have after a call that is done, where each may have had this: a file that is opened is
+-- empty then, but for one that is written to behind what it has.
+abbrev pub HasDone : Call Name → Option Name → (Name → Content → Type 0) → Name → Content → Type 0
+HasDone (open_at of how) current had name c = Where name (changed_by (open_at of how) current) (c ≡ Some []) (had name c)
+HasDone (write text) current had name c =
+    Where name current ((front : List ℕ) × had name (Some front) × (c ≡ Some (front ++ text))) (had name c)
+HasDone (rename from to) current had name c = Where name (Some to) (had from c) (Where name (Some from) (c ≡ None) (had name c))
+HasDone (remove old) current had name c = Where name (Some old) (c ≡ None) (had name c)
+HasDone _ current had name c = had name c
+
+-- A rename is done or not. The file of another call that may be done in part may have any text, or be gone; of a sync
+-- too, since what was written may be lost.
+abbrev pub HasAfter : Extent → Call Name → Option Name → (Name → Content → Type 0) → Name → Content → Type 0
+HasAfter Whole call current had name c = HasDone call current had name c
+HasAfter Nothing call current had name c = had name c
+HasAfter Unsure (rename from to) current had name c = had name c ⊎ HasDone (rename from to) current had name c
+HasAfter Unsure call current had name c = Where name (changed_by call current) (Unit {0}) (had name c)
+
+abbrev pub MayHave : (Name → Content) → List (Act Name) → Name → Content → Type 0
+MayHave first [] name c = c ≡ first name
+MayHave first (act ∷ acts) name c =
+    HasAfter (extent_of act.call act.failed) act.call (opened acts) (MayHave first acts) name c
+
+-- The texts that a cut may leave in the file that has a name now: any, once it is made or changed, until it is synced.
+abbrev pub FileAfter : Extent → Call Name → Option Name → (Name → Content → Type 0) → (Name → List ℕ → Type 0) → Name
+    → List ℕ → Type 0
+FileAfter Nothing call current had left name text = left name text
+FileAfter Whole sync current had left name text = Where name current (had name (Some text)) (left name text)
+FileAfter Whole (rename from to) current had left name text = Where name (Some to) (left from text) (left name text)
+FileAfter Unsure (rename from to) current had left name text =
+    Where name (Some to) (left name text ⊎ left from text) (left name text)
+FileAfter extent call current had left name text = Where name (changed_by call current) (Unit {0}) (left name text)
+
+abbrev pub FileMayBeLeft : (Name → Content) → List (Act Name) → Name → List ℕ → Type 0
+FileMayBeLeft first [] name text = first name ≡ Some text
+FileMayBeLeft first (act ∷ acts) name text =
+    FileAfter (extent_of act.call act.failed) act.call (opened acts) (MayHave first acts) (FileMayBeLeft first acts) name text
+
+-- What a cut may leave under a name: until the folder is synced a rename is there or not, and what is made, changed or
+-- taken away may be there, or anything else.
+abbrev pub LeftAfter : Extent → Call Name → Option Name → (Name → Content → Type 0) → (Name → List ℕ → Type 0)
+    → (Name → Content → Type 0) → Name → Content → Type 0
+LeftAfter Nothing call current had file left name c = left name c
+LeftAfter Whole (sync_folder of) current had file left name c =
+    ((text : List ℕ) × file name text × (c ≡ Some text)) ⊎ (had name None × (c ≡ None))
+LeftAfter extent (rename from to) current had file left name c =
+    Where name (Some to) (left name c ⊎ ((text : List ℕ) × file from text × (c ≡ Some text)))
+    (Where name (Some from) (left name c ⊎ (c ≡ None)) (left name c))
+LeftAfter extent call current had file left name c = Where name (changed_by call current) (Unit {0}) (left name c)
+
+abbrev pub MayBeLeft : (Name → Content) → List (Act Name) → Name → Content → Type 0
+MayBeLeft first [] name c = c ≡ first name
+MayBeLeft first (act ∷ acts) name c =
+    LeftAfter (extent_of act.call act.failed) act.call (opened acts) (MayHave first acts) (FileMayBeLeft first acts)
+    (MayBeLeft first acts) name c

@@ -9,6 +9,7 @@ pub mod FaultSentence
 pub mod Found
 pub mod Folder
 pub mod Inner
+pub mod Keeper
 pub mod Machine
 pub mod MemoryMachine
 pub mod Parser

@@ -1,202 +1,181 @@
 -- How a text comes to a name: it takes the place of another, so that at each moment one of the two is there, whole; or,
--- where the folder does not allow that, it is written over the file itself.
-use Rattle.std.specs.Prelude.{◌≡◌, ◌⊎◌, ◌<◌, ◌++◌, ℕ, Bool, true, false, List, [], ◌∷◌, Option, Some, None, IfSome, if◌then◌else◌}
-use Rattle.std.specs.Prelude.{codes, Result, Ok, Err, IsErr, IsErrAnd, OnOk, MatchResult}
+-- where the folder does not allow that or the file has other names, it is written over the file itself.
+use Rattle.std.specs.Prelude.{◌≡◌, ◌⊎◌, ◌++◌, ℕ, Bool, true, false, List, [], ◌∷◌, Option, Some, None, IfSome, Result, Ok, Err}
+use Rattle.std.specs.Prelude.{IsErrAnd, OnOk, if◌then◌else◌}
+use Rattle.std.specs.Option.{is_none}
 use Rattle.std.specs.IoError.{error_kind}
 use Rattle.std.specs.declared.io.Error.{Error}
 use Rattle.std.specs.declared.io.ErrorKind.{ErrorKind}
 use Rattle.std.specs.declared.io.ErrorKind.TheVariants.{OutOfMemory}
 use Rattle.clap.specs.Words.{Text}
-use Rattle.n2kdec.specs.Destination.{HasNoDestination, IsDestinationOf, leads}
-use Rattle.n2kdec.specs.Disk as act
-use Rattle.n2kdec.specs.Disk.{Act, Answers}
-use Rattle.n2kdec.specs.Folder.{AreDoneBy, Call, Content, FileMayBeLeft, MayBeLeft, MayHave, Name, Target, Temp, create}
-use Rattle.n2kdec.specs.Folder.{cut_short, empty, failures, path_of, refused, remove, rename, sync, sync_folder, write}
-use Rattle.n2kdec.specs.Folder.{writes_behind}
-use Rattle.n2kdec.specs.declared.asked.Files.{Files}
+use Rattle.n2kdec.specs.Destination.{destination, is_missing}
+use Rattle.n2kdec.specs.Disk.{Act, Acts, Answers, Call, acted, failure, open_at, set_mode, write, sync, rename, remove, sync_folder}
+use Rattle.n2kdec.specs.Folder.{Content, FileMayBeLeft, MayBeLeft, MayHave, Name, Target, Temp, behind, cut_short, is_refusal}
+use Rattle.n2kdec.specs.Folder.{is_taken, makes_new, writes_behind, writes_over}
 use Rattle.n2kdec.specs.declared.destination.Destination.{Destination}
 use Rattle.n2kdec.specs.declared.destination.Kind.{Kind}
-use Rattle.n2kdec.specs.declared.destination.Kind.TheVariants.{Alone, Shared, Special}
-use Rattle.n2kdec.specs.declared.keeper.Unkept.{Unkept}
-use Rattle.n2kdec.specs.declared.keeper.Unkept.TheVariants.{Harm, Unfound, Memory, Failed}
-use Rattle.n2kdec.specs.declared.reason.Reason.{Reason}
-use Rattle.n2kdec.specs.declared.reason.Reason.TheVariants as told
+use Rattle.n2kdec.specs.declared.destination.Kind.TheVariants.{Alone, Special}
+use Rattle.n2kdec.specs.declared.replacement.Unplaced.{Unplaced}
+use Rattle.n2kdec.specs.declared.replacement.Unplaced.TheVariants.{Refused, Failed}
 
--- ---- a text in the place of another
+-- ---- the calls
+
+-- What a function does, by its answer: the calls of the folder that it makes, the last one first.
+abbrev pub Doing : Type 0 → Type 1
+Doing E = Result (Unit {0}) E → List (Act Name) → Type 0
+
+-- that was done, and no other call made
+abbrev pub Makes : {E : Type 0} → Destination → Acts → Acts → Doing E → Result (Unit {0}) E → Type 0
+Makes d before after Does result = (made : List (Act Name)) × (after ≡ behind d made before) × Does result made
+
+-- one call
+abbrev pub IsOne : Call Name → Doing Error
+IsOne call result made = made ≡ acted call result ∷ []
+
+-- the one, and then the other; or the one alone, by whose error it ends
+abbrev pub Then : {E : Type 0} → Doing E → Doing E → Doing E
+Then One Other result made =
+    ((first later : List (Act Name)) × One (Ok tt) first × Other result later × (made ≡ later ++ first))
+    ⊎ IsErrAnd result (λ why. One (Err why) made)
+
+-- one of which this comes of the answer
+abbrev pub By : (Result (Unit {0}) Error → Result (Unit {0}) Unplaced) → Doing Error → Doing Unplaced
+By answers Does result made = (answer : Result (Unit {0}) Error) × Does answer made × (result ≡ answers answer)
+
+-- by an error the call failed
+abbrev pub failed : Result (Unit {0}) Error → Result (Unit {0}) Unplaced
+failed (Ok done) = Ok done
+failed (Err error) = Err (Failed error)
+
+-- or the folder does not allow what was asked of it
+abbrev pub judged : Result (Unit {0}) Error → Result (Unit {0}) Unplaced
+judged (Ok done) = Ok done
+judged (Err error) = Err (if is_refusal (error_kind error) then Refused else Failed error)
+
+-- The new file is made; where something has its path, that was left by a cut, and is taken away first.
+abbrev pub make : Call Name
+make = open_at Temp makes_new
+
+abbrev pub IsMadeAnew : Doing Unplaced
+IsMadeAnew result made = Then (By judged (IsOne (remove Temp))) (By failed (IsOne make)) result made
+
+abbrev pub IsMade : Doing Unplaced
+IsMade result made = (answer : Result (Unit {0}) Error) × (((is_taken (failure answer) ≡ false) × (result ≡ judged answer) × IsOne make answer made)
+    ⊎ ((later : List (Act Name)) × (is_taken (failure answer) ≡ true) × IsMadeAnew result later × (made ≡ later ++ acted make answer ∷ [])))
+
+-- it gets the permissions of the file in whose place it comes, if one is there, and the text, and is synced
+abbrev pub IsModed : Option ℕ → Doing Error
+IsModed None result made = (result ≡ Ok tt) × (made ≡ [])
+IsModed (Some mode) result made = IsOne (set_mode mode) result made
+
+abbrev pub IsPoured : Option ℕ → List ℕ → Doing Error
+IsPoured mode text result made = Then (Then (IsModed mode) (IsOne (write text))) (IsOne sync) result made
+
+abbrev pub IsFilled : Destination → List ℕ → Doing Unplaced
+IsFilled d text result made = Then IsMade (By failed (IsPoured d.mode text)) result made
+
+-- Then it gets the name, if that is its file's one name. Where the file has others, the new one only shows that there is
+-- room.
+abbrev pub IsNamed : Kind → Doing Unplaced
+IsNamed Alone result made = By judged (IsOne (rename Temp Target)) result made
+IsNamed _ result made = (result ≡ Err Refused) × (made ≡ [])
+
+abbrev pub IsPlaced : Destination → List ℕ → Doing Unplaced
+IsPlaced d text result made = Then (IsFilled d text) (IsNamed d.kind) result made
+
+-- Then the folder is synced; or, where a call failed, the new file was to be taken away.
+abbrev pub IsSynced : Destination → List ℕ → Doing Error
+IsSynced d text result made =
+    (placed : List (Act Name)) × IsPlaced d text (Ok tt) placed × (made ≡ acted (sync_folder Target) result ∷ placed)
+
+abbrev pub IsGivenUp : Destination → List ℕ → Doing Error
+IsGivenUp d text result made =
+    (error : Error) × (tried : List (Act Name)) × (gone : Option ErrorKind) × (result ≡ Err error)
+    × IsPlaced d text (Err (Failed error)) tried × (made ≡ record { call = remove Temp; failed = gone } ∷ tried)
+
+-- The text is written over what the file of the name has, and synced; where none is there, it is made. The new file is
+-- taken away once that is done, and not before.
+abbrev pub empty : Destination → Call Name
+empty d = open_at Target (writes_over (is_none d.mode))
+
+abbrev pub IsWritten : Destination → List ℕ → Doing Error
+IsWritten d text result made = Then (IsOne (empty d)) (IsPoured None text) result made
+
+abbrev pub EndsWith : Result (Unit {0}) Error → List (Act Name) → List (Act Name) → Type 0
+EndsWith (Ok done) written made = (gone : Option ErrorKind) × (made ≡ record { call = remove Temp; failed = gone } ∷ written)
+EndsWith (Err error) written made = made ≡ written
+
+abbrev pub IsOver : Destination → List ℕ → Doing Error
+IsOver d text result made = (written : List (Act Name)) × IsWritten d text result written × EndsWith result written made
+
+-- what is no regular file is written to behind what it has
+abbrev pub IsAppended : List ℕ → Doing Error
+IsAppended text result made = Then (IsOne (open_at Target writes_behind)) (IsOne (write text)) result made
+
+-- ---- what they leave
 
 -- P holds before these calls, after each of them, and where a cut meets one
-abbrev pub AtEachMoment : (List Call → Type 0) → List Call → List Call → Type 0
+abbrev pub AtEachMoment : (List (Act Name) → Type 0) → List (Act Name) → List (Act Name) → Type 0
 AtEachMoment P [] before = P before
-AtEachMoment P (call ∷ made) before =
-    AtEachMoment P made before × P (cut_short call ∷ made ++ before) × P (call ∷ made ++ before)
-
--- After these calls the name has what it had before them or the new text, whole, and so it has after a cut.
-pub record HasOldOrNew (first : Name → Content) (before : List Call) (text : List ℕ) (calls : List Call) : Type 0 where
-  pub found : (c : Content) → MayHave first calls Target c → MayHave first before Target c ⊎ (c ≡ Some text)
-  pub left : (c : Content) → MayBeLeft first calls Target c → MayBeLeft first before Target c ⊎ (c ≡ Some text)
-
--- The name has the new text, and after each cut from now on; nothing stands beside it. No call failed.
-pub record HasNew (first : Name → Content) (after made : List Call) (text : List ℕ) : Type 0 where
-  pub found : (c : Content) → MayHave first after Target c → c ≡ Some text
-  pub left : (c : Content) → MayBeLeft first after Target c → c ≡ Some text
-  pub beside : (c : Content) → MayHave first after Temp c → c ≡ None
-  pub none_failed : failures made ≡ 0
-
--- A call failed, and nothing stands beside the name unless two did.
-pub record IsGivenUp (first : Name → Content) (after made : List Call) : Type 0 where
-  pub failed : 0 < failures made
-  pub beside : (c : Content) → MayHave first after Temp c → (c ≡ None) ⊎ (1 < failures made)
-
--- the new file has the text
-abbrev pub filled : List ℕ → List Call
-filled text = write Temp text true ∷ create Temp true ∷ []
-
--- and then the name
-abbrev pub placed : List ℕ → List Call
-placed text = rename Temp Target true ∷ sync Temp true ∷ filled text
-
--- The calls by which the new file gets the text and is synced, the last one first, where one of them failed.
-abbrev pub AreUnfilled : List ℕ → List Call → Type 0
-AreUnfilled text made =
-    (made ≡ create Temp false ∷ [])
-    ⊎ (made ≡ write Temp text false ∷ create Temp true ∷ [])
-    ⊎ (made ≡ sync Temp false ∷ filled text)
-
--- The calls of a replacement. Where one of those that place the text failed, the new file was to be taken away.
-abbrev pub AreReplacing : {T E : Type 0} → List ℕ → Result T E → List Call → Type 0
-AreReplacing text (Ok done) made = made ≡ sync_folder true ∷ placed text
-AreReplacing text (Err why) made =
-    (made ≡ sync_folder false ∷ placed text)
-    ⊎ ((gone : Bool) × (tried : List Call) × (made ≡ remove Temp gone ∷ tried)
-    × (AreUnfilled text tried ⊎ (tried ≡ rename Temp Target false ∷ sync Temp true ∷ filled text)))
-
--- These calls were made, and no other. At each moment the name has the old text or the new one; after Ok the new one.
-pub record AtomicReplacement {T E : Type 0} (first : Name → Content) (before after : List Call) (text : List ℕ)
-    (result : Result T E) : Type 0 where
-  pub made : List Call
-  pub calls : after ≡ made ++ before
-  pub order : AreReplacing text result made
-  pub each_moment : AtEachMoment (HasOldOrNew first before text) made before
-  pub answer : MatchResult result (λ _. HasNew first after made text) (λ _. IsGivenUp first after made)
-
--- ---- a text over another
-
--- The calls by which a text is written over what the file of a name has, the last one first, up to the first that
--- failed.
-abbrev pub AreWritingOver : {T E : Type 0} → List ℕ → Result T E → List Call → Type 0
-AreWritingOver text (Ok done) made = made ≡ sync Target true ∷ write Target text true ∷ empty Target true ∷ []
-AreWritingOver text (Err why) made =
-    (made ≡ empty Target false ∷ [])
-    ⊎ (made ≡ write Target text false ∷ empty Target true ∷ [])
-    ⊎ (made ≡ sync Target false ∷ write Target text true ∷ empty Target true ∷ [])
+AtEachMoment P (act ∷ made) before =
+    AtEachMoment P made before × P (cut_short act ∷ made ++ before) × P (act ∷ made ++ before)
 
 -- After these calls a name has what it had before them, and so it has after a cut.
-pub record IsAsBefore (first : Name → Content) (before : List Call) (name : Name) (calls : List Call) : Type 0 where
-  pub found : (c : Content) → MayHave first calls name c → MayHave first before name c
-  pub left : (c : Content) → MayBeLeft first calls name c → MayBeLeft first before name c
+pub record IsAsBefore (first : Name → Content) (before : List (Act Name)) (name : Name) (acts : List (Act Name))
+    : Type 0 where
+  pub found : (c : Content) → MayHave first acts name c → MayHave first before name c
+  pub left : (c : Content) → MayBeLeft first acts name c → MayBeLeft first before name c
 
--- the new file is taken away once the text is written over the old one, and not before
-abbrev pub EndsWith : {T E : Type 0} → Result T E → List Call → List Call → Type 0
-EndsWith (Ok done) written after = (gone : Bool) × (after ≡ remove Temp gone ∷ written)
-EndsWith (Err why) written after = after ≡ written
+-- The name has what it had before them or, if that is its file's one name, the new text, whole; and so it has after a cut.
+pub record HasOldOrNew (kind : Kind) (first : Name → Content) (before : List (Act Name)) (text : List ℕ)
+    (acts : List (Act Name)) : Type 0 where
+  pub found : (c : Content) → MayHave first acts Target c → MayHave first before Target c ⊎ ((kind ≡ Alone) × (c ≡ Some text))
+  pub left : (c : Content) → MayBeLeft first acts Target c
+      → MayBeLeft first before Target c ⊎ ((kind ≡ Alone) × (c ≡ Some text))
 
--- The text was written over what the file of the name has, by these calls and no other, so that its names stay; until
--- then the new file stays as it is. After Ok the name has the text, and as long as the file has the name a cut leaves
--- it, and nothing stands beside it unless it could not be taken away. Until then a cut may leave any text under the
--- name, and so may a failure.
-pub record Overwriting {T E : Type 0} (first : Name → Content) (before after : List Call) (text : List ℕ)
-    (result : Result T E) : Type 0 where
-  pub made : List Call
-  pub order : AreWritingOver text result made
-  pub calls : EndsWith result (made ++ before) after
-  pub new_stays : AtEachMoment (IsAsBefore first before Temp) made before
-  pub found : OnOk result ((c : Content) → MayHave first after Target c → c ≡ Some text)
-  pub left : OnOk result ((kept : List ℕ) → FileMayBeLeft first after Target kept → kept ≡ text)
-  pub beside : OnOk result ((c : Content) → MayHave first after Temp c
-      → (c ≡ None) ⊎ (after ≡ remove Temp false ∷ made ++ before))
+-- nothing stands beside the name, unless it could not be taken away
+abbrev pub IsAlone : (Name → Content) → List (Act Name) → List (Act Name) → Type 0
+IsAlone first made before = (c : Content) → MayHave first (made ++ before) Temp c → (c ≡ None)
+    ⊎ ((why : ErrorKind) × (rest : List (Act Name)) × (is_missing why ≡ false) × (made ≡ record { call = remove Temp; failed = Some why } ∷ rest))
 
--- Why the new file does not come to the name, though no call failed: the folder did not allow it, or that it takes the
--- name; or the file has other names, and the new one only shows that there is room.
-abbrev pub AreRefused : Kind → List ℕ → List Call → Type 0
-AreRefused Alone text made = (made ≡ refused ∷ []) ⊎ (made ≡ refused ∷ sync Temp true ∷ filled text)
-AreRefused Shared text made = (made ≡ refused ∷ []) ⊎ (made ≡ sync Temp true ∷ filled text)
-AreRefused Special text made = ⊥
+-- At each moment the name has the old text or the new one; after Ok the new one, and after each cut from then on.
+pub record LeavesOne (kind : Kind) (first : Name → Content) (made before : List (Act Name)) (text : List ℕ)
+    (result : Result (Unit {0}) Error) : Type 0 where
+  pub each_moment : AtEachMoment (HasOldOrNew kind first before text) made before
+  pub found : OnOk result ((c : Content) → MayHave first (made ++ before) Target c → c ≡ Some text)
+  pub left : OnOk result ((c : Content) → MayBeLeft first (made ++ before) Target c → c ≡ Some text)
+  pub beside : IsAlone first made before
 
--- Until then the name had the old text; then the text was written over that.
-pub record RefusedReplacement {T E : Type 0} (kind : Kind) (first : Name → Content) (before after : List Call)
-    (text : List ℕ) (result : Result T E) : Type 0 where
-  pub tried : List Call
-  pub refusal : AreRefused kind text tried
+-- Until the text is written over it the file has the old one, and until that is done the new file stays as it is. After
+-- Ok the name has the text, and as long as the file has the name a cut leaves it. Else a cut may leave any text, and so
+-- may a failure.
+pub record LeavesWritten (first : Name → Content) (tried written made before : List (Act Name)) (text : List ℕ)
+    (result : Result (Unit {0}) Error) : Type 0 where
   pub each_moment : AtEachMoment (IsAsBefore first before Target) tried before
-  pub overwriting : Overwriting first (tried ++ before) after text result
+  pub new_stays : AtEachMoment (IsAsBefore first (tried ++ before) Temp) written (tried ++ before)
+  pub found : OnOk result ((c : Content) → MayHave first (made ++ tried ++ before) Target c → c ≡ Some text)
+  pub left : OnOk result ((kept : List ℕ) → FileMayBeLeft first (made ++ tried ++ before) Target kept → kept ≡ text)
+  pub beside : OnOk result (IsAlone first made (tried ++ before))
 
--- A call failed while the new file was made, and the name has the old text at each moment.
-pub record LeftAlone {T E : Type 0} (first : Name → Content) (before after : List Call) (text : List ℕ)
-    (result : Result T E) : Type 0 where
-  pub tried : List Call
-  pub order : AreUnfilled text tried
-  pub gone : Bool
-  pub calls : after ≡ remove Temp gone ∷ tried ++ before
-  pub each_moment : AtEachMoment (IsAsBefore first before Target) (remove Temp gone ∷ tried) before
-  pub beside : (c : Content) → MayHave first after Temp c → (c ≡ None) ⊎ (gone ≡ false)
-  pub answer : IsErr result
+-- A regular file, or none, is replaced; or it is written over, where the folder refuses that or the file has other names.
+-- Whatever calls were made before, each of them leaves what it should.
+abbrev pub IsKept : Destination → List ℕ → Doing Error
+IsKept d text result made = ((IsSynced d text result made ⊎ IsGivenUp d text result made)
+    × ((first : Name → Content) (before : List (Act Name)) → LeavesOne d.kind first made before text result))
+    ⊎ ((tried written over : List (Act Name)) × IsPlaced d text (Err Refused) tried × IsWritten d text result written
+    × EndsWith result written over × (made ≡ over ++ tried)
+    × ((first : Name → Content) (before : List (Act Name)) → LeavesWritten first tried written over before text result))
 
--- ---- where the calls are known
+-- by what is there
+abbrev pub IsKeptAs : Kind → Destination → List ℕ → Doing Error
+IsKeptAs Special d text result made = IsAppended text result made
+IsKeptAs _ d text result made = IsKept d text result made
 
--- Calls were made of the folder of this destination, by acts of the disk and no other, where these are known: whatever
--- calls were made before, P holds of those and of all.
-abbrev pub FromTo : Destination → Option (List Act) → Option (List Act) → (List Call → List Call → Type 0) → Type 0
-FromTo d old new P = IfSome new (λ all. (acts had : List Act) × (made : List Call) × (old ≡ Some had)
-    × (all ≡ acts ++ had) × AreDoneBy d made acts × ((before : List Call) → P before (made ++ before)))
+-- ---- where a name leads
 
--- A text takes the place of what the name has; or, where the folder refuses that, it is written over it.
-abbrev pub PutsInPlace : {T E : Type 0} → Destination → Option (List Act) → Option (List Act) → List ℕ → Result T E
-    → Type 0
-PutsInPlace d old new text result =
-    FromTo d old new (λ before after. (first : Name → Content) → AtomicReplacement first before after text result
-    ⊎ RefusedReplacement Alone first before after text result)
-
--- The text is written over that of a file with other names, once a new file shows that there is room for it.
-abbrev pub KeepsNames : {T E : Type 0} → Destination → Option (List Act) → Option (List Act) → List ℕ → Result T E
-    → Type 0
-KeepsNames d old new text result =
-    FromTo d old new (λ before after. (first : Name → Content) → LeftAlone first before after text result
-    ⊎ RefusedReplacement Shared first before after text result)
-
-abbrev pub Overwrites : {T E : Type 0} → Destination → Option (List Act) → Option (List Act) → List ℕ → Result T E
-    → Type 0
-Overwrites d old new text result =
-    FromTo d old new (λ before after. (first : Name → Content) → Overwriting first before after text result)
-
--- The acts by which a text is written behind what is at a path, up to one that failed.
-abbrev pub AreWritingBehind : {T E : Type 0} → Text → List ℕ → Result T E → List Act → Type 0
-AreWritingBehind path text (Ok done) acts =
-    acts ≡ act.write (Some path) text None ∷ act.open_at path writes_behind None ∷ []
-AreWritingBehind path text (Err why) acts =
-    (failed : ErrorKind) × ((acts ≡ act.open_at path writes_behind (Some failed) ∷ [])
-    ⊎ (acts ≡ act.write (Some path) text (Some failed) ∷ act.open_at path writes_behind None ∷ []))
-
--- The text is written behind what is there, by these acts and no other.
-abbrev pub WritesBehind : {T E : Type 0} → Text → Option (List Act) → Option (List Act) → List ℕ → Result T E → Type 0
-WritesBehind path old new text result =
-    IfSome new (λ all. (acts had : List Act) × (old ≡ Some had) × (all ≡ acts ++ had)
-    × AreWritingBehind path text result acts)
-
--- By what is there: a regular file of one name, or none, is replaced, one of several is written over, and what is no
--- regular file is written to.
-abbrev pub KeepsAs : {T E : Type 0} → Kind → Destination → Option (List Act) → Option (List Act) → List ℕ → Result T E
-    → Type 0
-KeepsAs Alone d old new text result = PutsInPlace d old new text result
-KeepsAs Shared d old new text result = KeepsNames d old new text result
-KeepsAs Special d old new text result = WritesBehind (path_of d Target) old new text result
-
--- a destination of this name, as far as the disk's answers are known
-abbrev pub IsFoundFor : Option Answers → Text → Destination → Type 0
-IsFoundFor answers name d = IfSome answers (λ a. IsDestinationOf a name d)
-
--- none can be found, by an error of this kind
-abbrev pub IsNotFoundFor : Option Answers → Text → Error → Type 0
-IsNotFoundFor answers name error = IfSome answers (λ a. HasNoDestination a name (error_kind error))
+-- the destination of this name, as far as the disk's answers are known; or none can be found, by an error of this kind
+abbrev pub IsFoundFor : Option Answers → Text → Result Destination ErrorKind → Type 0
+IsFoundFor answers name found = IfSome answers (λ a. destination a name ≡ found)
 
 -- memory is refused: nothing says when
 abbrev pub is_memory : ErrorKind → Bool
@@ -208,121 +187,7 @@ IsOfMemory error = is_memory (error_kind error) ≡ true
 
 -- A text comes to the file to which a name leads. Only where that can't be found out, by this error, or memory is
 -- refused, nothing is done.
-abbrev pub KeepsText : {T : Type 0} → Option Answers → Option (List Act) → Option (List Act) → Text → List ℕ
-    → Result T Error → Type 0
+abbrev pub KeepsText : Option Answers → Acts → Acts → Text → List ℕ → Result (Unit {0}) Error → Type 0
 KeepsText answers old new name text result =
-    ((d : Destination) × IsFoundFor answers name d × KeepsAs d.kind d old new text result)
-    ⊎ ((new ≡ old) × IsErrAnd result (λ error. IsNotFoundFor answers name error ⊎ IsOfMemory error))
-
--- ---- why a state is not kept
-
--- why it can't be found out where a state goes, by the error of what was asked
-abbrev pub unfound_of : Error → Unkept
-unfound_of error = if is_memory (error_kind error) then Memory error else Unfound error
-
--- where a call failed, it is noted why
-abbrev pub IsNoted : {T E : Type 0} → Result T Unkept → Option Unkept → Result T E → Type 0
-IsNoted (Ok value) noted (Ok other) = other ≡ value
-IsNoted (Err why) noted (Err failed) = noted ≡ Some why
-IsNoted _ noted _ = ⊥
-
--- P holds of what a call answered, if that was an error of the one that is noted
-abbrev pub HoldsAsNoted : {T E : Type 0} → (Result T Unkept → Type 0) → Option Unkept → Result T E → Type 0
-HoldsAsNoted P noted (Ok value) = P (Ok value)
-HoldsAsNoted P noted (Err failed) = (why : Unkept) × (noted ≡ Some why) × P (Err why)
-
--- a state is kept as a text is, and a failure is the error of that
-abbrev pub KeepsState : {T : Type 0} → Option Answers → Option (List Act) → Option (List Act) → Text → List ℕ
-    → Result T Unkept → Type 0
-KeepsState answers old new name state (Ok kept) = KeepsText answers old new name state (Ok kept)
-KeepsState {T} answers old new name state (Err (Failed error)) = KeepsText {T = T} answers old new name state (Err error)
-KeepsState answers old new name state (Err _) = ⊥
-
--- the reason that is told of each
-abbrev pub TellsOf : Unkept → Reason → Type 0
-TellsOf Harm told.Harm = Unit {0}
-TellsOf (Unfound error) (told.Unfound words) = Unit {0}
-TellsOf (Memory error) (told.Unfound words) = Unit {0}
-TellsOf (Failed error) (told.System words) = Unit {0}
-TellsOf _ _ = ⊥
-
--- ---- what a run reads
-
--- the path of the log: without one that of standard input
-abbrev pub read_log : Option Text → Text
-read_log None = codes "/dev/stdin"
-read_log (Some path) = path
-
--- this path, where one is given, is not known to lead to the file
-abbrev pub IsApart : (Text → Option Bool) → Option Text → Type 0
-IsApart leads None = Unit {0}
-IsApart leads (Some path) = IfSome (leads path) (λ known. known ≡ false)
-
--- a path is given, and it is not known to lead elsewhere
-abbrev pub IsMet : (Text → Option Bool) → Option Text → Type 0
-IsMet leads None = ⊥
-IsMet leads (Some path) = IfSome (leads path) (λ known. known ≡ true)
-
--- the paths of standard output and of standard error
-abbrev pub output_path : Option Text
-output_path = Some (codes "/dev/stdout")
-
-abbrev pub errors_path : Option Text
-errors_path = Some (codes "/dev/stderr")
-
--- a text that is kept there takes the place of what the file has: what is special is written to behind that
-abbrev pub IsReplaced : Kind → Type 0
-IsReplaced Special = ⊥
-IsReplaced _ = Unit {0}
-
--- A file is not the table, not the log and not standard error, to which the summary goes later.
-pub record SparesFiles (leads : Text → Option Bool) (files : Files) : Type 0 where
-  pub no_table : IsApart leads files.table
-  pub no_log : IsApart leads (Some (read_log files.log))
-  pub no_errors : IsApart leads errors_path
-
-abbrev pub HarmsFiles : (Text → Option Bool) → Files → Type 0
-HarmsFiles leads files =
-    IsMet leads files.table ⊎ IsMet leads (Some (read_log files.log)) ⊎ IsMet leads errors_path
-
--- The name's own file is none of these; nor standard output, if it is replaced.
-pub record SparesTarget (leads : Text → Option Bool) (kind : Kind) (files : Files) : Type 0 where
-  pub no_file : SparesFiles leads files
-  pub no_output : IsReplaced kind → IsApart leads output_path
-
-abbrev pub HarmsTarget : (Text → Option Bool) → Kind → Files → Type 0
-HarmsTarget leads kind files = HarmsFiles leads files ⊎ (IsReplaced kind × IsMet leads output_path)
-
--- The new file is none of these; nor the state to go on from, nor standard output.
-pub record SparesTemp (leads : Text → Option Bool) (files : Files) : Type 0 where
-  pub no_file : SparesFiles leads files
-  pub no_state : IsApart leads files.state
-  pub no_output : IsApart leads output_path
-
-abbrev pub HarmsTemp : (Text → Option Bool) → Files → Type 0
-HarmsTemp leads files = HarmsFiles leads files ⊎ IsMet leads files.state ⊎ IsMet leads output_path
-
--- What is read and printed to stays as it is, where a text is kept there.
-abbrev pub HarmsNone : Option Answers → Destination → Files → Type 0
-HarmsNone answers d files =
-    SparesTarget (leads answers (path_of d Target)) d.kind files × SparesTemp (leads answers (path_of d Temp)) files
-
-abbrev pub HarmsSome : Option Answers → Destination → Files → Type 0
-HarmsSome answers d files =
-    HarmsTarget (leads answers (path_of d Target)) d.kind files ⊎ HarmsTemp (leads answers (path_of d Temp)) files
-
--- A run is judged by where its state goes.
-abbrev pub IsJudged : {T : Type 0} → Option Answers → Destination → Files → Result T Unkept → Type 0
-IsJudged answers d files (Ok done) = HarmsNone answers d files
-IsJudged answers d files (Err Harm) = HarmsSome answers d files
-IsJudged answers d files (Err _) = ⊥
-
--- A run is admitted only where its state's place is found and nothing would be harmed there. It is refused as Harm only
--- where something would be harmed there, as Unfound only where the place can't be found out, by this error, and as Memory
--- only by an error of that kind.
-abbrev pub Admits : {T : Type 0} → Option Answers → Text → Files → Result T Unkept → Type 0
-Admits answers name files (Ok done) = (d : Destination) × IsFoundFor answers name d × HarmsNone answers d files
-Admits answers name files (Err Harm) = (d : Destination) × IsFoundFor answers name d × HarmsSome answers d files
-Admits answers name files (Err (Unfound error)) = IsNotFoundFor answers name error
-Admits answers name files (Err (Memory error)) = IsOfMemory error
-Admits answers name files (Err (Failed error)) = ⊥
+    ((d : Destination) × IsFoundFor answers name (Ok d) × Makes d old new (IsKeptAs d.kind d text) result)
+    ⊎ ((new ≡ old) × IsErrAnd result (λ error. IsFoundFor answers name (Err (error_kind error)) ⊎ IsOfMemory error))

@@ -1,11 +1,14 @@
 //! Where a state goes: the file to which a name leads, what that is, and the new file beside it.
-ghost use Rattle.std.specs.Prelude.{◌≡◌, ◌⊎◌, None, Some, IfErr, IfOk, IfSome, string_bytes};
-ghost use Rattle.std.specs.IoError.{error_kind};
-ghost use Rattle.n2kdec.specs.Destination.{are_one, folder_of, is_missing, is_no_link, leads, linked_path, new_path};
-ghost use Rattle.n2kdec.specs.Inner.Finding.{AnswersDestination, AnswersFolder, AnswersFound, AnswersLink, AnswersLinks};
-ghost use Rattle.n2kdec.specs.Inner.Finding.{AnswersTarget};
+ghost use Rattle.std.specs.Prelude.{◌≡◌, suc, IfSome, IfOk, string_bytes};
+ghost use Rattle.std.specs.declared.io.ErrorKind.TheVariants.{InvalidFilename as Nameless};
+ghost use Rattle.n2k_wire.specs.Steps.{or_cause};
+ghost use Rattle.n2kdec.specs.Destination.{are_one, behind, destination, folder_of, is_file, is_missing, is_no_link};
+ghost use Rattle.n2kdec.specs.Destination.{is_of_proc, is_open_file, is_shared, leads, linked, linked_path, new_path};
+ghost use Rattle.n2kdec.specs.Destination.{if_there, target_of};
+ghost use Rattle.n2kdec.specs.Disk.{IsAnswer, IsAnswerUnlessMemory};
 
 use crate::disk::{Disk, Found};
+use crate::words::Word;
 use std::alloc::{AllocError, Global};
 use std::io;
 use std::io::{Error, ErrorKind};
@@ -26,9 +29,9 @@ pub enum Kind {
 #[derive(Drop)]
 pub struct Destination {
     /// The path behind all links, or the name itself, where that is special.
-    pub target: String,
+    pub target: Word,
     /// That of the new file beside it.
-    pub temp: String,
+    pub temp: Word,
     /// What is there.
     pub kind: Kind,
     /// Who may read, write and run it, if it is there.
@@ -52,25 +55,23 @@ pub fn folder_of(path: &str) -> &str
 }
 
 /// The path to which a link at this path leads, by the text of the link.
-fn linked_path(alloc: Global, path: &str, link: &str) -> Result<String, AllocError>
-    ensures { IfOk result (λ next. string_bytes next ≡ linked_path path.now link.now) }
+fn linked_path(alloc: Global, path: &str, link: &str) -> Result<Word, AllocError>
+    ensures { IfOk result (λ next. next ≡ linked_path path.now link.now) }
 {
     let folder = Path::new(path).parent().unwrap_or(Path::new(""));
-    Ok(folder.join(alloc, link)?.into_string())
+    Ok(Word::of(folder.join(alloc, link)?.into_string()))
 }
 
 /// The path of the new file beside that of this path: hidden, with the program's name, and the same for each run.
-fn new_path(alloc: Global, path: &str) -> io::Result<String>
-    ensures made { IfOk result (λ new. new_path path.now ≡ Some (string_bytes new)) }
-    ensures nameless { IfErr result (λ error. ((new_path path.now ≡ None)
-        × (error_kind error ≡ ErrorKind.InvalidFilename)) ⊎ (error_kind error ≡ ErrorKind.OutOfMemory)) }
+fn new_path(alloc: Global, path: &str) -> io::Result<Word>
+    ensures { IsAnswerUnlessMemory (λ new. new) (or_cause Nameless (new_path path.now)) result }
 {
     let path = Path::new(path);
     let Some(name) = path.file_name() else {
         return Err(Error::from(ErrorKind::InvalidFilename));
     };
     let hidden = format!(in alloc; ".{name}.n2kdec-new")?;
-    Ok(path.with_file_name(alloc, hidden.as_str())?.into_string())
+    Ok(Word::of(path.with_file_name(alloc, hidden.as_str())?.into_string()))
 }
 
 /// Whether nothing is there.
@@ -87,20 +88,30 @@ fn is_no_link(why: ErrorKind) -> bool
     matches!(why, ErrorKind::InvalidInput | ErrorKind::NotFound)
 }
 
-/// Whether a path stands for an open file: its folder, behind all links, is one of `/proc`, as that of `/dev/fd/3` is.
+/// Whether a folder of this path, behind all links, is one of `/proc`.
+#[tactic(auto, unfolding(crate::specs::Destination::is_of_proc))]
+fn is_of_proc(folder: &str) -> bool
+    ensures { result ≡ is_of_proc folder.now }
+{
+    folder == "/proc" || folder.as_bytes().starts_with(b"/proc/")
+}
+
+/// Whether a path stands for an open file: its folder is one of `/proc`, as that of `/dev/fd/3` is.
+#[tactic(auto, unfolding(crate::specs::Destination::is_open_file))]
 fn is_open_file<D: Disk>(disk: &D, path: &str) -> io::Result<bool>
-    ensures { IfSome (D.answers disk.now) (λ a. AnswersFolder a path.now result) }
+    ensures { IfSome (D.answers disk.now) (λ a. IsAnswerUnlessMemory (λ is_open. is_open) (is_open_file a path.now) result) }
 {
     match disk.canonicalize(folder_of(path)) {
-        Ok(folder) => Ok(Path::new(folder.as_str()).starts_with("/proc")),
+        Ok(folder) => Ok(is_of_proc(folder.as_str())),
         Err(error) if is_missing(error.kind()) => Ok(false),
         Err(error) => Err(error),
     }
 }
 
 /// The path to which the link of this path leads; none where it is no link.
-fn follow<D: Disk>(alloc: Global, disk: &D, path: &str) -> io::Result<Option<String>>
-    ensures { IfSome (D.answers disk.now) (λ a. AnswersLink a path.now result) }
+fn follow<D: Disk>(alloc: Global, disk: &D, path: &str) -> io::Result<Option<Word>>
+    ensures { IfSome (D.answers disk.now) (λ a. IsAnswerUnlessMemory (λ next. next)
+        (linked path.now (a.link path.now)) result) }
 {
     match disk.read_link(path) {
         Ok(link) => Ok(Some(linked_path(alloc, path, link.as_str())?)),
@@ -109,26 +120,27 @@ fn follow<D: Disk>(alloc: Global, disk: &D, path: &str) -> io::Result<Option<Str
     }
 }
 
-/// The path behind all links; none where the name stands for an open file.
-fn follow_links<D: Disk>(alloc: Global, disk: &D, name: &str) -> io::Result<Option<String>>
-    ensures { IfSome (D.answers disk.now) (λ a. AnswersLinks a name.now result) }
+/// The path behind all links, of which so many are looked at, one after the other; none where one on the way stands for
+/// an open file.
+#[tactic(auto, using(crate::proofs::Finding::links))]
+fn behind<D: Disk>(alloc: Global, disk: &D, path: &str, looks: usize) -> io::Result<Option<Word>>
+    ensures { IfSome (D.answers disk.now) (λ a. IsAnswerUnlessMemory (λ path. path) (behind looks a path.now) result) }
 {
-    let mut path = String::from_str(alloc, name)?;
-    for links in 0..=MOST_LINKS {
-        if is_open_file(disk, path.as_str())? {
-            return Ok(None);
-        }
-        match follow(alloc, disk, path.as_str())? {
-            Some(next) => path = next,
-            None => return Ok(Some(path)),
-        }
+    if looks == 0 {
+        return Err(Error::from(ErrorKind::FilesystemLoop));
     }
-    Err(Error::from(ErrorKind::FilesystemLoop))
+    if is_open_file(disk, path)? {
+        return Ok(None);
+    }
+    match follow(alloc, disk, path)? {
+        Some(next) => behind(alloc, disk, next.as_str(), looks - 1),
+        None => Ok(Some(Word::new(alloc, path)?)),
+    }
 }
 
 /// What is at a name, over links; none where nothing is.
 fn look<D: Disk>(disk: &D, name: &str) -> io::Result<Option<Found>>
-    ensures { IfSome (D.answers disk.now) (λ a. AnswersFound a name.now result) }
+    ensures { IfSome (D.answers disk.now) (λ a. IsAnswer (λ found. found) (if_there (a.found name.now)) result) }
 {
     match disk.metadata(name) {
         Ok(found) => Ok(Some(found)),
@@ -137,26 +149,55 @@ fn look<D: Disk>(disk: &D, name: &str) -> io::Result<Option<Found>>
     }
 }
 
+/// Whether nothing is there, or a regular file.
+fn is_file(was: &Option<Found>) -> bool
+    ensures { result ≡ is_file was.now }
+{
+    match was {
+        Some(found) => found.is_file,
+        None => true,
+    }
+}
+
+/// Whether it has other names too.
+fn is_shared(was: &Option<Found>) -> bool
+    ensures { result ≡ is_shared was.now }
+{
+    match was {
+        Some(found) => found.links > 1,
+        None => false,
+    }
+}
+
 /// The path behind the links at a name, which had this, and what that is.
+#[tactic(auto, unfolding(crate::specs::Destination::target_of))]
 fn target_of<D: Disk>(
     alloc: Global,
     disk: &D,
     name: &str,
     was: &Option<Found>,
-) -> io::Result<(String, Kind)>
-    ensures { IfSome (D.answers disk.now) (λ a. AnswersTarget a name.now result was.now) }
+) -> io::Result<(Word, Kind)>
+    ensures { IfSome (D.answers disk.now) (λ a. IsAnswerUnlessMemory (λ to. to) (target_of a name.now was.now) result) }
 {
-    let is_file = was.is_none_or(|was| was.is_file);
-    if is_file && let Some(target) = follow_links(alloc, disk, name)? {
-        let is_shared = was.is_some_and(|was| was.links > 1);
-        return Ok((target, if is_shared { Kind::Shared } else { Kind::Alone }));
+    if is_file(was)
+        && let Some(target) = behind(alloc, disk, name, MOST_LINKS + 1)?
+    {
+        return Ok((
+            target,
+            if is_shared(was) {
+                Kind::Shared
+            } else {
+                Kind::Alone
+            },
+        ));
     }
-    Ok((String::from_str(alloc, name)?, Kind::Special))
+    Ok((Word::new(alloc, name)?, Kind::Special))
 }
 
 /// Finds where a state of this name goes.
+#[tactic(auto, unfolding(crate::specs::Destination::destination))]
 pub fn find<D: Disk>(alloc: Global, disk: &D, name: &str) -> io::Result<Destination>
-    ensures { IfSome (D.answers disk.now) (λ a. AnswersDestination a name.now result) }
+    ensures { IfSome (D.answers disk.now) (λ a. IsAnswerUnlessMemory (λ to. to) (destination a name.now) result) }
 {
     let was = look(disk, name)?;
     let (target, kind) = target_of(alloc, disk, name, &was)?;
@@ -178,8 +219,9 @@ fn are_one(one: &Found, other: &Found) -> bool
 }
 
 /// Whether both paths lead to one regular file. Where one of them can't be looked at, the paths are compared.
+#[tactic(auto, unfolding(crate::specs::Destination::leads))]
 pub fn leads<D: Disk>(disk: &D, own: &str, path: &str) -> bool
-    ensures { IfSome (leads (D.answers disk.now) own.now path.now) (λ known. result ≡ known) }
+    ensures { IfSome (D.answers disk.now) (λ a. result ≡ leads a own.now path.now) }
 {
     match (disk.metadata(own), disk.metadata(path)) {
         (Ok(one), Ok(other)) => are_one(&one, &other),

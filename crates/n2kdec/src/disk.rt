@@ -1,7 +1,7 @@
 //! The system's files: the calls by which a state is kept.
-ghost use Rattle.std.specs.Prelude.{ℕ, List, Option, IfSome, string_bytes};
-ghost use Rattle.n2kdec.specs.Disk.{Act, Answers, IsAnswer, IsAnswerInText, Notes, NotesOpen, failure, open_at, remove};
-ghost use Rattle.n2kdec.specs.Disk.{rename, set_mode, sync, sync_folder, write};
+ghost use Rattle.std.specs.Prelude.{◌≡◌, Option, IfSome, string_bytes};
+ghost use Rattle.n2kdec.specs.Disk.{Acts, Answers, IsAnswer, IsAnswerUnlessMemory, acted, noted, open_at, remove, rename};
+ghost use Rattle.n2kdec.specs.Disk.{set_mode, sync, sync_folder, write};
 
 use std::fs::OpenOptions;
 use std::io;
@@ -30,8 +30,8 @@ pub trait Disk {
     /// What it answers of paths, where that is known.
     ghost answers: { Self → Option Answers };
 
-    /// The calls that may have changed it, the last one first, where they are known.
-    ghost acts: { Self → Option (List Act) };
+    /// The calls that may have changed it, where they are known.
+    ghost acts: { Self → Acts };
 
     /// What a path leads to, over links.
     fn metadata(&self, path: &str) -> io::Result<Found>
@@ -39,37 +39,37 @@ pub trait Disk {
 
     /// The text of the link that a path is. `InvalidInput` where it is none.
     fn read_link(&self, path: &str) -> io::Result<String>
-        ensures { IfSome (answers self.now) (λ a. IsAnswerInText string_bytes (a.link path.now) result) };
+        ensures { IfSome (answers self.now) (λ a. IsAnswerUnlessMemory string_bytes (a.link path.now) result) };
 
     /// The path behind all links.
     fn canonicalize(&self, path: &str) -> io::Result<String>
-        ensures { IfSome (answers self.now) (λ a. IsAnswerInText string_bytes (a.real path.now) result) };
+        ensures { IfSome (answers self.now) (λ a. IsAnswerUnlessMemory string_bytes (a.real path.now) result) };
 
     /// Opens a file in this way, and closes the one that is open.
     fn open(&mut self, path: &str, how: &OpenOptions) -> io::Result<()>
-        ensures { Notes (acts self.old) (acts self.new) (open_at path.now how.now (failure result)) };
+        ensures { acts self.new ≡ noted (acted (open_at path.now how.now) result) (acts self.old) };
 
     /// Gives the open file a mode.
     fn set_mode(&mut self, mode: u32) -> io::Result<()>
-        ensures { NotesOpen (acts self.old) (acts self.new) (λ at. set_mode at mode (failure result)) };
+        ensures { acts self.new ≡ noted (acted (set_mode mode) result) (acts self.old) };
 
     /// Writes a text to the open file, whole.
     fn write(&mut self, text: &[u8]) -> io::Result<()>
-        ensures { NotesOpen (acts self.old) (acts self.new) (λ at. write at text.now (failure result)) };
+        ensures { acts self.new ≡ noted (acted (write text.now) result) (acts self.old) };
 
     /// Brings what the open file has to where a cut of the power leaves it.
     fn sync(&mut self) -> io::Result<()>
-        ensures { NotesOpen (acts self.old) (acts self.new) (λ at. sync at (failure result)) };
+        ensures { acts self.new ≡ noted (acted sync result) (acts self.old) };
 
     /// Gives what has a path another, in the place of what has that.
     fn rename(&mut self, from: &str, to: &str) -> io::Result<()>
-        ensures { Notes (acts self.old) (acts self.new) (rename from.now to.now (failure result)) };
+        ensures { acts self.new ≡ noted (acted (rename from.now to.now) result) (acts self.old) };
 
     /// Takes a path from what has it.
     fn remove(&mut self, path: &str) -> io::Result<()>
-        ensures { Notes (acts self.old) (acts self.new) (remove path.now (failure result)) };
+        ensures { acts self.new ≡ noted (acted (remove path.now) result) (acts self.old) };
 
     /// Brings the names in a folder to where a cut leaves them.
     fn sync_folder(&mut self, path: &str) -> io::Result<()>
-        ensures { Notes (acts self.old) (acts self.new) (sync_folder path.now (failure result)) };
+        ensures { acts self.new ≡ noted (acted (sync_folder path.now) result) (acts self.old) };
 }

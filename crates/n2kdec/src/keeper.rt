@@ -3,12 +3,11 @@ ghost use Rattle.std.specs.Prelude.{◌≡◌, ℕ, Bool, List, Option, Some, tr
 ghost use Rattle.clap.specs.Words.{Text};
 ghost use Rattle.n2k_run.specs.Device.{CountsFailure};
 ghost use Rattle.n2kdec.specs.Commands.{IsAdmitted, Kept, KeepsUnder, MayBeRefused, MayKeepUnder};
-ghost use Rattle.n2kdec.specs.Destination.{leads};
+ghost use Rattle.n2kdec.specs.Disk.{IsAnswerUnlessMemory};
 ghost use Rattle.n2kdec.specs.FaultSentence.{IsAsKnown};
-ghost use Rattle.n2kdec.specs.Folder.{Target, Temp, path_of};
-ghost use Rattle.n2kdec.specs.Replacement.{Admits, HarmsFiles, HarmsNone, HarmsSome, HarmsTarget, HarmsTemp, HoldsAsNoted};
-ghost use Rattle.n2kdec.specs.Replacement.{IsApart, IsJudged, IsMet, IsNoted, KeepsState, SparesFiles, SparesTarget, SparesTemp};
-ghost use Rattle.n2kdec.specs.Replacement.{TellsOf, is_memory, read_log, unfound_of};
+ghost use Rattle.n2kdec.specs.Keeper.{Admits, HoldsAsNoted, IsNoted, KeepsState, TellsOf, harms, harms_target, harms_temp};
+ghost use Rattle.n2kdec.specs.Keeper.{meets, meets_files, read_log};
+ghost use Rattle.n2kdec.specs.Replacement.{is_memory};
 ghost use Rattle.n2kdec.specs.declared.asked.Files.{Files};
 ghost use Rattle.n2kdec.specs.declared.reason.Reason.{Reason};
 
@@ -20,6 +19,7 @@ use crate::replacement::keep_text;
 use crate::words::Word;
 use n2k_run::{Failed, Sink};
 use std::alloc::Global;
+use std::io;
 use std::io::{Error, ErrorKind};
 
 /// A place where the state after a run is kept.
@@ -85,87 +85,63 @@ const STANDARD_OUTPUT: &str = "/dev/stdout";
 /// The file that standard error is.
 const STANDARD_ERROR: &str = "/dev/stderr";
 
-/// Whether the path leads to another file than that at the own path.
-fn is_apart<D: Disk>(disk: &D, own: &str, path: &str) -> bool
-    ensures apart { result ≡ true → IsApart (leads (D.answers disk.now) own.now) (Some path.now) }
-    ensures met { result ≡ false → IsMet (leads (D.answers disk.now) own.now) (Some path.now) }
-{
-    !leads(disk, own, path)
-}
-
-/// The same of a file that is read, where one is named.
-fn is_apart_from<D: Disk>(disk: &D, own: &str, path: &Option<Word>) -> bool
-    ensures apart { result ≡ true → IsApart (leads (D.answers disk.now) own.now) path.now }
-    ensures met { result ≡ false → IsMet (leads (D.answers disk.now) own.now) path.now }
+/// Whether this path, where one is given, leads to the file.
+fn meets<D: Disk>(disk: &D, own: &str, path: &Option<Word>) -> bool
+    ensures { IfSome (D.answers disk.now) (λ a. result ≡ meets a own.now path.now) }
 {
     match path {
-        Some(path) => is_apart(disk, own, path.as_str()),
-        None => true,
+        Some(path) => leads(disk, own, path.as_str()),
+        None => false,
     }
 }
 
-/// The same of the log, or of standard input where none is named.
-fn is_apart_from_log<D: Disk>(disk: &D, own: &str, path: &Option<Word>) -> bool
-    ensures apart { result ≡ true → IsApart (leads (D.answers disk.now) own.now) (Some (read_log path.now)) }
-    ensures met { result ≡ false → IsMet (leads (D.answers disk.now) own.now) (Some (read_log path.now)) }
+/// The path of the log, or of standard input where none is named.
+fn read_log(log: &Option<Word>) -> &str
+    ensures { result.now ≡ read_log log.now }
 {
-    match path {
-        Some(path) => is_apart(disk, own, path.as_str()),
-        None => is_apart(disk, own, STANDARD_INPUT),
+    match log {
+        Some(log) => log.as_str(),
+        None => STANDARD_INPUT,
     }
 }
 
-/// Whether the file at this path is not the table, not the log and not standard error, to which the summary goes later.
-fn spares_files<D: Disk>(disk: &D, own: &str, files: &Files) -> bool
-    ensures spared { result ≡ true → SparesFiles (leads (D.answers disk.now) own.now) files.now }
-    ensures harmed { result ≡ false → HarmsFiles (leads (D.answers disk.now) own.now) files.now }
+/// Whether the file at this path is the table, the log or standard error, to which the summary goes later.
+fn meets_files<D: Disk>(disk: &D, own: &str, files: &Files) -> bool
+    ensures { IfSome (D.answers disk.now) (λ a. result ≡ meets_files a own.now files.now) }
 {
-    is_apart_from(disk, own, &files.table)
-        && is_apart_from_log(disk, own, &files.log)
-        && is_apart(disk, own, STANDARD_ERROR)
+    meets(disk, own, &files.table)
+        || leads(disk, own, read_log(&files.log))
+        || leads(disk, own, STANDARD_ERROR)
 }
 
-/// Whether the same holds of the file of a name, which is of this kind, and it is not standard output. That it may be,
-/// where the state comes behind what it has.
-fn spares_target<D: Disk>(disk: &D, own: &str, kind: Kind, files: &Files) -> bool
-    ensures spared { result ≡ true → SparesTarget (leads (D.answers disk.now) own.now) kind files.now }
-    ensures harmed { result ≡ false → HarmsTarget (leads (D.answers disk.now) own.now) kind files.now }
+/// Whether the file of a name is one of these; or standard output, if the state doesn't come behind what it has.
+fn harms_target<D: Disk>(disk: &D, to: &Destination, files: &Files) -> bool
+    ensures { IfSome (D.answers disk.now) (λ a. result ≡ harms_target a to.now files.now) }
 {
-    spares_files(disk, own, files)
-        && match kind {
-            Kind::Special => true,
-            Kind::Alone | Kind::Shared => is_apart(disk, own, STANDARD_OUTPUT),
+    let own = to.target.as_str();
+    meets_files(disk, own, files)
+        || match to.kind {
+            Kind::Special => false,
+            Kind::Alone | Kind::Shared => leads(disk, own, STANDARD_OUTPUT),
         }
 }
 
-/// Whether the new file at this path is none of what is read, and no output.
-fn spares_temp<D: Disk>(disk: &D, own: &str, files: &Files) -> bool
-    ensures spared { result ≡ true → SparesTemp (leads (D.answers disk.now) own.now) files.now }
-    ensures harmed { result ≡ false → HarmsTemp (leads (D.answers disk.now) own.now) files.now }
+/// Whether the new file is one of these; or the state to go on from, or standard output.
+fn harms_temp<D: Disk>(disk: &D, own: &str, files: &Files) -> bool
+    ensures { IfSome (D.answers disk.now) (λ a. result ≡ harms_temp a own.now files.now) }
 {
-    spares_files(disk, own, files)
-        && is_apart_from(disk, own, &files.state)
-        && is_apart(disk, own, STANDARD_OUTPUT)
+    meets_files(disk, own, files)
+        || meets(disk, own, &files.state)
+        || leads(disk, own, STANDARD_OUTPUT)
 }
 
-/// Whether nothing that is read or printed to would be harmed by a state that goes there.
-fn is_harmless<D: Disk>(disk: &D, to: &Destination, files: &Files) -> bool
-    ensures none { result ≡ true → HarmsNone (D.answers disk.now) to.now files.now }
-    ensures some { result ≡ false → HarmsSome (D.answers disk.now) to.now files.now }
+/// Whether a state of this name would harm what is read or printed to.
+#[tactic(auto, unfolding(crate::specs::Keeper::harms))]
+fn harms<D: Disk>(alloc: Global, disk: &D, name: &str, files: &Files) -> io::Result<bool>
+    ensures { IfSome (D.answers disk.now) (λ a. IsAnswerUnlessMemory (λ harms. harms) (harms a name.now files.now) result) }
 {
-    spares_target(disk, to.target.as_str(), to.kind, files)
-        && spares_temp(disk, to.temp.as_str(), files)
-}
-
-/// Judges a run by where its state goes.
-fn judge<D: Disk>(disk: &D, to: &Destination, files: &Files) -> Result<(), Unkept>
-    ensures { IsJudged (D.answers disk.now) to.now files.now result }
-{
-    if is_harmless(disk, to, files) {
-        Ok(())
-    } else {
-        Err(Unkept::Harm)
-    }
+    let to = find(alloc, disk, name)?;
+    Ok(harms_target(disk, &to, files) || harms_temp(disk, to.temp.as_str(), files))
 }
 
 /// Whether memory was refused.
@@ -175,25 +151,16 @@ fn is_memory(why: ErrorKind) -> bool
     matches!(why, ErrorKind::OutOfMemory)
 }
 
-/// Why it can't be found out where a state goes, by the error of what was asked.
-fn why_unfound(error: Error) -> Unkept
-    ensures { result ≡ unfound_of error }
-{
-    if is_memory(error.kind()) {
-        Unkept::Memory(error)
-    } else {
-        Unkept::Unfound(error)
-    }
-}
-
 /// Finds where a state of this name goes. An error where something would be harmed by it there, or that can't be found
 /// out.
 fn admit_to<D: Disk>(alloc: Global, disk: &D, name: &str, files: &Files) -> Result<(), Unkept>
     ensures { Admits (D.answers disk.now) name.now files.now result }
 {
-    match find(alloc, disk, name) {
-        Ok(to) => judge(disk, &to, files),
-        Err(error) => Err(why_unfound(error)),
+    match harms(alloc, disk, name, files) {
+        Ok(false) => Ok(()),
+        Ok(true) => Err(Unkept::Harm),
+        Err(error) if is_memory(error.kind()) => Err(Unkept::Memory(error)),
+        Err(error) => Err(Unkept::Unfound(error)),
     }
 }
 

@@ -1,5 +1,6 @@
 //! The system's files as a disk. What a call of them does is trusted: each makes the one call of the system that it is
 //! named for, and answers what that answers.
+#![tactic(auto, unfolding(crate::specs::Disk::noted))]
 
 use crate::disk::{Disk, Found};
 use std::fs::{File, OpenOptions, Permissions};

@@ -19,7 +19,7 @@ impl Model for Word {
 }
 
 impl Word {
-    ghost use Rattle.std.specs.Prelude.{◌≡◌, IfOk};
+    ghost use Rattle.std.specs.Prelude.{◌≡◌, IfOk, string_bytes};
 
     /// A word with this text.
     pub fn new(alloc: Global, text: &str) -> Result<Word, AllocError>
@@ -28,6 +28,13 @@ impl Word {
         Ok(Word {
             text: String::from_str(alloc, text)?,
         })
+    }
+
+    /// The word that this text is.
+    pub fn of(text: String) -> Word
+        ensures { result ≡ string_bytes text }
+    {
+        Word { text }
     }
 
     /// The word's text.

@@ -1,4 +1,6 @@
 //! A disk in memory: a call of it is refused or fails, or the power is cut in it.
+#![tactic(auto, unfolding(crate::specs::Disk::noted))]
+
 use crate::disk::{Disk, Found};
 use std::alloc::{AllocError, Global};
 use std::fs::OpenOptions;
