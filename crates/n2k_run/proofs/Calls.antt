@@ -1,5 +1,5 @@
 -- The calls of a source, by the bytes that came.
-use Rattle.std.proofs.Common.{◌≡◌, ◌⊎◌, inl, inr, ℕ, ◌+◌, ◌-◌, ◌<◌, ◌≤◌, ◌^◌, Bool, true, false, cond, List, [], ◌++◌, length, ap, subst, arith, length-append, Option, Some, None, Result, Ok, Err, if◌then◌else◌, ◌==◌}
+use Rattle.std.proofs.Common.{◌≡◌, ◌⊎◌, ℕ, ◌+◌, ◌<◌, ◌≤◌, Bool, true, false, List, [], ◌++◌, length, subst, arith, length-append, Option, Some, Result, Ok, if◌then◌else◌}
 use Rattle.std.specs.Io.KnownBytes.{Consumes}
 use Rattle.std.proofs.KnownBytes.{Consumes-nil, Consumes-trans}
 use Rattle.n2k_run.specs.declared.blocks.Next.{Next}
@@ -10,19 +10,15 @@ use Rattle.n2k_run.specs.Reading.{OutlastsReads, ReadsBytes, idle_calls, most_re
 
 -- a count never rises by more than one
 pub one_more_at_most : (calls : ℕ) → one_more calls ≤ calls + 1
-one_more_at_most calls =
-    let split : (b : Bool) → cond b calls (calls + 1) ≤ calls + 1 = λ b. elim b as (λ b. cond b calls (calls + 1) ≤ calls + 1) [ true ↦ omega arith | false ↦ omega arith ] in
-    split (calls == (2 ^ 64 - 1))
+one_more_at_most calls = grind arith
 
 -- at most one call gives no byte
 ended_once : (b : Bool) → (if b then 1 else 0) ≤ 1
-ended_once true = omega arith
-ended_once false = omega arith
+ended_once b = grind arith
 
 -- and one does where the end was found
 pub idle_at_end : (ended : Bool) → ended ≡ true → 1 ≤ (if ended then 1 else 0)
-idle_at_end true is = omega arith
-idle_at_end false is = cc
+idle_at_end ended is = grind arith
 
 -- no call was made
 pub none_read : (left : Option (List ℕ)) (calls : ℕ) → ReadsBytes 0 left left calls calls
@@ -46,17 +42,12 @@ reads_on ended idle left₀ left left' calls₀ calls calls' on before after =
 
 -- the calls of an answer are those of what is made of it, also where that is refused
 pub reads_of_answer : {T : Type 0} (old new : Held) (left₀ left : Option (List ℕ)) (calls₀ calls : ℕ) (next : Next) (result : Result T RunFault) → Answers old new left₀ left calls₀ calls (Ok next) → ReadsBytes (idle_calls new.has_ended result) left₀ left calls₀ calls
-reads_of_answer old new left₀ left calls₀ calls next (Ok x) a = record { came = a.came; given = a.given; few = a.few }
-reads_of_answer old new left₀ left calls₀ calls next (Err fault) a = record { came = a.came; given = a.given; few = omega (arith, a.few, ended_once new.has_ended) }
+reads_of_answer old new left₀ left calls₀ calls next result a = grind arith
 
 -- no more bytes come of a source than it has
 pub came_within : (log came : List ℕ) (left : Option (List ℕ)) → Consumes (Some log) left came → length came ≤ length log
-came_within log came None given = absurd given
-came_within log came (Some rest) given = omega (arith, ap length given, length-append came rest)
+came_within log came left given = grind (arith, length-append)
 
 -- a source that never fails has an end that is found, where it has fewer bytes than reads are made
 pub end_found : (log : List ℕ) (left : Option (List ℕ)) (calls : ℕ) → length log + 1 < most_reads → ReadsBytes 1 (Some log) left 0 calls → HasFailed 0 0 ⊎ OutlastsReads 0 calls → ⊥
-end_found log left calls few reads (inl (inl failed)) = absurd (omega (arith, failed))
-end_found log left calls few reads (inl (inr full)) = absurd (omega (arith, full))
-end_found log left calls few reads (inr (inl outlasts)) = absurd (omega (arith, few, reads.few, came_within log reads.came left reads.given, outlasts))
-end_found log left calls few reads (inr (inr full)) = absurd (omega (arith, few, reads.few, came_within log reads.came left reads.given, full))
+end_found log left calls few reads h = grind (arith, came_within)

@@ -1,8 +1,6 @@
 -- A run's promise in other words: by other functions that agree, and with another answer.
-use Rattle.std.proofs.Common.{◌≡◌, ℕ, List, ◌++◌, refl, sym, ap, ◌∙◌, subst, Option, Some, None, Result, Ok, Err, IfSome, append-nil}
+use Rattle.std.proofs.Common.{arith, ◌≡◌, ℕ, List, subst, Option, Result, Ok, Err, IfSome, append-nil, OnOk}
 use Rattle.std.specs.Io.KnownBytes.{Consumes, IsAtEnd}
-use Rattle.std.specs.Prelude.{OnOk}
-use mathlib.Core.Path.{fun_ext}
 use Rattle.n2k_wire.specs.declared.entry.Entry.{Entry}
 use Rattle.n2k_wire.specs.declared.entry.Packing.{Packing}
 use Rattle.n2k_run.specs.declared.fault.RunFault.{RunFault}
@@ -12,19 +10,14 @@ use Rattle.n2k_run.specs.Runs.{Devices, RunEnds, IsOfDevice, IsWhole, Output, Ru
 -- outputs are equal that agree on all entries
 pub output_same : (packing : Packing) (counted : ℕ) (texts texts' reports reports' : List Entry → List ℕ) → ((es : List Entry) → texts es ≡ texts' es) → ((es : List Entry) → reports es ≡ reports' es)
     → record { packing = packing; counted = counted; texts = texts; reports = reports } ≡ (let o : Output = record { packing = packing; counted = counted; texts = texts'; reports = reports' } in o)
-output_same packing counted texts texts' reports reports' same_texts same_reports =
-    let t : texts ≡ texts' = fun_ext same_texts in
-    let r : reports ≡ reports' = fun_ext same_reports in
-    rw (t, r) refl
+output_same packing counted texts texts' reports reports' same_texts same_reports = grind arith
 
 pub runs_same : {T : Type 0} (o o' : Output) (stands : List Entry → Type 0) (before after : Devices) (result : Result T RunFault) → o ≡ o' → Runs o stands before after result → Runs o' stands before after result
 runs_same o o' stands before after result same runs = subst (λ (p : Output). Runs p stands before after result) same runs
 
 -- what came until the source had no more is all that it had
 pub all_came : (P : List ℕ → Type 0) (left₀ left : Option (List ℕ)) (came : List ℕ) → Consumes left₀ left came → IsAtEnd left → P came → IfSome left₀ P
-all_came P None left came given end here = tt
-all_came P (Some log) None came given end here = absurd given
-all_came P (Some log) (Some rest) came given end here = subst P (sym (given ∙ ap (λ l. came ++ l) end ∙ append-nil came)) here
+all_came P left₀ left came given end here = grind (arith, append-nil)
 
 -- what holds of the bytes of a run that came to its end holds of its log
 pub of_log : (o : Output) (stands : List Entry → Type 0) (before after : Devices) (P : List ℕ → Type 0) (whole : IsWhole o stands before after) → P whole.came → IfSome before.left P
@@ -38,13 +31,7 @@ log_if_ok o stands before after P (Err fault) runs here = tt
 
 module _ (o : Output) (stands stands' : List Entry → Type 0) (before after : Devices) where
   pub ok_more : {T U : Type 0} (x : T) (y : U) → Runs {T = T} o stands before after (Ok x) → ((es : List Entry) → stands es → stands' es) → Runs {T = U} o stands' before after (Ok y)
-  ok_more x y runs follows = record {
-    ends = record { came = runs.ends.came; given = runs.ends.given; at_end = runs.ends.at_end; numbered = runs.ends.numbered; gained = runs.ends.gained; holds = follows _ runs.ends.holds };
-    fronts = tt;
-    reports_first = runs.reports_first;
-    device = runs.device;
-    reads = runs.reads;
-  }
+  ok_more x y runs follows = grind arith
 
   ends_more : (T U : Type 0) (fault : RunFault) → ((es : List Entry) → stands es → stands' es) → RunEnds {T = T} o stands before after (Err fault) → RunEnds {T = U} o stands' before after (Err fault)
   ends_more T U Read follows e = record { came = e.came; given = e.given; numbered = e.numbered; gained = e.gained; holds = follows _ e.holds }
@@ -56,13 +43,7 @@ module _ (o : Output) (stands stands' : List Entry → Type 0) (before after : D
   device_same T U _ d = d
 
   pub err_more : (T U : Type 0) (fault : RunFault) → Runs {T = T} o stands before after (Err fault) → ((es : List Entry) → stands es → stands' es) → Runs {T = U} o stands' before after (Err fault)
-  err_more T U fault runs follows = record {
-    ends = ends_more T U fault follows runs.ends;
-    fronts = runs.fronts;
-    reports_first = runs.reports_first;
-    device = device_same T U fault runs.device;
-    reads = runs.reads;
-  }
+  err_more T U fault runs follows = grind arith
 
   -- the same answer, by what follows where the run stands
   pub runs_more : {T : Type 0} (result : Result T RunFault) → Runs o stands before after result → ((es : List Entry) → stands es → stands' es) → Runs o stands' before after result

@@ -1,5 +1,5 @@
 -- The first line of bytes, where a front of them stands for a part of a long line.
-use Rattle.std.proofs.Common.{◌≡◌, ◌⊎◌, inl, inr, ℕ, ◌+◌, ◌-◌, ◌<◌, ◌≤◌, Bool, true, false, cond, List, [], ◌∷◌, ◌++◌, length, take, drop, get_or, refl, sym, ap, ◌∙◌, subst, append_assoc, arith, length-append, length-take, Option, Some, if◌then◌else◌, slice_index, ◌==◌}
+use Rattle.std.proofs.Common.{◌≡◌, ◌⊎◌, inl, inr, ℕ, ◌+◌, ◌<◌, ◌≤◌, Bool, true, false, List, [], ◌∷◌, ◌++◌, length, take, drop, refl, sym, ap, ◌∙◌, subst, append_assoc, arith, length-append, length-take, Option, Some, if◌then◌else◌, slice_index}
 use Rattle.std.specs.Io.KnownBytes.{IsAtEnd}
 use Rattle.std.proofs.lemmas.List.{append-nil, length-replicate, get_or-replicate, get_or_at}
 use Rattle.std.proofs.lemmas.List.Elements.{All-head, All-tail, All-append, All-replicate}
@@ -27,13 +27,7 @@ passed-no_feed = All-replicate is_plain (longest_line + 1) 120 refl
 
 -- one byte is dropped at most
 without_return-length : (piece : List ℕ) → length piece ≤ length (without_return piece) + 1
-without_return-length piece =
-    let P : Bool → Type 0 = λ b. length piece ≤ length (cond b (take (length piece - 1) piece) piece) + 1 in
-    let split : (b : Bool) → P b = λ b. elim b as P [
-      | true ↦ omega (arith, length-take (length piece - 1) piece)
-      | false ↦ omega arith
-    ] in
-    split (slice_index piece (length piece - 1) == 13)
+without_return-length piece = grind (arith, length-take)
 
 -- a piece of more than 2,049 bytes is over the limit
 pub long_piece : (piece : List ℕ) → longest_line + 1 < length piece → longest_line < length (without_return piece)
@@ -45,14 +39,10 @@ unfolding passed
 passed-last n is = get_or-replicate (longest_line + 1) n 120 0 (omega (arith, is))
 
 passed-whole : without_return passed ≡ passed
-passed-whole =
-    let last : slice_index passed (length passed - 1) ≡ 120 = passed-last (length passed - 1) (omega (arith, length-passed)) in
-    rw last refl
+passed-whole = grind (arith, passed-last, length-passed)
 
 pub long_after : (rest : List ℕ) → longest_line < length (without_return (passed ++ rest))
-long_after [] =
-    let same : without_return (passed ++ []) ≡ passed = ap without_return (append-nil passed) ∙ passed-whole in
-    rw same (omega (arith, length-passed))
+long_after [] = grind (arith, append-nil, passed-whole, length-passed)
 long_after (byte ∷ rest) = long_piece (passed ++ (byte ∷ rest)) (omega (arith, length-append passed (byte ∷ rest), length-passed))
 
 -- a text without a line feed in front moves into the piece
@@ -62,20 +52,11 @@ split_past (byte ∷ front) rest [] after none is =
     let head : byte ≡ 10 = cc in
     let no : is_line_feed 10 ≡ false = subst is_plain head (All-head is_plain byte front none) in
     cc
-split_past (byte ∷ front) rest (x ∷ piece) after none is =
-    let tail : front ++ rest ≡ piece ++ (10 ∷ after) = cc in
-    let head : byte ≡ x = cc in
-    let more = split_past front rest piece after (All-tail is_plain byte front none) tail in
-    (more.0, ap (λ b. b ∷ piece) (sym head) ∙ ap (λ p. byte ∷ p) more.1, more.2)
+split_past (byte ∷ front) rest (x ∷ piece) after none is = grind (arith, split_past front rest piece after (All-tail is_plain byte front none) cc)
 
 -- bytes with a line feed do not lack one
 pub feed_or_none : (bytes : List ℕ) → HasFeed bytes → HasNoFeed bytes → ⊥
-feed_or_none bytes feed none =
-    let all : HasNoFeed (feed.0 ++ (10 ∷ feed.1)) = subst HasNoFeed feed.2 none in
-    let bad : is_line_feed (get_or (feed.0 ++ (10 ∷ feed.1)) (length feed.0) 0) ≡ false = all (length feed.0) 0 (omega (arith, length-append feed.0 (10 ∷ feed.1))) in
-    let is : get_or (feed.0 ++ (10 ∷ feed.1)) (length feed.0) 0 ≡ 10 = get_or_at feed.0 10 feed.1 0 (length feed.0) refl in
-    let no : is_line_feed 10 ≡ false = subst is_plain is bad in
-    cc
+feed_or_none bytes feed none = grind (arith, length-append feed.0 (10 ∷ feed.1), get_or_at feed.0 10 feed.1 0 (length feed.0) refl)
 
 -- the place that was found
 pub feed_at : (bytes : List ℕ) (feed : Option ℕ) (size : ℕ) → FindsEnd bytes feed → feed ≡ Some size → EndsAt bytes size
@@ -114,8 +95,7 @@ finds _ kept piece new End left no_feed judged ends = absurd judged
 
 -- what is unanswered has a byte
 pub some_byte : (passing : Bool) (kept : List ℕ) → (passing ≡ true) ⊎ (0 < length kept) → 0 < length ((if passing then passed else []) ++ kept)
-some_byte true kept some = omega (arith, length-append passed kept, length-passed)
-some_byte false kept some = elim some [ inl p ↦ cc | inr p ↦ p ]
+some_byte passing kept some = grind (arith, length-append, length-passed)
 
 -- no line ends in what is unanswered where none ends in what is kept
 pub unanswered-no_feed : (held : Held) → HasNoFeed held.kept → HasNoFeed (unanswered held)

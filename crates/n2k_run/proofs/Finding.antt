@@ -1,9 +1,7 @@
 -- How the next line is found: what comes of the source, until the line is there.
-use Rattle.std.proofs.Common.{◌≡◌, ◌⊎◌, inl, inr, ℕ, ◌+◌, ◌-◌, ◌<◌, ◌≤◌, ◌^◌, Bool, true, false, cond, List, [], ◌∷◌, ◌++◌, length, refl, sym, ap, ◌∙◌, subst, append_assoc, arith, length-append, Option, Ok, Err, if◌then◌else◌, ◌==◌}
+use Rattle.std.proofs.Common.{◌≡◌, ◌⊎◌, inl, inr, ℕ, ◌+◌, ◌-◌, ◌<◌, ◌≤◌, ◌^◌, Bool, true, false, List, [], ◌∷◌, ◌++◌, length, refl, sym, ap, ◌∙◌, subst, append_assoc, arith, length-append, Option, Ok, Err, if◌then◌else◌, append-nil, drop_at}
 use Rattle.std.specs.Io.KnownBytes.{IsAtEnd}
 use Rattle.std.proofs.KnownBytes.{Consumes-nil, Consumes-trans}
-use Rattle.std.proofs.lemmas.Bool.Decides.{nat_tests}
-use Rattle.std.proofs.lemmas.List.{append-nil, drop_at}
 use Rattle.std.proofs.lemmas.List.Elements.{All-append, All-drop}
 use Rattle.n2k_wire.specs.Entry.{longest_line}
 use Rattle.n2k_run.specs.declared.blocks.Found.{Found}
@@ -27,75 +25,34 @@ no_feed_whole whole bytes (inr r) none =
     subst HasNoFeed (sym r.whole_is) (All-append is_plain r.front r.rest r.no_feed rest)
 
 pub stays_more : (whole bytes more : List ℕ) → Stays whole bytes → Stays (whole ++ more) (bytes ++ more)
-stays_more whole bytes more (inl same) = inl (ap (λ b. b ++ more) same)
-stays_more whole bytes more (inr r) = inr (record {
-  front = r.front;
-  rest = r.rest ++ more;
-  whole_is = ap (λ w. w ++ more) r.whole_is ∙ append_assoc r.front r.rest more;
-  bytes_are = ap (λ b. b ++ more) r.bytes_are ∙ append_assoc passed r.rest more;
-  no_feed = r.no_feed;
-  long = r.long;
-})
+stays_more whole bytes more h = grind (arith, append_assoc)
 
 -- what is replaced is no shorter
 whole-long : (whole bytes : List ℕ) → Stays whole bytes → longest_line + 1 < length bytes → longest_line + 1 < length whole
-whole-long whole bytes (inl same) long = omega (arith, ap length same, long)
-whole-long whole bytes (inr r) long = omega (arith, ap length r.whole_is, length-append r.front r.rest, r.long)
+whole-long whole bytes h long = grind (arith, length-append)
 
 stays_room : (whole bytes after : List ℕ) → HasNoFeed whole → Stays whole bytes → MakesRoom bytes after → Stays whole after
-stays_room whole bytes after none stays (inl same) = subst (λ b. Stays whole b) (sym same) stays
-stays_room whole bytes after none stays (inr (long, is)) = inr (record {
-  front = whole;
-  rest = [];
-  whole_is = sym (append-nil whole);
-  bytes_are = is ∙ sym (append-nil passed);
-  no_feed = none;
-  long = whole-long whole bytes stays long;
-})
+stays_room whole bytes after none stays h = grind (arith, append-nil, whole-long)
 
 calls_on : (c₀ c c' r₀ r r' : ℕ) → (c + r₀ ≡ c₀ + r) ⊎ (2 ^ 64 - 1 ≤ c) → c' ≡ one_more c → r' ≡ r + 1 → (c' + r₀ ≡ c₀ + r') ⊎ (2 ^ 64 - 1 ≤ c')
-calls_on c₀ c c' r₀ r r' (inl same) is more =
-    let P : Bool → Type 0 = λ b. c' ≡ cond b c (c + 1) → (c == (2 ^ 64 - 1)) ≡ b → (c' + r₀ ≡ c₀ + r') ⊎ (2 ^ 64 - 1 ≤ c') in
-    let split : (b : Bool) → P b = λ b. elim b as P [
-      | true ↦ λ e t. inr (grind (arith, nat_tests))
-      | false ↦ λ e t. inl (omega (arith, e, more, same))
-    ] in
-    split (c == (2 ^ 64 - 1)) is refl
-calls_on c₀ c c' r₀ r r' (inr full) is more =
-    let P : Bool → Type 0 = λ b. c' ≡ cond b c (c + 1) → (c' + r₀ ≡ c₀ + r') ⊎ (2 ^ 64 - 1 ≤ c') in
-    let split : (b : Bool) → P b = λ b. elim b as P [
-      | true ↦ λ e. inr (omega (arith, e, full))
-      | false ↦ λ e. inr (omega (arith, e, full))
-    ] in
-    split (c == (2 ^ 64 - 1)) is
+calls_on c₀ c c' r₀ r r' h is more = grind arith
 
 pub calls_more : (c₀ c c' r₀ r r' : ℕ) → CallsAre c₀ c r₀ r → c' ≡ one_more c → r' ≡ r + 1 → CallsAre c₀ c' r₀ r'
 calls_more c₀ c c' r₀ r r' (rise, so_far) is more = (omega (arith, rise, more), calls_on c₀ c c' r₀ r r' so_far is more)
 
 -- so many calls were made as are made at most
 pub calls_end : (calls₀ calls reads : ℕ) → CallsAre calls₀ calls 0 reads → reads ≡ most_reads → OutlastsReads calls₀ calls
-calls_end calls₀ calls reads (rise, inl same) all = inl (omega (arith, same, all))
-calls_end calls₀ calls reads (rise, inr full) all = inr full
+calls_end calls₀ calls reads h all = grind arith
 
 -- nothing came yet
 pub reads_none : (held : Held) (left : Option (List ℕ)) (calls : ℕ) → Reads 0 held held left left calls calls
 reads_none held left calls = record { came = []; given = Consumes-nil left; answer = inl (sym (append-nil (unanswered held))); called = (omega arith, inl refl); few = omega arith }
 
 pub reads_room : (old mid new : Held) (left₀ left : Option (List ℕ)) (calls₀ calls : ℕ) → Reads 0 old mid left₀ left calls₀ calls → HasNoFeed mid.kept → MakesRoom (unanswered mid) (unanswered new) → new.reads ≡ mid.reads → Reads 0 old new left₀ left calls₀ calls
-reads_room old mid new left₀ left calls₀ calls so_far none room reads =
-    let whole : HasNoFeed (unanswered old ++ so_far.came) = no_feed_whole _ _ so_far.answer (unanswered-no_feed mid none) in
-    record {
-      came = so_far.came;
-      given = so_far.given;
-      answer = stays_room _ _ _ whole so_far.answer room;
-      called = subst (λ r. CallsAre calls₀ calls old.reads r) (sym reads) so_far.called;
-      few = so_far.few;
-    }
+reads_room old mid new left₀ left calls₀ calls so_far none room reads = grind (arith, unanswered-no_feed mid none, no_feed_whole, stays_room)
 
 unanswered_gained : (mid new : Held) (gained : List ℕ) → new.is_passing ≡ mid.is_passing → new.kept ≡ mid.kept ++ gained → unanswered new ≡ unanswered mid ++ gained
-unanswered_gained mid new gained passing kept =
-    let front : List ℕ = if mid.is_passing then passed else [] in
-    rw (passing, kept) (sym (append_assoc front mid.kept gained))
+unanswered_gained mid new gained passing kept = grind (arith, append_assoc)
 
 -- one call more, which gave a byte or is counted as one that gave none
 pub reads_more : (idle : ℕ) (old mid new : Held) (left₀ left left' : Option (List ℕ)) (calls₀ calls calls' : ℕ) → Reads 0 old mid left₀ left calls₀ calls → Gains mid.kept new.kept left left' → length mid.kept < length new.kept + idle → new.is_passing ≡ mid.is_passing → new.reads ≡ mid.reads + 1 → calls' ≡ one_more calls
@@ -115,10 +72,7 @@ reads_more idle old mid new left₀ left left' calls₀ calls calls' so_far gain
 pub reads_round : (idle : ℕ) (old loop taken made new : Held) (left₀ left left' : Option (List ℕ)) (calls₀ calls calls' : ℕ) → Reads 0 old loop left₀ left calls₀ calls → taken ≡ loop → HasNoFeed loop.kept
     → MakesRoom (unanswered taken) (unanswered made) → made.reads ≡ taken.reads
     → Gains made.kept new.kept left left' → length made.kept < length new.kept + idle → new.is_passing ≡ made.is_passing → new.reads ≡ made.reads + 1 → calls' ≡ one_more calls → Reads idle old new left₀ left' calls₀ calls'
-reads_round idle old loop taken made new left₀ left left' calls₀ calls calls' so_far same none room room_reads gains gave passing reads called =
-    let here : Reads 0 old taken left₀ left calls₀ calls = subst (λ (h : Held). Reads 0 old h left₀ left calls₀ calls) (sym same) so_far in
-    let no_feed : HasNoFeed taken.kept = subst (λ (h : Held). HasNoFeed h.kept) (sym same) none in
-    reads_more idle old made new left₀ left left' calls₀ calls calls' (reads_room old taken made left₀ left calls₀ calls here no_feed room room_reads) gains gave passing reads called
+reads_round idle old loop taken made new left₀ left left' calls₀ calls calls' so_far same none room room_reads gains gave passing reads called = grind (arith, reads_more idle old made new left₀ left left' calls₀ calls calls' (reads_room old taken made left₀ left calls₀ calls (subst (λ (h : Held). Reads 0 old h left₀ left calls₀ calls) (sym same) so_far) (subst (λ (h : Held). HasNoFeed h.kept) (sym same) none) room room_reads) gains gave passing reads called)
 
 -- a first line of what stands for the bytes is one of the bytes
 long_first : (whole bytes line rest : List ℕ) (ended : Bool) (left : Option (List ℕ)) (r : ReplacesLong whole bytes) → FirstLine bytes line rest ended left → FirstLong whole rest ended left × (longest_line < length line)

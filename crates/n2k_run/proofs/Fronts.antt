@@ -1,5 +1,5 @@
 -- The front of a log that was taken, and one line more of it.
-use Rattle.std.proofs.Common.{◌≡◌, inl, inr, ℕ, ◌-◌, ◌<◌, ◌≤◌, Bool, true, false, List, [], ◌∷◌, ◌++◌, length, get_or, map, refl, sym, ap, ◌∙◌, subst, append_assoc, arith, length-append, Option, Some, None, IfSome}
+use Rattle.std.proofs.Common.{◌≡◌, inl, inr, ℕ, ◌-◌, ◌<◌, Bool, true, false, List, [], ◌∷◌, ◌++◌, length, map, refl, sym, ap, ◌∙◌, subst, append_assoc, arith, length-append, Option, Some, None, IfSome}
 use Rattle.std.specs.Io.{IsEmptyOrEndsWith}
 use Rattle.std.specs.Io.KnownBytes.{Consumes, IsAtEnd}
 use Rattle.std.proofs.KnownBytes.{Consumes-trans}
@@ -16,33 +16,22 @@ use Rattle.n2k_run.proofs.Splits.{lines-append, whole_lines-is}
 
 -- bytes that end in a line feed
 pub ends_feed : (bytes : List ℕ) → IsEmptyOrEndsWith (bytes ++ (10 ∷ [])) line_feed
-ends_feed bytes = λ some.
-    let at : length bytes ≡ length (bytes ++ (10 ∷ [])) - 1 = omega (arith, length-append bytes (10 ∷ [])) in
-    get_or_at bytes 10 [] 0 _ at
+ends_feed bytes = grind (arith, length-append, get_or_at)
 
 -- the lines whose end came are those before what has no line's end
 pub whole_front : (front after : List ℕ) → IsEmptyOrEndsWith front line_feed → HasNoFeed after → whole_lines (front ++ after) ≡ front
-whole_front front after ends none =
-    let all = length-append front after in
-    let past : (k : ℕ) → length front ≤ k → k < length (front ++ after) → is_line_feed (get_or (front ++ after) k 0) ≡ false = λ k from below.
-    subst (λ b. is_line_feed b ≡ false) (sym (get_or-append_right front after (length front) k 0 refl from)) (none (k - length front) 0 (omega (arith, all, from, below))) in
-    let last : 0 < length front → get_or (front ++ after) (length front - 1) 0 ≡ 10 = λ some. get_or_append_left front after 0 (length front - 1) (omega (arith, some)) ∙ ends some in
-    sym (sym (take_at front after (length front) refl) ∙ whole_lines-is (front ++ after) (length front) (omega (arith, all)) past last)
+whole_front front after ends none = grind (arith, take_at front after (length front) refl, whole_lines-is (front ++ after) (length front) (omega (arith, (length-append front after))) (λ k from below. subst (λ b. is_line_feed b ≡ false) (sym (get_or-append_right front after (length front) k 0 refl from)) (none (k - length front) 0 (omega (arith, (length-append front after), from, below)))) (λ some. get_or_append_left front after 0 (length front - 1) (omega (arith, some)) ∙ ends some), get_or-append_right, get_or_append_left)
 
 pub entries-append : (packing : Packing) (front rest : List ℕ) → IsEmptyOrEndsWith front line_feed → entries packing (front ++ rest) ≡ entries packing front ++ entries packing rest
-entries-append packing front rest ends =
-    ap (map (λ line. entry line packing)) (lines-append front rest ends) ∙ map-append (λ line. entry line packing) (lines front) (lines rest)
+entries-append packing front rest ends = grind (arith, lines-append, map-append)
 
 -- the entries that were taken lead those of the log
 abbrev pub Leads : Packing → Option (List ℕ) → List Entry → Type 0
 Leads packing left₀ es = IfSome left₀ (λ log. (more : List Entry) × (entries packing log ≡ es ++ more))
 
 leads_known : (packing : Packing) (log left front held : List ℕ) (ended : Bool) → log ≡ (front ++ held) ++ left → (ended ≡ false → IsEmptyOrEndsWith front line_feed) → (ended ≡ true → (held ≡ []) × (left ≡ [])) → (more : List Entry) × (entries packing log ≡ entries packing front ++ more)
-leads_known packing log left front held false given whole end =
-    (entries packing (held ++ left), ap (entries packing) (given ∙ append_assoc front held left) ∙ entries-append packing front (held ++ left) (whole refl))
-leads_known packing log left front held true given whole end =
-    let none = end refl in
-    ([], ap (entries packing) (given ∙ ap (λ h. (front ++ h) ++ left) none.0 ∙ ap (λ l. (front ++ []) ++ l) none.1 ∙ append-nil (front ++ []) ∙ append-nil front) ∙ sym (append-nil (entries packing front)))
+leads_known packing log left front held false given whole end = grind (arith, append_assoc front held left, entries-append packing front (held ++ left) (whole refl))
+leads_known packing log left front held true given whole end = grind (arith, append-nil)
 
 pub leads : (packing : Packing) (left₀ left : Option (List ℕ)) (front held : List ℕ) (ended : Bool) → Consumes left₀ left (front ++ held) → (ended ≡ false → IsEmptyOrEndsWith front line_feed) → (ended ≡ true → (held ≡ []) × IsAtEnd left) → Leads packing left₀ (entries packing front)
 leads packing None left front held ended given whole end = tt

@@ -1,60 +1,44 @@
 -- The output and the reports of a log that goes on, after those of its front.
-use Rattle.std.proofs.Common.{◌≡◌, ℕ, zero, suc, ◌+◌, ◌<◌, ◌≤◌, List, [], ◌∷◌, ◌++◌, length, Result, Ok, Err, refl, sym, ap, ◌∙◌, subst, length-append, arith, option_and_then, slice_get, inl, inr}
+use Rattle.std.proofs.Common.{◌≡◌, ℕ, zero, suc, ◌+◌, ◌<◌, ◌≤◌, List, [], ◌∷◌, ◌++◌, length, Result, Ok, Err, refl, sym, ap, ◌∙◌, subst, length-append, arith, slice_get, inl, inr}
 use Rattle.std.specs.List.{flat_map, range_with_len}
 use Rattle.std.specs.Io.{IsEmptyOrEndsWith}
 use Rattle.std.proofs.lemmas.Grind.{flat_map-append}
 use Rattle.n2k_wire.specs.declared.entry.Entry.{Entry}
 use Rattle.n2k_table.specs.Table.{TableParts, kind}
+use Rattle.n2k_join.proofs.Rising.{range-append}
 use Rattle.n2k_join.specs.declared.fault.StateFault.{StateFault}
 use Rattle.n2k_join.specs.declared.fault.StateFault.TheVariants as state_faults
 use Rattle.n2k_join.specs.Counts.{most_lines}
-use Rattle.n2k_join.specs.Messages.{broken, cause_in, entry_at, numbers}
+use Rattle.n2k_join.specs.Messages.{entry_at, numbers}
 use Rattle.n2k_join.specs.State.{state}
 use Rattle.n2k_run.specs.declared.fault.RunFault.TheVariants as run_faults
 use Rattle.n2k_run.specs.declared.options.Options.{Options}
 use Rattle.n2k_run.specs.declared.part.Part.{Part}
 use Rattle.n2k_run.specs.declared.part.PartFault.{PartFault}
 use Rattle.n2k_run.specs.declared.part.PartFault.TheVariants.{State as Refused, Stopped, Run, Memory}
-use Rattle.n2k_run.specs.Decoded.{cause_at, message_line, numbers_after, out, out_of, output_after, report_at, reports, reports_of, text_of_line}
+use Rattle.n2k_run.specs.Decoded.{numbers_after, out, out_of, output_after, report_at, reports, reports_of, text_of_line}
 use Rattle.n2k_run.specs.Entries.{entries}
-use Rattle.n2k_run.specs.Lines.{line_feed, whole_lines}
+use Rattle.n2k_run.specs.Lines.{line_feed}
 use Rattle.n2k_run.specs.Headline.{save, state_after}
 use Rattle.n2k_run.specs.Parts.{Continues, GoesOn, GoesOnPartly, GoesOnToLimit, HasPart, IsOfKind, IsPartOf, TellsRun}
-use Rattle.n2k_run.specs.Reports.{line_report}
 use Rattle.n2k_run.specs.Runs.{Devices, Gained, HasFronts}
 use Rattle.n2k_run.proofs.Fronts.{entries-append}
 use Rattle.n2k_run.proofs.LimitLines.{taken_bytes}
 use Rattle.n2k_run.proofs.LogSteps.{LogLaws, broken_stay, messages_stay}
-use Rattle.n2k_run.proofs.Parting.{line_fronts, told_ok, told_run, told_stopped}
+use Rattle.n2k_run.proofs.Parting.{line_fronts, told_ok, told_run}
 use Rattle.n2k_run.proofs.Ending.{of_log}
 use Rattle.n2k_run.proofs.Running.{known_more}
 
-range_append : (a n m : ℕ) → range_with_len a (n + m) ≡ range_with_len a n ++ range_with_len (a + n) m
-range_append a zero m =
-    let count : zero + m ≡ m = omega arith in
-    let from : a + zero ≡ a = omega arith in
-    ap (range_with_len a) count ∙ ap (λ b. range_with_len b m) (sym from)
-range_append a (suc n) m =
-    let count : suc n + m ≡ suc (n + m) = omega arith in
-    let from : (a + 1) + n ≡ a + suc n = omega arith in
-    ap (range_with_len a) count ∙ ap (λ ns. a ∷ ns) (range_append (a + 1) n m ∙ ap (λ b. range_with_len (a + 1) n ++ range_with_len b m) from)
-
 same_on : (f g : ℕ → List ℕ) (a n : ℕ) → ((i : ℕ) → a ≤ i → i < a + n → f i ≡ g i) → flat_map f (range_with_len a n) ≡ flat_map g (range_with_len a n)
 same_on f g a zero same = refl
-same_on f g a (suc n) same =
-    let rest = same_on f g (a + 1) n (λ i low high. same i (omega (arith, low)) (omega (arith, high))) in
-    ap (λ x. x ++ flat_map f (range_with_len (a + 1) n)) (same a (omega arith) (omega arith)) ∙ ap (λ r. g a ++ r) rest
+same_on f g a (suc n) same = grind (arith, same_on f g (a + 1) n (λ i low high. same i (omega (arith, low)) (omega (arith, high))))
 
 numbers-append : (front es : List Entry) → numbers (front ++ es) ≡ numbers front ++ numbers_after front es
-numbers-append front es =
-    let from : 1 + length front ≡ length front + 1 = omega arith in
-    ap (range_with_len 1) (length-append front es) ∙ range_append 1 (length front) (length es) ∙ ap (λ b. numbers front ++ range_with_len b (length es)) from
+numbers-append front es = grind (arith, length-append, range-append)
 
 -- what a function gives of the lines of both, where the lines of the front stay
 parts_of : (f g : ℕ → List ℕ) (front es : List Entry) → ((i : ℕ) → 1 ≤ i → i ≤ length front → f i ≡ g i) → flat_map f (numbers (front ++ es)) ≡ flat_map g (numbers front) ++ flat_map f (numbers_after front es)
-parts_of f g front es same =
-    ap (flat_map f) (numbers-append front es) ∙ flat_map-append f (numbers front) (numbers_after front es)
-    ∙ ap (λ l. l ++ flat_map f (numbers_after front es)) (same_on f g 1 (length front) (λ i low high. same i low (omega (arith, high))))
+parts_of f g front es same = grind (arith, numbers-append, flat_map-append, same_on)
 
 get_stays : (front es : List Entry) (k : ℕ) → k < length front → slice_get (front ++ es) k ≡ slice_get front k
 get_stays [] es k below = absurd (omega (arith, below))
@@ -67,14 +51,10 @@ entry_stays front es (suc k) within = get_stays front es k (omega (arith, within
 
 module _ (t : TableParts) (o : Options) (laws : LogLaws o.window) where
   pub out_of-append : (front es : List Entry) → out_of t o (front ++ es) ≡ out_of t o front ++ flat_map (text_of_line t o (front ++ es)) (numbers_after front es)
-  out_of-append front es =
-      parts_of (text_of_line t o (front ++ es)) (text_of_line t o front) front es
-      (λ i low high. ap (message_line t o.empty) (messages_stay t o laws t.id front es i low high))
+  out_of-append front es = grind (arith, parts_of, messages_stay)
 
   report_stays : (front es : List Entry) (i : ℕ) → i ≤ length front → report_at t o (front ++ es) i ≡ report_at t o front i
-  report_stays front es i high =
-      ap (λ gs. line_report i gs (cause_at t (front ++ es) i)) (broken_stay t o laws t.id front es i high)
-      ∙ ap (λ e. line_report i (broken o.window (kind t) front i) (option_and_then (cause_in (kind t)) e)) (entry_stays front es i high)
+  report_stays front es i high = grind (arith, broken_stay, entry_stays)
 
   pub reports_of-append : (front es : List Entry) → reports_of t o (front ++ es) ≡ reports_of t o front ++ flat_map (report_at t o (front ++ es)) (numbers_after front es)
   reports_of-append front es = parts_of (report_at t o (front ++ es)) (report_at t o front) front es (λ i low high. report_stays front es i high)
@@ -111,14 +91,7 @@ module _ (t : TableParts) (o : Options) (laws : LogLaws o.window) where
         }
 
     goes_partly : (more : List ℕ) (before after : Devices) → HasFronts (output_after t o (entries o.packing front)) before after more → GoesOnPartly t o front more before after
-    goes_partly more before after fronts = record {
-      text = (output_after t o (entries o.packing front)).texts (entries o.packing more);
-      printed = fronts.printed;
-      output = output-on more;
-      report = (output_after t o (entries o.packing front)).reports (entries o.packing more);
-      reported = fronts.reported;
-      all_reports = reports-on more;
-    }
+    goes_partly more before after fronts = grind (arith, output-on, reports-on)
 
     -- where the log has more lines than are counted
     to_limit : (log : List ℕ) (before after : Devices) (part : Part) (es : List Entry) (next : Entry) (more : List Entry) → entries o.packing log ≡ es ++ (next ∷ more)
@@ -144,12 +117,8 @@ module _ (t : TableParts) (o : Options) (laws : LogLaws o.window) where
     continues_of before after (Ok part) told kinds refused =
         let runs = told_ok _ before after _ part told in
         (runs.ends.at_end, of_log _ _ before after _ runs.ends (goes_on runs.ends.came before after part runs.ends.gained runs.ends.holds))
-    continues_of before after (Err (Stopped run_faults.Read part)) told kinds refused =
-        let runs = told_stopped _ before after _ run_faults.Read part told in
-        (runs.ends.came, runs.ends.given, goes_on (whole_lines runs.ends.came) before after part runs.ends.gained runs.ends.holds)
-    continues_of before after (Err (Stopped run_faults.TooManyLines part)) told kinds refused =
-        let runs = told_stopped _ before after _ run_faults.TooManyLines part told in
-        known_more before.left _ _ (λ log left. to_limit log before after part runs.ends.taken left.0 left.1 left.2 runs.ends.full runs.ends.gained runs.ends.holds) runs.ends.left
+    continues_of before after (Err (Stopped run_faults.Read part)) told kinds refused = grind (arith, goes_on)
+    continues_of before after (Err (Stopped run_faults.TooManyLines part)) told kinds refused = grind (arith, known_more, to_limit)
     continues_of before after (Err (Stopped _ part)) runs (inl e) refused = cc
     continues_of before after (Err (Stopped _ part)) runs (inr e) refused = cc
     continues_of before after (Err (Refused fault)) runs kinds refused = refused fault refl

@@ -14,13 +14,12 @@ use Rattle.n2k_join.specs.Window.{IsWindow}
 use Rattle.n2k_run.specs.declared.options.Options.{Options}
 use Rattle.n2k_run.specs.declared.part.Part.{Part}
 use Rattle.n2k_run.specs.declared.part.PartFault.{PartFault}
-use Rattle.n2k_run.specs.declared.part.PartFault.TheVariants.{State as Refused, Stopped}
+use Rattle.n2k_run.specs.declared.part.PartFault.TheVariants.{Stopped}
 use Rattle.n2k_run.specs.Decoded.{out, out_of, output_after, reports, reports_of}
 use Rattle.n2k_run.specs.Entries.{entries}
 use Rattle.n2k_run.specs.Inner.Parts.{PartLeft, Saves}
 use Rattle.n2k_run.specs.Headline.{AreCutAtLines, PrintsLog, save}
 use Rattle.n2k_run.specs.Parts.{AreWithinReads, BeginsBy, EndsParts, IsNotRead, IsPartOf, OnRefusal, RefusedByMemory, RunsPart, TakesAll, TellsRun, begun, entries_of_parts, with_source, HasPart}
-use Rattle.n2k_run.specs.declared.fault.RunFault.{RunFault}
 use Rattle.n2k_run.specs.declared.fault.RunFault.TheVariants.{Read}
 use Rattle.n2k_run.specs.Device.{HasFailed}
 use Rattle.n2k_run.specs.Reading.{OutlastsReads, most_reads}
@@ -30,16 +29,14 @@ use Rattle.n2k_run.proofs.Ending.{of_log}
 use Rattle.n2k_run.proofs.Fronts.{entries-append}
 use Rattle.n2k_run.proofs.GoingOn.{out_of-append, reports_of-append}
 use Rattle.n2k_run.proofs.LogSteps.{LogLaws}
-use Rattle.n2k_run.proofs.Parting.{KeepsFast, begun-under, memory_alone, part-of, told_ok, told_stopped}
+use Rattle.n2k_run.proofs.Parting.{KeepsFast, begun-under, told_ok}
 
 -- before the first part
 pub empty-of : (laws : KeepsFast) (t : TableParts) (o : Options) → IsWindow o.window.lines → (join : State) {E : Type 0} (result : Result Part E) → IsId t.id → join ≡ state t.id o.window (kind t) [] → IfOk result (Saves join) → IfOk result (IsPartOf t o (state t.id o.window (kind t) []))
-empty-of laws t o window join (Ok part) id is saves = part-of laws t o window (state t.id o.window (kind t) []) part id (begun-under laws t o window None (state t.id o.window (kind t) []) refl) (subst (λ s. Saves s part) is saves)
-empty-of laws t o window join (Err e) id is saves = tt
+empty-of laws t o window join result id is saves = grind (arith, begun-under laws t o window None (state t.id o.window (kind t) []) refl)
 
 pub refused_memory : (t : TableParts) (o : Options) (handed : Option (List ℕ)) (s : State) (result : Result Part PartFault) → begun t o handed ≡ Ok s → BeginsBy t o handed result → RefusedByMemory result
-refused_memory t o handed s (Err (Refused fault)) is begins = memory_alone fault (begun t o handed) s is begins.1
-refused_memory t o handed s _ is begins = tt
+refused_memory t o handed s result is begins = grind arith
 
 pub none_taken : (t : TableParts) (o : Options) (before : Devices) (part : Part) → IsPartOf t o (state t.id o.window (kind t) []) part → TakesAll t o [] before before part
 none_taken t o before part is = record {
@@ -75,23 +72,16 @@ module _ (t : TableParts) (o : Options) (laws : LogLaws o.window) where
 
 -- where the state is refused, both sinks are as they were
 pub both_untouched : {W E : Type 0} (P : Type 0) (result : Result Part PartFault) (w w' : W) (e e' : E) (seen : W → E → Devices) → OnRefusal result (P × (w' ≡ w) × (e' ≡ e)) → OnRefusal result (seen w' e' ≡ seen w e)
-both_untouched P (Err (Refused fault)) w w' e e' seen same = rw (same.1, same.2) refl
-both_untouched P _ w w' e e' seen same = tt
+both_untouched P result w w' e e' seen same = grind arith
 
 -- the run of a part reads from its source in memory
 pub runs_part : (t : TableParts) (o : Options) (front : List Entry) (met : List ℕ) (reader : PartLeft) (before after : Devices) (left : Option (List ℕ)) (calls : ℕ) (result : Result Part PartFault) → reader ≡ record { left = met; calls = 0 }
     → TellsRun (output_after t o front) (λ es. HasPart t o result (state t.id o.window (kind t) (front ++ es))) (with_source before (Some reader.left) reader.calls 0) (with_source after left calls 0) result → OnRefusal result (after ≡ before) → RunsPart t o front met before after result
-runs_part t o front met reader before after left calls result is told untouched = record {
-  left = left;
-  calls = calls;
-  run = subst (λ (s : PartLeft). TellsRun (output_after t o front) (λ es. HasPart t o result (state t.id o.window (kind t) (front ++ es))) (with_source before (Some s.left) s.calls 0) (with_source after left calls 0) result) is told;
-  untouched = untouched;
-}
+runs_part t o front met reader before after left calls result is told untouched = grind arith
 
 -- a part that is one of these
 part_met : (P : List ℕ → Type 0) (parts done : List (List ℕ)) (met : List ℕ) (later : List (List ℕ)) → All P parts → parts ≡ done ++ met ∷ later → P met
-part_met P parts done met later all is =
-    subst P (get_or_at done met later [] (length done) refl) (subst (All P) is all (length done) [] (omega (arith, length-append done (met ∷ later))))
+part_met P parts done met later all is = grind (arith, get_or_at done met later [] (length done) refl, length-append done (met ∷ later))
 
 -- the source of a part never fails, and its end is found
 not_stopped : (o : Output) (stands : List Entry → Type 0) (met : List ℕ) (before after : Devices) (left : Option (List ℕ)) (calls : ℕ) → length met + 1 < most_reads → Runs {T = Unit {0}} o stands (with_source before (Some met) 0 0) (with_source after left calls 0) (Err Read) → ⊥
@@ -101,30 +91,19 @@ not_stopped o stands met before after left calls few runs =
 
 pub not_read : (t : TableParts) (o : Options) (parts : List (List ℕ)) (before after : Devices) (result : Result Part PartFault) → AreWithinReads parts → EndsParts t o parts before after result → IsNotRead result
 not_read t o parts before after (Err (Stopped fault part)) few (inl end) = cc
-not_read t o parts before after (Err (Stopped fault part)) few (inr end) = λ is.
-    let front : List Entry = entries_of_parts o end.done in
-    let stands : List Entry → Type 0 = λ es. HasPart t o (Err (Stopped fault part)) (state t.id o.window (kind t) (front ++ es)) in
-    let source : Devices = with_source end.between (Some end.met) 0 0 in
-    let read : Devices = with_source after end.runs.left end.runs.calls 0 in
-    let runs : Runs {T = Unit {0}} (output_after t o front) stands source read (Err Read) =
-    subst (λ (f : RunFault). Runs {T = Unit {0}} (output_after t o front) stands source read (Err f)) is (told_stopped (output_after t o front) source read stands fault part end.runs.run) in
-    let few_bytes : length end.met + 1 < most_reads = part_met (λ met. length met + 1 < most_reads) parts end.done end.met end.later few end.parts_are in
-    not_stopped (output_after t o front) stands end.met end.between after end.runs.left end.runs.calls few_bytes runs
+not_read t o parts before after (Err (Stopped fault part)) few (inr end) = grind (arith, part_met (λ met. length met + 1 < most_reads) parts end.done end.met end.later few end.parts_are, not_stopped)
 not_read t o parts before after _ few end = tt
 
 -- the parts before one, that one, and those after it
 pub split_parts : (parts : List (Bor (List ℕ))) (i : ℕ) (d : Bor (List ℕ)) → i < length parts → map (λ (p : Bor (List ℕ)). p.now) parts ≡ map (λ (p : Bor (List ℕ)). p.now) (take i parts) ++ (get_or parts i d).now ∷ map (λ (p : Bor (List ℕ)). p.now) (drop (suc i) parts)
-split_parts parts i d within =
-    ap (map (λ (p : Bor (List ℕ)). p.now)) (sym (take-append-drop i parts) ∙ ap (λ ps. take i parts ++ ps) (drop-cons parts i d within))
-    ∙ map-append (λ (p : Bor (List ℕ)). p.now) (take i parts) (get_or parts i d ∷ drop (suc i) parts)
+split_parts parts i d within = grind (arith, take-append-drop i parts, drop-cons parts i d within, map-append (λ (p : Bor (List ℕ)). p.now) (take i parts) (get_or parts i d ∷ drop (suc i) parts))
 
 -- ---- a log that was cut after lines
 
 cut_entries : (o : Options) (parts : List (List ℕ)) → AreCutAtLines parts → entries_of_parts o parts ≡ entries o.packing (concat parts)
 cut_entries o [] cut = refl
 cut_entries o (part ∷ []) cut = append-nil (entries o.packing part) ∙ ap (entries o.packing) (sym (append-nil part))
-cut_entries o (part ∷ next ∷ parts) cut =
-    ap (λ es. entries o.packing part ++ es) (cut_entries o (next ∷ parts) cut.1) ∙ sym (entries-append o.packing part (concat (next ∷ parts)) cut.0)
+cut_entries o (part ∷ next ∷ parts) cut = grind (arith, cut_entries o (next ∷ parts) cut.1, entries-append)
 
 pub prints_log : (t : TableParts) (o : Options) (parts : List (List ℕ)) (before after : Devices) (part : Part) → AreCutAtLines parts → TakesAll t o parts before after part → PrintsLog t o (concat parts) before after part
 unfolding out reports save

@@ -1,7 +1,6 @@
 -- The bytes of the lines that were taken, where a log has more lines.
-use Rattle.std.proofs.Common.{◌≡◌, inl, inr, ℕ, ◌<◌, ◌-◌, Bool, true, false, List, [], ◌∷◌, ◌++◌, length, get_or, map, refl, sym, ap, ◌∙◌, subst, append_assoc, arith, length-append, ◌⊎◌}
+use Rattle.std.proofs.Common.{◌≡◌, inl, inr, ℕ, ◌<◌, ◌-◌, Bool, true, false, List, [], ◌∷◌, ◌++◌, length, get_or, map, refl, sym, ap, ◌∙◌, subst, append_assoc, arith, length-append, ◌⊎◌, eqb-true}
 use Rattle.std.specs.Io.{IsEmptyOrEndsWith}
-use Rattle.std.proofs.lemmas.Bool.{eqb-true}
 use Rattle.std.proofs.lemmas.List.{append-nil, get_or-append_right}
 use Rattle.std.proofs.lemmas.List.Elements.{All-cons}
 use Rattle.n2k_wire.specs.declared.entry.Entry.{Entry}

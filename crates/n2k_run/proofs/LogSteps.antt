@@ -1,10 +1,9 @@
 -- What the steps of a join give of a log's lines is what the whole log says of them.
-use Rattle.std.proofs.Common.{◌≡◌, ℕ, suc, ◌+◌, ◌<◌, ◌≤◌, Bool, List, [], ◌∷◌, ◌++◌, length, Option, Some, refl, sym, ap, ◌∙◌, subst, append_assoc, append-nil, length-append, arith, option_and_then, option_to_list, slice_get, None, IfSome}
+use Rattle.std.proofs.Common.{◌≡◌, ℕ, ◌+◌, ◌<◌, ◌≤◌, Bool, List, [], ◌∷◌, ◌++◌, length, Option, Some, refl, sym, ap, ◌∙◌, subst, append_assoc, append-nil, length-append, arith, option_and_then, option_to_list, slice_get, IfSome}
 use Rattle.std.specs.List.{flat_map, range_with_len}
 use Rattle.n2k_wire.specs.declared.entry.Entry.{Entry}
 use Rattle.n2k_table.specs.declared.definition.Kind.{Kind}
-use Rattle.n2k_table.specs.Table.{KnownParts, TableParts, kind}
-use Rattle.n2k_wire.specs.Packet.{PacketParts}
+use Rattle.n2k_table.specs.Table.{TableParts, kind}
 use Rattle.n2k_join.specs.declared.step.Step.{Step}
 use Rattle.n2k_join.specs.declared.step.TableMessage.{TableMessage}
 use Rattle.n2k_join.specs.Counts.{most_lines}
@@ -62,9 +61,7 @@ at_place (b ∷ front) e es = at_place front e es
 
 -- the entry of the line after these
 entry_next : (front : List Entry) (e : Entry) (es : List Entry) → entry_at (front ++ e ∷ es) (length front + 1) ≡ Some e
-entry_next front e es =
-    let at : length front + 1 ≡ suc (length front) = omega arith in
-    ap (entry_at (front ++ e ∷ es)) at ∙ at_place front e es
+entry_next front e es = grind (arith, at_place front e es)
 
 -- The laws of the join on a log, with what ends its groups.
 pub record LogLaws (w : Window) : Type 0 where
@@ -133,9 +130,7 @@ module _ (t : TableParts) (o : Options) (laws : LogLaws o.window) (id : List ℕ
   texts_after = given_after (join_fold t o.empty).text (text_of_line t o) (λ front e es. ap (message_line t o.empty) (message_next front e es))
 
   report_next : (front : List Entry) (e : Entry) (es : List Entry) → (join_fold t o.empty).report (state id o.window (kind t) front) e ≡ report_at t o (front ++ e ∷ es) (length front + 1)
-  report_next front e es =
-      ap (λ g. line_report (length front + 1) g (step_given (kind t) (state id o.window (kind t) front) e).cause) (broken_next front e es)
-      ∙ ap (line_report (length front + 1) (broken o.window (kind t) (front ++ e ∷ es) (length front + 1))) (cause_next front e es)
+  report_next front e es = grind (arith, broken_next, cause_next)
 
   pub reports_after : (front es : List Entry) → reports_from (join_fold t o.empty) (state id o.window (kind t) front) es ≡ flat_map (report_at t o (front ++ es)) (numbers_after front es)
   reports_after = given_after (join_fold t o.empty).report (report_at t o) report_next
@@ -146,9 +141,7 @@ output_after-is t o laws id front = output_same o.packing (length front) _ _ _ _
 
 -- a message's PGN was looked up in this table, and is its own
 pub of_table : (t : TableParts) (o : Option TableMessage) → IfSome o (λ m. m.pgn ≡ record { table = t; pgn = m.packet.now.id.pgn }) → IfSome o (λ m. m.pgn.table ≡ t)
-of_table t None is = tt
-of_table t (Some m) is = ap (λ (k : KnownParts). k.table) is
+of_table t o is = grind arith
 
 pub of_pgn : (t : TableParts) (o : Option TableMessage) → IfSome o (λ m. m.pgn ≡ record { table = t; pgn = m.packet.now.id.pgn }) → IfSome o (λ m. m.pgn.pgn ≡ m.packet.now.id.pgn)
-of_pgn t None is = tt
-of_pgn t (Some m) is = ap (λ (k : KnownParts). k.pgn) is
+of_pgn t o is = grind arith

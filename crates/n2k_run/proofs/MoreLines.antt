@@ -1,5 +1,5 @@
 -- More of a log in memory: how the run over it ends.
-use Rattle.std.proofs.Common.{◌≡◌, refl, ◌⊎◌, None, ℕ, ◌+◌, ◌<◌, ◌≤◌, List, ◌∷◌, ◌++◌, length, length-append, arith, Option, Some, Result, Ok, Err, IfSome, ap, ◌∙◌, sym, subst, inl, inr}
+use Rattle.std.proofs.Common.{◌≡◌, ◌⊎◌, ℕ, ◌+◌, ◌<◌, ◌≤◌, List, ◌∷◌, ◌++◌, length, length-append, arith, Option, Some, Result, Ok, Err, ap, ◌∙◌, sym}
 use Rattle.std.specs.Io.{IsEmptyOrEndsWith}
 use Rattle.n2k_wire.specs.declared.entry.Entry.{Entry}
 use Rattle.n2k_table.specs.Table.{TableParts, kind}
@@ -8,7 +8,7 @@ use Rattle.n2k_join.specs.State.{State, state}
 use Rattle.n2k_run.specs.declared.fault.RunFault.{RunFault}
 use Rattle.n2k_run.specs.declared.fault.RunFault.TheVariants.{Read, Write, Report, Memory, TooManyLines}
 use Rattle.n2k_run.specs.declared.options.Options.{Options}
-use Rattle.n2k_run.specs.Decoded.{out, output_after, reports}
+use Rattle.n2k_run.specs.Decoded.{output_after}
 use Rattle.n2k_run.specs.Device.{HasFailed}
 use Rattle.n2k_run.specs.Entries.{entries}
 use Rattle.n2k_run.specs.Inner.Parts.{PartLeft}
@@ -24,17 +24,12 @@ use Rattle.n2k_run.proofs.LogSteps.{LogLaws}
 
 -- so many reads of a source that never fails were made only where it has as many bytes
 many_bytes : {P : Type 0} (log : List ℕ) (left : Option (List ℕ)) (calls : ℕ) → ReadsBytes 1 (Some log) left 0 calls → HasFailed 0 0 ⊎ (OutlastsReads 0 calls × P) → most_reads ≤ length log + 1
-many_bytes log left calls reads (inl (inl failed)) = absurd (omega (arith, failed))
-many_bytes log left calls reads (inl (inr full)) = absurd (omega (arith, full))
-many_bytes log left calls reads (inr (inl outlasts, same)) = omega (arith, reads.few, came_within log reads.came left reads.given, outlasts)
-many_bytes log left calls reads (inr (inr full, same)) = omega (arith, reads.few, came_within log reads.came left reads.given, full)
+many_bytes log left calls reads h = grind (arith, came_within)
 
 module _ (t : TableParts) (o : Options) (laws : LogLaws o.window) (front : List ℕ) (whole : IsEmptyOrEndsWith front line_feed) where
   -- the front and what was taken are as many lines as are counted, and one comes after them
   past_limit : (more : List ℕ) (taken : List Entry) (next : Entry) (rest : List Entry) → entries o.packing more ≡ taken ++ next ∷ rest → length (entries o.packing front) + length taken ≡ most_lines → most_lines < length (entries o.packing (front ++ more))
-  past_limit more taken next rest is full =
-      let all = ap length (both t o laws front whole more ∙ ap (λ es. entries o.packing front ++ es) is) ∙ length-append (entries o.packing front) (taken ++ next ∷ rest) in
-      omega (arith, all, length-append taken (next ∷ rest), full)
+  past_limit more taken next rest is full = grind (arith, both, length-append)
 
   takes_more : (more : List ℕ) (before after : Devices) (calls : ℕ) (left : Option (List ℕ)) (join : State) (x : Unit {0})
       → Runs (output_after t o (entries o.packing front)) (λ es. join ≡ state t.id o.window (kind t) (entries o.packing front ++ es)) (with_source before (Some more) 0 0) (with_source after left calls 0) (Ok x)
@@ -64,6 +59,4 @@ module _ (t : TableParts) (o : Options) (laws : LogLaws o.window) (front : List 
   pub ends_more : (more : List ℕ) (reader : PartLeft) (before after : Devices) (calls : ℕ) (left : Option (List ℕ)) (join : State) (result : Result (Unit {0}) RunFault) → reader ≡ record { left = more; calls = 0 }
       → Runs (output_after t o (entries o.packing front)) (λ es. join ≡ state t.id o.window (kind t) (entries o.packing front ++ es)) (with_source before (Some reader.left) reader.calls 0) (with_source after left calls 0) result
       → EndsMore t o front more before after join result
-  ends_more more reader before after calls left join result is runs =
-      ends_from more before after calls left join result
-      (subst (λ (s : PartLeft). Runs (output_after t o (entries o.packing front)) (λ es. join ≡ state t.id o.window (kind t) (entries o.packing front ++ es)) (with_source before (Some s.left) s.calls 0) (with_source after left calls 0) result) is runs)
+  ends_more more reader before after calls left join result is runs = grind (arith, ends_from)

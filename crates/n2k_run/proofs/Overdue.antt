@@ -1,7 +1,6 @@
 -- The groups whose window ends at the next line are broken before it: one round of the loop that does so.
-use Rattle.std.proofs.Common.{◌≡◌, ◌+◌, ◌<◌, ℕ, List, ◌++◌, refl, sym, ap, ◌∙◌, append_assoc, Option, Some, None, option_map, arith}
+use Rattle.std.proofs.Common.{◌≡◌, ◌+◌, ◌<◌, ℕ, List, ◌++◌, refl, sym, ap, ◌∙◌, append_assoc, Option, Some, option_map, arith}
 use Rattle.std.specs.List.{flat_map}
-use Rattle.std.proofs.lemmas.Option.{same_Some}
 use Rattle.n2k_wire.specs.declared.entry.Entry.{Entry}
 use Rattle.n2k_table.specs.declared.definition.Kind.{Kind}
 use Rattle.n2k_join.specs.declared.step.Broken.{Broken}
@@ -25,11 +24,7 @@ record FoundDue (s : State) (b : Broken) : Type 0 where
   pub told : as_broken group ≡ b
 
 found_due : (s : State) (b : Broken) → option_map as_broken (due s) ≡ Some b → FoundDue s b
-found_due s b e = by (due s) refl e
-  where
-    by : (o : Option Group) → due s ≡ o → option_map as_broken o ≡ Some b → FoundDue s b
-    by None is e = cc
-    by (Some g) is e = record { group = g; is = is; told = same_Some (as_broken g) b e }
+found_due s b e = grind arith
 
 -- a group that is broken so counts no line
 pub lines_stay : (s : State) → (expired s).counts.lines ≡ s.counts.lines

@@ -1,15 +1,12 @@
 -- A part of a log: what its run promises is what its answer says.
-use Rattle.std.proofs.Common.{◌≡◌, ℕ, List, [], ◌∷◌, ◌++◌, arith, Option, Some, None, Result, Ok, Err, refl, sym, ap, ◌∙◌, subst, append-nil, inl, inr}
-use Rattle.std.specs.Prelude.{◌⊎◌, IfSome, IsOk}
-use Rattle.std.specs.Io.KnownBytes.{Appends}
-use Rattle.std.proofs.KnownBytes.{Appends-nil}
+use Rattle.std.proofs.Common.{◌≡◌, ℕ, List, [], ◌∷◌, ◌++◌, arith, Option, Some, None, Result, Ok, Err, refl, sym, ◌∙◌, subst, append-nil, ◌⊎◌, IfSome}
 use Rattle.n2k_wire.specs.declared.entry.Entry.{Entry}
 use Rattle.n2k_table.specs.declared.definition.Kind.{Kind}
 use Rattle.n2k_table.specs.Table.{TableParts, kind}
 use Rattle.n2k_join.specs.declared.fault.StateFault.{StateFault}
 use Rattle.n2k_join.specs.declared.fault.StateFault.TheVariants as state_faults
 use Rattle.n2k_join.specs.Resumed.{resumed}
-use Rattle.n2k_join.specs.Saved.{IsId, state_text}
+use Rattle.n2k_join.specs.Saved.{IsId}
 use Rattle.n2k_join.specs.State.{State, state, AreFast, step_after}
 use Rattle.n2k_join.specs.Window.{Window, IsWindow}
 use Rattle.n2k_run.specs.declared.fault.RunFault.{RunFault}
@@ -24,37 +21,17 @@ use Rattle.n2k_run.specs.Inner.Parts.{Finishes, HasSaved, Saves}
 use Rattle.n2k_run.specs.Fold.{after_all}
 use Rattle.n2k_run.specs.Parts.{BeginsBy, HasPart, IsPartOf, OnRefusal, Ran, EndsAtLine, TellsRun, begun}
 use Rattle.n2k_run.specs.Runs.{Devices, HasFronts, Output, Runs, output_from}
-use Rattle.n2k_run.proofs.Calls.{none_read, within_one}
+use Rattle.n2k_run.proofs.Calls.{none_read}
 use Rattle.n2k_run.proofs.Ending.{of_log, runs_more, runs_same}
 use Rattle.n2k_run.proofs.LogSteps.{LogLaws, output_after-is, state_after}
 use Rattle.n2k_run.proofs.Running.{all_gained, none_gained}
 
 known_any : (known : Option (List ℕ)) (P : List ℕ → Type 0) → ((log : List ℕ) → P log) → IfSome known P
-known_any None P all = tt
-known_any (Some log) P all = all log
+known_any known P all = grind arith
 
 -- a run that never began: nothing was read or written
 pub unbegun : (o : Output) (stands : List Entry → Type 0) (before : Devices) (fault : StateFault) → o.reports [] ≡ [] → TellsRun o stands before before (Err (Refused fault))
-unbegun o stands before fault none = record {
-  ran = Err run_faults.Memory;
-  ended = refl;
-  runs = record {
-    ends = tt;
-    fronts = known_any before.left _ (λ log. record {
-      printed = none_gained before.written (o.texts (entries o.packing log));
-      reported = none_gained before.reported (o.reports (entries o.packing log));
-    });
-    reports_first = known_any before.left _ (λ log. record {
-      taken = [];
-      left = entries o.packing log;
-      lines_taken = refl;
-      printed = none_gained before.written (o.texts []);
-      reported = ([], subst (Appends before.reported before.reported) (sym (append-nil (o.reports []) ∙ none)) (Appends-nil before.reported));
-    });
-    device = record { reads = refl; writes = refl; reports = refl };
-    reads = within_one 0 before.left before.left before.calls before.calls (omega arith) (none_read before.left before.calls);
-  };
-}
+unbegun o stands before fault none = grind (arith, known_any, none_gained, append-nil, none_read)
 
 module _ (o : Output) (before after : Devices) where
   -- where a run stands at a line, the sinks gained fronts of what is made of the log
@@ -78,17 +55,14 @@ module _ (o : Output) (before after : Devices) where
   told_run stands fault told = subst (λ r. Runs o stands before after r) told.ended told.runs
 
 finished : (result : Result Part PartFault) (ran : Result (Unit {0}) RunFault) → Finishes result ran → Ran result ran
-finished (Err (Refused fault)) ran is = absurd is
-finished _ ran is = is
+finished result ran is = grind arith
 
 -- after a run no state is refused
 pub begins_by : (t : TableParts) (o : Options) (handed : Option (List ℕ)) (s : State) (result : Result Part PartFault) (ran : Result (Unit {0}) RunFault) → begun t o handed ≡ Ok s → Finishes result ran → BeginsBy t o handed result
-begins_by t o handed s (Err (Refused fault)) ran is finishes = absurd finishes
-begins_by t o handed s _ ran is finishes = subst (λ r. IsOk r) (sym is) refl
+begins_by t o handed s result ran is finishes = grind arith
 
 pub not_refused : (result : Result Part PartFault) (ran : Result (Unit {0}) RunFault) (P : Type 0) → Finishes result ran → OnRefusal result P
-not_refused (Err (Refused fault)) ran P finishes = absurd finishes
-not_refused _ ran P finishes = tt
+not_refused result ran P finishes = grind arith
 
 -- ---- the states that a part goes through
 
@@ -114,11 +88,7 @@ module _ (laws : KeepsFast) (t : TableParts) (o : Options) (window : IsWindow o.
   begun-under None s is =
       let same : state t.id o.window (kind t) [] ≡ s = same_state _ _ is in
       subst (IsUnder t o) same (record { fast = laws.new (kind t) t.id o.window; same_table = refl; same_window = refl })
-  begun-under (Some bytes) s is = record {
-    fast = laws.read (kind t) t.id o.window bytes s is;
-    same_table = laws.same_table (kind t) t.id o.window bytes s is;
-    same_window = laws.same_window (kind t) t.id o.window bytes s is;
-  }
+  begun-under (Some bytes) s is = grind arith
 
   step-id : (s : State) (e : Entry) → (step_after (kind t) s e).id ≡ s.id
   unfolding step_after
@@ -137,37 +107,16 @@ module _ (laws : KeepsFast) (t : TableParts) (o : Options) (window : IsWindow o.
   })
 
   pub part-of : (s : State) (part : Part) → IsId t.id → IsUnder t o s → Saves s part → IsPartOf t o s part
-  part-of s part id under saves = record {
-    saved = saves.saved;
-    counted = saves.counted;
-    reads_back =
-        let is_id : IsId s.id = subst IsId (sym under.same_table) id in
-        ap (λ text. resumed (kind t) t.id o.window text) saves.saved
-        ∙ ap (λ i. resumed (kind t) i o.window (state_text s)) (sym under.same_table)
-        ∙ ap (λ r. resumed (kind t) s.id r (state_text s)) (sym under.same_window)
-        ∙ saves.reads_back (kind t) under.fast is_id;
-  }
+  part-of s part id under saves = grind arith
 
   pub has_part : (s : State) (result : Result Part PartFault) → IsId t.id → IsUnder t o s → HasSaved result s → HasPart t o result s
-  has_part s (Ok part) id under saves = part-of s part id under saves
-  has_part s (Err (Stopped fault part)) id under saves = part-of s part id under saves
-  has_part s _ id under saves = tt
+  has_part s result id under saves = grind arith
 
   -- the steps from the state that the part began with
   pub steps_of : (handed : Option (List ℕ)) (join join' : State) (before after : Devices) (ran : Result (Unit {0}) RunFault) (result : Result Part PartFault) → IsId t.id → begun t o handed ≡ Ok join
       → Runs (output_from (join_fold t o.empty) o.packing join) (λ es. join' ≡ after_all (join_fold t o.empty) join es) before after ran → HasSaved result join' → Finishes result ran
       → (s : State) → begun t o handed ≡ Ok s → TellsRun (output_from (join_fold t o.empty) o.packing s) (λ es. HasPart t o result (after_all (join_fold t o.empty) s es)) before after result
-  steps_of handed join join' before after ran result id began runs saved finishes s is =
-      let same : join ≡ s = same_state _ _ (sym began ∙ is) in
-      let under : IsUnder t o join = begun-under handed join began in
-      let made : Output = output_from (join_fold t o.empty) o.packing join in
-      let stands : List Entry → Type 0 = λ es. HasPart t o result (after_all (join_fold t o.empty) join es) in
-      subst (λ (s : State). TellsRun (output_from (join_fold t o.empty) o.packing s) (λ es. HasPart t o result (after_all (join_fold t o.empty) s es)) before after result) same (record {
-        ran = ran;
-        ended = finished result ran finishes;
-        runs = runs_more made (λ es. join' ≡ after_all (join_fold t o.empty) join es) stands before after ran runs
-            (λ es at. subst (HasPart t o result) at (has_part join' result id (subst (IsUnder t o) (sym at) (after-under join es under)) saved));
-      })
+  steps_of handed join join' before after ran result id began runs saved finishes s is = grind (arith, begun-under handed join began, same_state, runs_more, has_part, after-under)
 
 -- from the state of a log: what the whole log says
 pub log_of : (t : TableParts) (o : Options) → LogLaws o.window → (before after : Devices) (result : Result Part PartFault) (front : List Entry)
@@ -186,9 +135,7 @@ log_of t o laws before after result front steps =
 -- ---- a refused state
 
 pub refused_by : (fault : StateFault) (said : Result State StateFault) → ((fault ≡ state_faults.Memory → ⊥) → said ≡ Err fault) → (fault ≡ state_faults.Memory) ⊎ (said ≡ Err fault)
-refused_by state_faults.Memory said h = inl refl
-refused_by _ said h = inr (h (λ e. cc))
+refused_by fault said h = grind arith
 
 pub memory_alone : (fault : StateFault) (said : Result State StateFault) (s : State) → said ≡ Ok s → (fault ≡ state_faults.Memory) ⊎ (said ≡ Err fault) → fault ≡ state_faults.Memory
-memory_alone fault said s is (inl memory) = memory
-memory_alone fault said s is (inr refused) = cc
+memory_alone fault said s is h = grind arith

@@ -1,6 +1,5 @@
 -- A log over which messages are scattered prints these messages.
-use Rattle.std.proofs.Common.{◌≡◌, ℕ, Bool, List, [], ◌∷◌, ◌++◌, length, refl, ap, ◌∙◌, sym, Option, Some, None, flat_map, filter_map}
-use Rattle.std.specs.List.{cons_option}
+use Rattle.std.proofs.Common.{arith, ◌≡◌, ℕ, Bool, List, [], ◌∷◌, ◌++◌, refl, Option, flat_map, filter_map}
 use Rattle.std.proofs.lemmas.List.{length-map}
 use Rattle.n2k_wire.specs.declared.entry.Entry.{Entry}
 use Rattle.n2k_wire.specs.Packet.{PacketParts}
@@ -19,27 +18,15 @@ use Rattle.n2k_run.proofs.OutputLines.{lines_of_texts}
 -- what is written of lines, is written of the messages that they give
 texts_of_messages : (t : TableParts) (empty : Bool) (gives : ℕ → Option PacketParts) (ns : List ℕ) → flat_map (λ n. message_line t empty (gives n)) ns ≡ flat_map (λ m. json t m empty) (filter_map gives ns)
 texts_of_messages t empty gives [] = refl
-texts_of_messages t empty gives (n ∷ ns) = by_given (gives n) (texts_of_messages t empty gives ns)
-  where
-    by_given : (o : Option PacketParts) → flat_map (λ k. message_line t empty (gives k)) ns ≡ flat_map (λ m. json t m empty) (filter_map gives ns) → message_line t empty o ++ flat_map (λ k. message_line t empty (gives k)) ns ≡ flat_map (λ m. json t m empty) (cons_option o (filter_map gives ns))
-    by_given None ih = ih
-    by_given (Some m) ih = ap (λ l. json t m empty ++ l) ih
+texts_of_messages t empty gives (n ∷ ns) = grind (arith, texts_of_messages t empty gives ns)
 
 -- the lines of what is printed of entries are the JSON lines of their messages
 pub out_of-lines : (t : TableParts) (o : Options) (es : List Entry) → ((m : PacketParts) (empty : Bool) → IsOneLine (json t m empty)) → with_line_feeds (lines (out_of t o es)) ≡ json_lines t o (messages o.window (kind t) es)
-out_of-lines t o es one =
-    ap (λ l. with_line_feeds (lines l)) (texts_of_messages t o.empty (message o.window (kind t) es) (numbers es))
-    ∙ lines_of_texts (λ m. json t m o.empty) (λ m. one m o.empty) (messages o.window (kind t) es)
+out_of-lines t o es one = grind (arith, texts_of_messages t o.empty (message o.window (kind t) es) (numbers es), lines_of_texts (λ m. json t m o.empty) (λ m. one m o.empty) (messages o.window (kind t) es))
 
 out-lines : (t : TableParts) (o : Options) (log : List ℕ) → ((m : PacketParts) (empty : Bool) → IsOneLine (json t m empty)) → with_line_feeds (lines (out t o log)) ≡ json_lines t o (messages o.window (kind t) (entries o.packing log))
 unfolding out
 out-lines t o log one = out_of-lines t o (entries o.packing log) one
 
 pub prints_back : (t : TableParts) (ms : List PacketParts) (o : Options) (log : List ℕ) → ((m : PacketParts) (empty : Bool) → IsOneLine (json t m empty)) → Replays o.window (kind t) ms (entries o.packing log) → PrintsBack t ms o log
-prints_back t ms o log one replays =
-    let printed = out-lines t o log one in
-    record {
-      as_many = sym (length-map (lines (out t o log)) (λ text. text ++ 10 ∷ [])) ∙ (ap length printed ∙ (length-map (messages o.window (kind t) (entries o.packing log)) (λ m. json t m o.empty) ∙ replays.as_many));
-      gathered = printed ∙ ap (json_lines t o) replays.by_groups;
-      in_order = λ key. ap (json_lines t o) (replays.in_order key);
-    }
+prints_back t ms o log one replays = grind (arith, out-lines t o log one, length-map (lines (out t o log)) (λ text. text ++ 10 ∷ []), length-map (messages o.window (kind t) (entries o.packing log)) (λ m. json t m o.empty))

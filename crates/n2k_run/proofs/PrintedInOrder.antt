@@ -1,6 +1,6 @@
 -- In order each line that is printed tells a message that is one by itself, or one of consecutive frames.
-use Rattle.std.proofs.Common.{◌≡◌, ℕ, Bool, true, List, [], ◌∷◌, ◌++◌, refl, sym, ap, ◌∙◌, subst, Option, Some, None, ◌⊎◌, filter_map, option_map, option_and_then, inl, inr}
-use Rattle.std.specs.List.{AllByRecursion, cons_option}
+use Rattle.std.proofs.Common.{arith, ◌≡◌, ℕ, Bool, List, [], ◌∷◌, ◌++◌, refl, Option, Some, None, ◌⊎◌, filter_map, option_map, option_and_then, inl, inr}
+use Rattle.std.specs.List.{AllByRecursion}
 use Rattle.std.specs.Option.{option_or}
 use Rattle.std.proofs.lemmas.List.Elements.{All-from_recursion}
 use Rattle.std.proofs.lemmas.Option.{none-some, same_Some}
@@ -9,11 +9,11 @@ use Rattle.n2k_wire.specs.Packet.{PacketParts}
 use Rattle.n2k_table.specs.Json.{json}
 use Rattle.n2k_table.specs.OneLine.{IsOneLine}
 use Rattle.n2k_table.specs.Table.{TableParts, kind}
-use Rattle.n2k_join.specs.Frames.{Frame, frames}
-use Rattle.n2k_join.specs.Groups.{within, complete}
-use Rattle.n2k_join.specs.Messages.{Keyed, alone, entry_at, gathered, message, message_of, numbers}
+use Rattle.n2k_join.specs.Frames.{frames}
+use Rattle.n2k_join.specs.Groups.{within}
+use Rattle.n2k_join.specs.Messages.{Keyed, alone, entry_at, gathered, message, numbers}
 use Rattle.n2k_join.specs.Replay.{messages}
-use Rattle.n2k_join.specs.Consecutive.{ComesOfConsecutive, AreConsecutive}
+use Rattle.n2k_join.specs.Consecutive.{ComesOfConsecutive}
 use Rattle.n2k_run.specs.declared.options.Options.{Options}
 use Rattle.n2k_run.specs.Decoded.{out, out_of}
 use Rattle.n2k_run.specs.Entries.{entries}
@@ -33,11 +33,7 @@ Comes t es m = ComesAlone t es m ⊎ ComesInOrder t es m
 -- what each line gives
 all_given : {Y : Type 0} (P : Y → Type 0) (gives : ℕ → Option Y) → ((n : ℕ) (y : Y) → gives n ≡ Some y → P y) → (ns : List ℕ) → AllByRecursion P (filter_map gives ns)
 all_given P gives each [] = tt
-all_given {Y} P gives each (n ∷ ns) = by (gives n) refl (all_given P gives each ns)
-  where
-    by : (o : Option Y) → gives n ≡ o → AllByRecursion P (filter_map gives ns) → AllByRecursion P (cons_option o (filter_map gives ns))
-    by None is rest = rest
-    by (Some y) is rest = (each n y is, rest)
+all_given {Y} P gives each (n ∷ ns) = grind (arith, all_given P gives each ns)
 
 -- texts that are the JSON lines of messages tell them
 told : (t : TableParts) (o : Options) (es : List Entry) (ls : List (List ℕ)) (ms : List PacketParts) → with_line_feeds ls ≡ json_lines t o ms → AllByRecursion (Comes t es) ms → AllByRecursion (TellsOne t o es) ls
@@ -50,14 +46,7 @@ told t o es (l ∷ ls) (m ∷ ms) is each =
 
 module _ (t : TableParts) (o : Options) (laws : OrderLaws t o) (es : List Entry) where
   of_group : (k : Keyed) (m : PacketParts) (line : ℕ) → k.message ≡ m → ComesOfConsecutive (kind t) es line k → ComesInOrder t es m
-  of_group k m line is one = record {
-    key = k.key;
-    before_last = one.before_last;
-    last = one.last;
-    in_order = subst (AreConsecutive k.key (frames (kind t) es)) one.ends_with one.consecutive;
-    whole = subst (λ (g : List Frame). complete g ≡ true) one.ends_with one.whole;
-    is = sym is ∙ one.is_of_last ∙ ap (message_of one.last) one.ends_with;
-  }
+  of_group k m line is one = grind arith
 
   -- the message of a line
   comes : (line : ℕ) (m : PacketParts) → message o.window (kind t) es line ≡ Some m → Comes t es m

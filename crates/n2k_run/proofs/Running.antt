@@ -1,5 +1,5 @@
 -- The engine of the runs: what stands after each step, and what each end leaves.
-use Rattle.std.proofs.Common.{◌≡◌, inl, inr, ℕ, true, false, List, [], ◌∷◌, ◌++◌, length, refl, sym, ap, ◌∙◌, subst, append_assoc, arith, length-append, Option, Some, None, Result, Ok, Err, IfSome, if◌then◌else◌, append-nil}
+use Rattle.std.proofs.Common.{◌≡◌, inl, inr, ℕ, true, false, List, [], ◌∷◌, ◌++◌, length, refl, sym, ap, ◌∙◌, subst, append_assoc, arith, length-append, Option, Result, Ok, Err, IfSome, if◌then◌else◌, append-nil}
 use Rattle.std.specs.Io.KnownBytes.{Appends, Consumes}
 use Rattle.std.proofs.KnownBytes.{Appends-nil, Appends-trans, Consumes-nil, Consumes-trans}
 use Rattle.n2k_wire.specs.declared.entry.Entry.{Entry}
@@ -16,7 +16,6 @@ use Rattle.n2k_run.specs.Runs.{AreNumbered, Devices, RunEnds, Gained, IsOfDevice
 use Rattle.n2k_run.specs.Writing.{AppendsFront}
 use Rattle.n2k_run.specs.Inner.Engine.{FailsPending, Made, MovesOn, ReadsNext, BetweenLines, Unmoved, TakesNext, WritesPending}
 use Rattle.n2k_run.proofs.Calls.{ended_within_one, none_read as no_calls, reads_on}
-use Rattle.n2k_run.proofs.Finding.{calls_end}
 use Rattle.n2k_run.proofs.Folds.{after-append, given-append}
 use Rattle.n2k_run.proofs.Fronts.{Leads, leads, takes_more, whole_front}
 
@@ -29,17 +28,14 @@ all_gained old new text appended = ([], record { front = text; appended = append
 
 -- a front of a text that has more after it
 longer_front : (old new : Option (List ℕ)) (text more whole : List ℕ) → AppendsFront old new text → whole ≡ text ++ more → AppendsFront old new whole
-longer_front old new text more whole (rest, owes) is =
-    (rest ++ more, record { front = owes.front; appended = owes.appended; still = is ∙ ap (λ t. t ++ more) owes.still ∙ append_assoc owes.front rest more })
+longer_front old new text more whole (rest, owes) is = grind (arith, append_assoc)
 
 -- a front of what follows a text
 more_front : (old mid new : Option (List ℕ)) (text part whole : List ℕ) → Appends old mid text → AppendsFront mid new part → whole ≡ text ++ part → AppendsFront old new whole
-more_front old mid new text part whole first (rest, owes) is =
-    (rest, record { front = text ++ owes.front; appended = Appends-trans old mid new text owes.front first owes.appended; still = is ∙ ap (λ p. text ++ p) owes.still ∙ sym (append_assoc text owes.front rest) })
+more_front old mid new text part whole first (rest, owes) is = grind (arith, append_assoc)
 
 pub known_more : (known : Option (List ℕ)) (P Q : List ℕ → Type 0) → ((log : List ℕ) → P log → Q log) → IfSome known P → IfSome known Q
-known_more None P Q follows p = tt
-known_more (Some log) P Q follows p = follows log p
+known_more known P Q follows p = grind arith
 
 -- A sink failed once the next line had its fault: then something was kept, so that the fault is none of the source.
 pub none_read : {S : Type 0} (m : Fold S) (packing : Packing) (s s' : S) (held held' : Held) (text text' report report' : List ℕ) (left₀ left : Option (List ℕ)) (failed₀ failed : ℕ) (w w' e e' : Option (List ℕ)) (fault sink : RunFault)
@@ -101,18 +97,7 @@ module _ {S : Type 0} (m : Fold S) (packing : Packing) (s₀ : S) (before : Devi
 
   -- all that is kept was written
   made_written : (s : S) (es : List Entry) (text report : List ℕ) (now after : Devices) → MadeOf s es text report now → Appends now.written after.written text → Appends now.reported after.reported report → MadeOf s es [] [] after
-  made_written s es text report now after made texts reports = record {
-    written = es;
-    kept = [];
-    entries_are = sym (append-nil es);
-    state = made.state;
-    printed = all_out m.text es made.written made.kept text _ _ _ made.entries_are made.text_is made.printed texts;
-    reported = all_out m.report es made.written made.kept report _ _ _ made.entries_are made.report_is made.reported reports;
-    text_is = refl;
-    report_is = refl;
-    counted = made.counted;
-    numbered = made.numbered;
-  }
+  made_written s es text report now after made texts reports = grind (arith, append-nil es, all_out)
 
   pub writes : (s : S) (held : Held) (text report : List ℕ) (now : Devices) (w' e' : Option (List ℕ)) (fw' fe' : ℕ) (text' report' : List ℕ) → BetweenLines m packing s₀ s held text report before now
       → Appends now.written w' text × Appends now.reported e' report → (fw' ≡ now.failed_writes) × (fe' ≡ now.failed_reports) → (text' ≡ []) × (report' ≡ [])
@@ -133,21 +118,7 @@ module _ {S : Type 0} (m : Fold S) (packing : Packing) (s₀ : S) (before : Devi
 
   -- one entry more was made
   made_more : (s s' : S) (es : List Entry) (x : Entry) (text text' report report' : List ℕ) (now : Devices) → MadeOf s es text report now → MovesOn m s s' x text text' report report' → MadeOf s' (es ++ (x ∷ [])) text' report' now
-  made_more s s' es x text text' report report' now made moves =
-      let mid : S = after_all m s₀ made.written in
-      let here : after_all m mid made.kept ≡ s = sym (after-append m s₀ made.written made.kept) ∙ ap (after_all m s₀) (sym made.entries_are) ∙ sym made.state in
-      record {
-        written = made.written;
-        kept = made.kept ++ (x ∷ []);
-        entries_are = ap (λ es. es ++ (x ∷ [])) made.entries_are ∙ append_assoc made.written made.kept (x ∷ []);
-        state = moves.state_after ∙ ap (λ s. m.after s x) made.state ∙ sym (after-append m s₀ es (x ∷ []));
-        printed = made.printed;
-        reported = made.reported;
-        text_is = moves.text_after ∙ ap (λ t. t ++ m.text s x) made.text_is ∙ ap (λ s. texts_from m mid made.kept ++ m.text s x) (sym here) ∙ ap (λ t. texts_from m mid made.kept ++ t) (sym (append-nil (m.text (after_all m mid made.kept) x))) ∙ sym (given-append m m.text mid made.kept (x ∷ []));
-        report_is = moves.report_after ∙ ap (λ t. t ++ m.report s x) made.report_is ∙ ap (λ s. reports_from m mid made.kept ++ m.report s x) (sym here) ∙ ap (λ t. reports_from m mid made.kept ++ t) (sym (append-nil (m.report (after_all m mid made.kept) x))) ∙ sym (given-append m m.report mid made.kept (x ∷ []));
-        counted = omega (arith, moves.counted, made.counted, length-append es (x ∷ []));
-        numbered = λ some. omega (arith, moves.few, made.counted, length-append es (x ∷ []));
-      }
+  made_more s s' es x text text' report report' now made moves = grind (arith, after-append, append_assoc, append-nil, given-append, length-append)
 
   made_still : (s s' : S) (es : List Entry) (text text' report report' : List ℕ) (now : Devices) → MadeOf s es text report now → Unmoved s s' text text' report report' → MadeOf s' es text' report' now
   made_still s s' es text text' report report' now made still = rw (still.same_state, still.same_text, still.same_report) made
@@ -157,10 +128,7 @@ module _ {S : Type 0} (m : Fold S) (packing : Packing) (s₀ : S) (before : Devi
   read_on now left calls failed = record now { left = left; calls = calls; failed_reads = failed }
 
   calls_trans : (c₀ c c' r₀ r r' : ℕ) → CallsAre c₀ c r₀ r → CallsAre c c' r r' → CallsAre c₀ c' r₀ r'
-  calls_trans c₀ c c' r₀ r r' (rise, inl p) (rises, inl q) = (omega (arith, rise, rises), inl (omega (arith, p, q)))
-  calls_trans c₀ c c' r₀ r r' (rise, inl p) (rises, inr q) = (omega (arith, rise, rises), inr q)
-  calls_trans c₀ c c' r₀ r r' (rise, inr p) (rises, inl q) = (omega (arith, rise, rises), inr (omega (arith, p, q, rises)))
-  calls_trans c₀ c c' r₀ r r' (rise, inr p) (rises, inr q) = (omega (arith, rise, rises), inr q)
+  calls_trans c₀ c c' r₀ r r' h is = grind arith
 
   pub takes : (s s' : S) (held held' : Held) (text text' report report' : List ℕ) (now : Devices) (left : Option (List ℕ)) (calls failed : ℕ) → BetweenLines m packing s₀ s held text report before now → held.has_ended ≡ false
       → TakesNext {T = Unit {0}} m packing s s' held held' now.left left text text' report report' (Ok tt) → failed ≡ now.failed_reads → CallsAre now.calls calls held.reads held'.reads → ReadsBytes (if held'.has_ended then 1 else 0) now.left left now.calls calls
@@ -381,11 +349,7 @@ module _ {S : Type 0} (m : Fold S) (packing : Packing) (s₀ : S) (before : Devi
   fault_device : (now after : Devices) (s s' : S) (held held' : Held) (text text' report report' : List ℕ) (fault : RunFault) → NoneFailed before now → (after.failed_writes ≡ now.failed_writes) × (after.failed_reports ≡ now.failed_reports) → CallsAre before.calls after.calls 0 held'.reads
       → TakesNext {T = Unit {0}} m packing s s' held held' now.left after.left text text' report report' (Err fault) → ReadsNext {T = Unit {0}} held' now.failed_reads after.failed_reads (Err fault)
       → IsOfDevice {T = Unit {0}} before after (Err fault)
-  fault_device now after s s' held held' text text' report report' Read none hold called next reads = record {
-    reads = elim reads [ inl p ↦ inl (subst (λ n. HasFailed n after.failed_reads) none.reads p) | inr p ↦ inr (calls_end before.calls after.calls held'.reads called p.0, p.1 ∙ none.reads) ];
-    writes = hold.0 ∙ none.writes;
-    reports = hold.1 ∙ none.reports;
-  }
+  fault_device now after s s' held held' text text' report report' Read none hold called next reads = grind arith
   fault_device now after s s' held held' text text' report report' Write none hold called next reads = absurd next
   fault_device now after s s' held held' text text' report report' Report none hold called next reads = absurd next
   fault_device now after s s' held held' text text' report report' _ none hold called next reads = record { reads = reads ∙ none.reads; writes = hold.0 ∙ none.writes; reports = hold.1 ∙ none.reports }

@@ -1,6 +1,6 @@
 -- What is saved after the front of a log reads back.
-use Rattle.std.proofs.Common.{◌≡◌, ℕ, ◌≤◌, List, [], ◌∷◌, map, length, Some, Ok, All, Option}
-use Rattle.std.proofs.lemmas.List.Elements.{All-nil, All-cons}
+use Rattle.std.proofs.Common.{arith, ◌≡◌, ℕ, ◌≤◌, List, [], ◌∷◌, map, length, Some, Ok, All, Option}
+use Rattle.std.proofs.lemmas.List.Elements.{All-nil}
 use Rattle.n2k_wire.specs.declared.entry.Entry.{Entry}
 use Rattle.n2k_wire.specs.declared.entry.Packing.{Packing}
 use Rattle.n2k_wire.specs.Entry.{entry, IsEntry}
@@ -24,8 +24,7 @@ pub record SavedLaws : Type 0 where
 
 all_are : SavedLaws → (packing : Packing) (texts : List (List ℕ)) → All IsEntry (map (λ line. entry line packing) texts)
 all_are laws packing [] = All-nil IsEntry
-all_are laws packing (text ∷ texts) =
-    All-cons IsEntry (entry text packing) (map (λ line. entry line packing) texts) (laws.are_entries text packing) (all_are laws packing texts)
+all_are laws packing (text ∷ texts) = grind (arith, all_are laws packing texts)
 
 pub front_back : SavedLaws → (t : TableParts) (o : Options) (front : List ℕ) → IsWindow o.window.lines → IsId t.id → length (entries o.packing front) ≤ most_lines → begun t o (Some (save t o front)) ≡ Ok (state_after t o front)
 unfolding save

@@ -1,27 +1,21 @@
 -- The frames of one message, and their lines.
-use Rattle.std.proofs.Common.{◌≡◌, ◌≤◌, ◌<◌, ◌+◌, ◌*◌, ℕ, zero, suc, Bool, true, false, cond, List, [], ◌∷◌, ◌++◌, length, get_or, map, take, refl, sym, ap, ◌∙◌, append_assoc, subst, arith, codes, Option, Some, None, Result, Ok, Err}
-use Rattle.std.specs.Prelude.{IsOkUnless, MatchOption, nat_le, option_map, slice_get}
+use Rattle.std.proofs.Common.{◌≡◌, ◌≤◌, ◌<◌, ◌+◌, ◌*◌, ℕ, zero, suc, Bool, true, false, cond, List, [], ◌∷◌, ◌++◌, length, get_or, map, take, refl, ap, ◌∙◌, append_assoc, arith, codes, Option, Some, None, Result, Ok, Err, IsOkUnless, MatchOption, option_map, slice_get, is_none, leb-true, append-nil}
 use Rattle.std.specs.List.{AllByRecursion, range_with_len}
-use Rattle.std.specs.Option.{is_none}
 use Rattle.std.proofs.Math.Seq.{take-append_seam, take-suc, take_all}
-use Rattle.std.proofs.lemmas.Bool.{leb-true}
-use Rattle.std.proofs.lemmas.List.{append-nil}
 use Rattle.std.proofs.lemmas.List.Concat.{flat_map-append}
 use Rattle.std.proofs.lemmas.List.FromFn.{length-map-range_with_len}
 use Rattle.std.proofs.lemmas.Option.{get_or_from_slice_get, slice_get_within}
 use Rattle.n2k_wire.specs.declared.entry.BadCause.{BadCause}
 use Rattle.n2k_wire.specs.declared.fault.WireFault.{WireFault}
-use Rattle.n2k_wire.specs.declared.fault.WireFault.TheVariants.{Memory}
 use Rattle.n2k_wire.specs.Candump.{frame_payload}
 use Rattle.n2k_wire.specs.Packet.{PacketParts}
 use Rattle.n2k_wire.specs.Stamp.{Moment}
 use Rattle.n2k_wire.specs.Steps.{◌>>=◌}
 use Rattle.n2k_wire.specs.Texts.{Appends, candump_line, candump_parts}
 use Rattle.n2k_table.specs.declared.definition.Kind.{Kind}
-use Rattle.n2k_table.specs.declared.definition.Kind.TheVariants.{Single, Fast}
 use Rattle.n2k_join.specs.declared.fault.SplitFault.{SplitFault}
 use Rattle.n2k_join.specs.declared.fault.SplitFault.TheVariants as unsplit
-use Rattle.n2k_join.specs.Pieces.{Sequences, last_piece, piece, piece_bytes, pieces_as, pieces_by, raised, sent_byte, stream_of}
+use Rattle.n2k_join.specs.Pieces.{Sequences, piece, piece_bytes, pieces_as, pieces_by, raised, sent_byte, stream_of}
 use Rattle.n2k_join.specs.Splitter.{refusal}
 use Rattle.n2k_run.specs.declared.frames.Outcome.{Outcome}
 use Rattle.n2k_run.specs.declared.frames.Outcome.TheVariants.{Written, Bad}
@@ -43,21 +37,14 @@ piece_parts m s n = refl
 
 pieces_are : (m : PacketParts) (s first n : ℕ) → AllByRecursion (IsFrameOf m) (map (piece m s) (range_with_len first n))
 pieces_are m s first zero = tt
-pieces_are m s first (suc n) =
-    (record { parts_are = piece_parts m s first; short = omega (arith, seven m first) }, pieces_are m s (first + 1) n)
+pieces_are m s first (suc n) = grind (arith, pieces_are m s (first + 1) n, piece_parts, seven)
 
 single_fits : (b : Bool) → cond b None (Some unsplit.TooLong) ≡ None → b ≡ true
-single_fits true e = refl
-single_fits false e = absurd (some_none e)
-  where
-    some_none : Some unsplit.TooLong ≡ None → ⊥
-    some_none e = cc
+single_fits b e = grind arith
 
 frames_are : (k : Option Kind) (m : PacketParts) (s : ℕ) → refusal k m ≡ None → AllByRecursion (IsFrameOf m) (pieces_as k m s)
 unfolding pieces_as
-frames_are None m s e = tt
-frames_are (Some Single) m s e = (record { parts_are = refl; short = leb-true _ _ (single_fits (nat_le (length m.payload) frame_payload) e) }, tt)
-frames_are (Some Fast) m s e = pieces_are m s 0 (last_piece m + 1)
+frames_are k m s e = grind (arith, leb-true, pieces_are)
 
 -- one of them
 at : {A : Type 0} (P : A → Type 0) (xs : List A) (n : ℕ) (d : A) → AllByRecursion P xs → n < length xs → P (get_or xs n d)
@@ -66,17 +53,14 @@ at P (x ∷ xs) zero d all within = all.0
 at P (x ∷ xs) (suc n) d all within = at P xs n d all.1 (omega (arith, within))
 
 pub frame_of : (k : Option Kind) (m : PacketParts) (s : ℕ) (ps : List PacketParts) (n : ℕ) (p : PacketParts) → ps ≡ pieces_as k m s → refusal k m ≡ None → slice_get ps n ≡ Some p → IsFrameOf m p
-frame_of k m s ps n p are split is =
-    let all = subst (AllByRecursion (IsFrameOf m)) (sym are) (frames_are k m s split) in
-    subst (IsFrameOf m) (get_or_from_slice_get ps n p p is) (at (IsFrameOf m) ps n p all (slice_get_within ps n p is))
+frame_of k m s ps n p are split is = grind (arith, frames_are k m s split, get_or_from_slice_get ps n p p is, slice_get_within ps n p is, at)
 
 ok_err : {A E : Type 0} (x : A) (fault : E) → Ok x ≡ Err fault → ⊥
 ok_err x fault e = cc
 
 -- a message that was split isn't refused
 pub split_of : {A : Type 0} (refused : Option SplitFault) (x : A) → MatchOption refused (IsOkUnless (Ok x) unsplit.Memory) (λ fault. Ok x ≡ Err fault) → refused ≡ None
-split_of None x e = refl
-split_of (Some fault) x e = absurd (ok_err x fault e)
+split_of refused x e = grind arith
 
 -- A frame's line was appended: the message is seen at the interface.
 pub record IsLineAppended (interface : Option (List ℕ)) (m p : PacketParts) (old new : List ℕ) : Type 0 where
@@ -85,52 +69,37 @@ pub record IsLineAppended (interface : Option (List ℕ)) (m p : PacketParts) (o
 
 by_parts : (interface : List ℕ) (m p : PacketParts) (parts : Result (Moment × ℕ) WireFault) (old new : List ℕ) → candump_parts p ≡ parts → candump_parts p ≡ candump_parts m
     → Appends (parts >>= (λ x. Ok (candump_line interface x.0 x.1 p.payload ++ codes "\n"))) (Ok tt) old new → IsLineAppended (Some interface) m p old new
-by_parts interface m p (Ok parts) old new is same a = record { seen = rw (sym same ∙ is) refl; text_is = rw is a.0 }
-by_parts interface m p (Err fault) old new is same a = absurd (ok_err tt fault a)
+by_parts interface m p parts old new is same a = grind arith
 
 pub line_appended : (interface : Option (List ℕ)) (m p : PacketParts) (old new : List ℕ) → IsFrameOf m p → Appends (frame_line interface p) (Ok tt) old new → IsLineAppended interface m p old new
-line_appended None m p old new is a = record { seen = refl; text_is = a.0 }
-line_appended (Some interface) m p old new is a = by_parts interface m p (candump_parts p) old new refl is.parts_are a
+line_appended interface m p old new is a = grind arith
 
 -- A frame has no line: neither has the message any.
 none_by : (interface : List ℕ) (m p : PacketParts) (fault : WireFault) (made : Outcome) (parts : Result (Moment × ℕ) WireFault) (old new : List ℕ) → candump_parts p ≡ parts → candump_parts p ≡ candump_parts m → Some made ≡ option_map Bad (fault_cause fault)
     → Appends (parts >>= (λ x. Ok (candump_line interface x.0 x.1 p.payload ++ codes "\n"))) (Err fault) old new → interface_cause (Some interface) m ≡ fault_cause fault
-none_by interface m p fault made (Ok parts) old new is same outcome a = absurd (let memory : fault ≡ Memory = a.1 in let none = rw memory at outcome in cc)
-none_by interface m p fault made (Err other) old new is same outcome a = let it : fault ≡ other = cc in rw (sym same ∙ is) (ap fault_cause (sym it))
+none_by interface m p fault made parts old new is same outcome a = grind arith
 
 pub no_line : (interface : Option (List ℕ)) (m p : PacketParts) (fault : WireFault) (made : Outcome) (old new : List ℕ) → IsFrameOf m p → Some made ≡ option_map Bad (fault_cause fault) → Appends (frame_line interface p) (Err fault) old new
     → interface_cause interface m ≡ fault_cause fault
-no_line None m p fault made old new is outcome a = absurd (let memory : fault ≡ Memory = a.1 in let none = rw memory at outcome in cc)
-no_line (Some interface) m p fault made old new is outcome a = none_by interface m p fault made (candump_parts p) old new refl is.parts_are outcome a
+no_line interface m p fault made old new is outcome a = grind arith
 
 -- one frame more
 pub one_more : (interface : Option (List ℕ)) (frames : List PacketParts) (n : ℕ) (p : PacketParts) (start now after : List ℕ) → slice_get frames n ≡ Some p → now ≡ start ++ frame_texts interface (take n frames) → after ≡ now ++ frame_text interface p
     → after ≡ start ++ frame_texts interface (take (n + 1) frames)
-one_more interface frames n p start now after is before grown =
-    let next : n + 1 ≡ suc n = omega arith in
-    let more : take (n + 1) frames ≡ take n frames ++ p ∷ [] = ap (λ k. take k frames) next ∙ take-suc frames n p (slice_get_within frames n p is) ∙ ap (λ y. take n frames ++ y ∷ []) (get_or_from_slice_get frames n p p is) in
-    let texts : frame_texts interface (take (n + 1) frames) ≡ frame_texts interface (take n frames) ++ frame_text interface p = ap (frame_texts interface) more ∙ flat_map-append (frame_text interface) (take n frames) (p ∷ []) ∙ ap (λ (t : List ℕ). frame_texts interface (take n frames) ++ t) (append-nil (frame_text interface p)) in
-    grown ∙ ap (λ (t : List ℕ). t ++ frame_text interface p) before ∙ append_assoc start (frame_texts interface (take n frames)) (frame_text interface p) ∙ ap (λ (t : List ℕ). start ++ t) (sym texts)
+one_more interface frames n p start now after is before grown = grind (arith, take-suc frames n p (slice_get_within frames n p is), get_or_from_slice_get frames n p p is, flat_map-append (frame_text interface) (take n frames) (p ∷ []), append-nil (frame_text interface p), append_assoc start (frame_texts interface (take n frames)) (frame_text interface p))
 
 -- a message was split, and the lines of all its frames are written
 pub sent : (kind : ℕ → Option Kind) (interface : Option (List ℕ)) (m : PacketParts) (held held' : Sequences) (frames : List PacketParts) (n : ℕ) (text text' : List ℕ) → frames ≡ pieces_by kind m (held (stream_of m.id)) → refusal (kind m.id.pgn) m ≡ None
     → held' ≡ raised kind held (stream_of m.id) → interface_cause interface m ≡ None → length frames ≤ n → text' ≡ text ++ frame_texts interface (take n frames) → SentMessage kind interface m held held' text text' Written
-sent kind interface m held held' frames n text text' are split after seen all is = record {
-  made_is = rw (split, seen) refl;
-  held_is = rw split after;
-  text_is = rw (split, seen) (is ∙ ap (λ ps. text ++ frame_texts interface ps) (take_all n frames all ∙ are));
-}
+sent kind interface m held held' frames n text text' are split after seen all is = grind (arith, take_all)
 
 -- a message was split, and none of its lines is written
 bad_of : (cause : Option BadCause) (made : Outcome) → Some made ≡ option_map Bad cause → (made ≡ outcome_by cause) × (is_none cause ≡ false)
-bad_of None made e = absurd cc
-bad_of (Some cause) made e = (let same : made ≡ Bad cause = cc in same, refl)
+bad_of cause made e = grind arith
 
 pub not_sent : (kind : ℕ → Option Kind) (interface : Option (List ℕ)) (m : PacketParts) (held held' : Sequences) (fault : WireFault) (made : Outcome) (text : List ℕ) → refusal (kind m.id.pgn) m ≡ None → held' ≡ raised kind held (stream_of m.id)
     → interface_cause interface m ≡ fault_cause fault → Some made ≡ option_map Bad (fault_cause fault) → SentMessage kind interface m held held' text text made
-not_sent kind interface m held held' fault made text split after seen outcome =
-    let bad = bad_of (fault_cause fault) made outcome in
-    record { made_is = rw (split, seen) bad.0; held_is = rw split after; text_is = rw (split, seen, bad.1) (sym (append-nil text)) }
+not_sent kind interface m held held' fault made text split after seen outcome = grind (arith, append-nil)
 
 -- what was appended is cut off
 pub cut_back : (start more now after cut : List ℕ) (n : ℕ) → now ≡ start ++ more → after ≡ now → n ≡ length start → cut ≡ take n after → cut ≡ start

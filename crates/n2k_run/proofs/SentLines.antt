@@ -1,18 +1,15 @@
 -- What a run that sends messages makes of its lines is what the whole log says.
-use Rattle.std.proofs.Common.{◌≡◌, ◌+◌, ◌<◌, ℕ, Bool, true, false, cond, List, [], ◌∷◌, ◌++◌, length, refl, sym, ap, ◌∙◌, append_assoc, arith, Option, Some, None}
-use Rattle.std.specs.Prelude.{count_by, if◌then◌else◌}
+use Rattle.std.proofs.Common.{◌≡◌, ◌+◌, ◌<◌, ℕ, false, cond, List, [], ◌∷◌, ◌++◌, length, refl, sym, ap, ◌∙◌, append_assoc, arith, Option, Some, None, count_by, if◌then◌else◌}
 use Rattle.std.specs.List.{cons_option, flat_map}
 use Rattle.std.specs.Option.{is_none, option_or}
 use Rattle.std.proofs.lemmas.List.{append-nil, append_cancel_left}
 use Rattle.std.proofs.lemmas.List.Concat.{flat_map-append}
-use Rattle.std.proofs.lemmas.List.Sums.{sum_by-cons}
 use Rattle.n2k_wire.specs.declared.entry.BadCause.{BadCause}
 use Rattle.n2k_wire.specs.declared.entry.Entry.{Entry}
 use Rattle.n2k_wire.specs.declared.entry.Entry.TheVariants as lines
 use Rattle.n2k_wire.specs.declared.entry.Packing.TheVariants.{Whole}
 use Rattle.n2k_wire.specs.Packet.{PacketParts}
 use Rattle.n2k_table.specs.declared.definition.Kind.{Kind}
-use Rattle.n2k_table.specs.declared.definition.Kind.TheVariants.{Single, Fast}
 use Rattle.n2k_table.specs.Table.{TableParts, kind}
 use Rattle.n2k_join.specs.declared.counts.Counts.{Counts}
 use Rattle.n2k_join.specs.declared.fault.SplitFault.{SplitFault}
@@ -20,31 +17,21 @@ use Rattle.n2k_join.specs.declared.fault.SplitFault.TheVariants as unsplit
 use Rattle.n2k_join.specs.Counts.{most_lines}
 use Rattle.n2k_join.specs.Pieces.{Sequences, first_sequences, frames_of_sending, pieces_by, raised, sendings, sendings_after, sequence_after, split_all, split_from, stream_of, written}
 use Rattle.n2k_join.specs.Splitter.{refusal}
-use Rattle.n2k_run.specs.declared.frames.Outcome.TheVariants.{Skipped, Written, Bad}
-use Rattle.n2k_run.specs.FramesOut.{frame_counts_of, frame_lines, frame_reports_from, frame_texts, frames_output, interface_cause, is_refused, is_written, line_cause, message_cause, sending_text, split_cause, split_messages}
+use Rattle.n2k_run.proofs.Counting.{one_more}
+use Rattle.n2k_run.specs.declared.frames.Outcome.TheVariants.{Bad}
+use Rattle.n2k_run.specs.FramesOut.{frame_counts_of, frame_lines, frame_reports_from, frame_texts, frames_output, interface_cause, is_refused, is_written, line_cause, sending_text, split_cause, split_messages}
 use Rattle.n2k_run.specs.Fold.{after_all, texts_from, reports_from}
 use Rattle.n2k_run.specs.Reports.{cause_report}
 use Rattle.n2k_run.specs.Runs.{output_from}
 use Rattle.n2k_run.specs.Inner.Engine.{MovesOn}
-use Rattle.n2k_run.proofs.Ending.{output_same}
 use Rattle.n2k_run.specs.Inner.Sending.{Sent, frame_counts_after, held_after, line_text, outcome, outcome_by, sending_fold}
 
 -- a refusal is never for want of memory
 refusal_by : (k : Option Kind) (m : PacketParts) → refusal k m ≡ Some unsplit.Memory → ⊥
-refusal_by None m e = cc
-refusal_by (Some Single) m e = by _ e
-  where
-    by : (b : Bool) → cond b None (Some unsplit.TooLong) ≡ Some unsplit.Memory → ⊥
-    by true e = cc
-    by false e = cc
-refusal_by (Some Fast) m e = cc
+refusal_by k m e = grind arith
 
 cause_of : (o : Option BadCause) (cause : BadCause) → outcome_by o ≡ Bad cause → o ≡ Some cause
-cause_of None cause e = absurd (written_bad e)
-  where
-    written_bad : Written ≡ Bad cause → ⊥
-    written_bad e = cc
-cause_of (Some other) cause e = cc
+cause_of o cause e = grind arith
 
 counts_are : (l m b l' m' b' : ℕ) → l ≡ l' → m ≡ m' → b ≡ b' → (c : Counts) → record c { lines = l; messages = m; bad = b } ≡ record c { lines = l'; messages = m'; bad = b' }
 counts_are l m b l' m' b' p q r c = rw (p, q, r) refl
@@ -57,13 +44,7 @@ module _ (kind : ℕ → Option Kind) (interface : Option (List ℕ)) where
   pub moves : (s : Sent) (held' : Sequences) (m b : ℕ) (e : Entry) (t t' r r' : List ℕ) → held' ≡ held_after kind s.held e → m ≡ s.counts.messages + (if is_written kind interface e then 1 else 0) → b ≡ s.counts.bad + (if is_refused kind interface e then 1 else 0)
       → t' ≡ t ++ line_text kind interface s.held e → r' ≡ r ++ cause_report (s.counts.lines + 1) (line_cause kind interface e) → s.counts.lines < most_lines
       → MovesOn (sending_fold kind interface) s (record { held = held'; counts = record s.counts { lines = s.counts.lines + 1; messages = m; bad = b } }) e t t' r r'
-  moves s held' m b e t t' r r' held messages bad text report few = record {
-    state_after = rw (held, messages, bad) refl;
-    text_after = text;
-    report_after = report;
-    counted = refl;
-    few = few;
-  }
+  moves s held' m b e t t' r r' held messages bad text report few = grind arith
 
   -- a bad line has that cause, and isn't sent
   record IsBadLine (e : Entry) (cause : BadCause) : Type 0 where
@@ -71,23 +52,13 @@ module _ (kind : ℕ → Option Kind) (interface : Option (List ℕ)) where
     not_sent : is_written kind interface e ≡ false
 
   bad_line : (e : Entry) (cause : BadCause) → outcome kind interface e ≡ Bad cause → IsBadLine e cause
-  bad_line lines.Skip cause is = absurd (skipped_bad is)
-    where
-      skipped_bad : Skipped ≡ Bad cause → ⊥
-      skipped_bad e = cc
-  bad_line (lines.Bad other) cause is = record { cause_is = cause_of (Some other) cause is; not_sent = refl }
-  bad_line (lines.Frame packet) cause is = record { cause_is = cause_of _ cause is; not_sent = refl }
-  bad_line (lines.Whole packet) cause is =
-      let same = cause_of (message_cause kind interface packet) cause is in
-      record { cause_is = same; not_sent = ap is_none same }
+  bad_line e cause is = grind arith
 
   -- a bad line was taken
   pub moves_bad : (s : Sent) (held' : Sequences) (e : Entry) (cause : BadCause) (t t' r r' : List ℕ) → outcome kind interface e ≡ Bad cause → held' ≡ held_after kind s.held e
       → t' ≡ t ++ line_text kind interface s.held e → r' ≡ r ++ cause_report (s.counts.lines + 1) (Some cause) → s.counts.lines < most_lines
       → MovesOn (sending_fold kind interface) s (record { held = held'; counts = record s.counts { lines = s.counts.lines + 1; messages = s.counts.messages; bad = s.counts.bad + 1 } }) e t t' r r'
-  moves_bad s held' e cause t t' r r' is held text report few =
-      let bad = bad_line e cause is in
-      moves s held' s.counts.messages (s.counts.bad + 1) e t t' r r' held (rw bad.not_sent (omega arith)) (rw bad.cause_is refl) text (rw bad.cause_is report) few
+  moves_bad s held' e cause t t' r r' is held text report few = grind arith
 
   -- the sequences that messages lead to
   abbrev pub held_by : Sequences → List PacketParts → Sequences
@@ -101,27 +72,16 @@ module _ (kind : ℕ → Option Kind) (interface : Option (List ℕ)) where
   split-push : (held : Sequences) (ms : List PacketParts) (m : PacketParts) → split_from kind held (ms ++ m ∷ []) ≡ split_from kind held ms ++ (pieces_by kind m (held_by held ms (stream_of m.id)) ++ [])
   unfolding split_from
   split-push held [] m = refl
-  split-push held (e ∷ ms) m =
-      ap (λ ps. pieces_by kind e (held (stream_of e.id)) ++ ps) (split-push (raised kind held (stream_of e.id)) ms m)
-      ∙ sym (append_assoc (pieces_by kind e (held (stream_of e.id))) (split_from kind (raised kind held (stream_of e.id)) ms) (pieces_by kind m (held_by (raised kind held (stream_of e.id)) ms (stream_of m.id)) ++ []))
+  split-push held (e ∷ ms) m = grind (arith, split-push (raised kind held (stream_of e.id)) ms m, append_assoc)
 
   sendings-push : (earlier ms : List PacketParts) (m : PacketParts) → sendings_after earlier (ms ++ m ∷ []) ≡ sendings_after earlier ms ++ sendings_after (earlier ++ ms) (m ∷ [])
   sendings-push earlier [] m = ap (λ front. sendings_after front (m ∷ [])) (sym (append-nil earlier))
-  sendings-push earlier (e ∷ ms) m =
-      ap (λ xs. record { sequence = sequence_after earlier e; message = e } ∷ xs) (sendings-push (earlier ++ e ∷ []) ms m
-      ∙ ap (λ front. sendings_after (earlier ++ e ∷ []) ms ++ sendings_after front (m ∷ [])) (append_assoc earlier (e ∷ []) ms))
+  sendings-push earlier (e ∷ ms) m = grind (arith, sendings-push (earlier ++ e ∷ []) ms m, append_assoc)
 
   module _ (law : (ms : List PacketParts) → split_all kind ms ≡ written kind ms) where
     -- a message's frames are those under the number of earlier messages of its stream
     pieces_same : (ms : List PacketParts) (m : PacketParts) → pieces_by kind m (held_by first_sequences ms (stream_of m.id)) ≡ pieces_by kind m (sequence_after ms m)
-    pieces_same ms m =
-        let p = pieces_by kind m (held_by first_sequences ms (stream_of m.id)) in
-        let q = pieces_by kind m (sequence_after ms m) in
-        let more : written kind (ms ++ m ∷ []) ≡ written kind ms ++ (q ++ []) =
-        ap (flat_map (frames_of_sending kind)) (sendings-push [] ms m) ∙ flat_map-append (frames_of_sending kind) (sendings ms) (sendings_after ms (m ∷ [])) in
-        let both : written kind ms ++ (p ++ []) ≡ written kind ms ++ (q ++ []) =
-        ap (λ front. front ++ (p ++ [])) (sym (law ms)) ∙ sym (split-push first_sequences ms m) ∙ law (ms ++ m ∷ []) ∙ more in
-        sym (append-nil p) ∙ append_cancel_left (written kind ms) (p ++ []) (q ++ []) both ∙ append-nil q
+    pieces_same ms m = grind (arith, sendings-push [] ms m, flat_map-append (frames_of_sending kind) (sendings ms) (sendings_after ms (m ∷ [])), split-push first_sequences ms m, append-nil (pieces_by kind m (held_by first_sequences ms (stream_of m.id))), append-nil (pieces_by kind m (sequence_after ms m)), append_cancel_left)
 
     -- after these messages
     abbrev stood : List PacketParts → Counts → Sent
@@ -132,13 +92,7 @@ module _ (kind : ℕ → Option Kind) (interface : Option (List ℕ)) where
         → (refused : Option SplitFault) → (refused ≡ Some unsplit.Memory → ⊥)
         → cond (is_none (option_or (split_cause refused) (interface_cause interface m))) (frame_texts interface (pieces_by kind m (held_by first_sequences earlier (stream_of m.id)))) [] ++ texts_from (sending_fold kind interface) (record { held = cond (is_none refused) (raised kind (held_by first_sequences earlier) (stream_of m.id)) (held_by first_sequences earlier); counts = c }) es
         ≡ flat_map (sending_text kind interface) (sendings_after earlier (cons_option (cond (is_none refused) (Some m) None) (split_messages kind es)))
-    texts_whole earlier c m es rest None never =
-        let here = ap (λ ps. cond (is_none (interface_cause interface m)) (frame_texts interface ps) []) (pieces_same earlier m) in
-        let next = ap (λ held. texts_from (sending_fold kind interface) (record { held = held; counts = c }) es) (sym (held_by-push first_sequences earlier m)) in
-        both_lists _ _ _ _ here (next ∙ rest (earlier ++ m ∷ []))
-    texts_whole earlier c m es rest (Some unsplit.Unknown) never = rest earlier
-    texts_whole earlier c m es rest (Some unsplit.TooLong) never = rest earlier
-    texts_whole earlier c m es rest (Some unsplit.Memory) never = absurd (never refl)
+    texts_whole earlier c m es rest refused never = grind (arith, pieces_same, held_by-push)
 
     texts_after : (earlier : List PacketParts) (c : Counts) (es : List Entry) → texts_from (sending_fold kind interface) (stood earlier c) es ≡ flat_map (sending_text kind interface) (sendings_after earlier (split_messages kind es))
     texts_after earlier c [] = refl
@@ -156,9 +110,6 @@ module _ (kind : ℕ → Option Kind) (interface : Option (List ℕ)) where
   reports_are s n (e ∷ es) is =
       rw is (ap (λ r. cause_report (s.counts.lines + 1) (line_cause kind interface e) ++ r) (reports_are (record { held = held_after kind s.held e; counts = frame_counts_after kind interface s.counts e }) (s.counts.lines + 1 + 1) es refl))
 
-  one_more : (test : Entry → Bool) (n : ℕ) (e : Entry) (es : List Entry) → (n + cond (test e) 1 0) + count_by test es ≡ n + count_by test (e ∷ es)
-  one_more test n e es = omega (arith, sum_by-cons (λ x. cond (test x) 1 0) e es)
-
   counts_after : (s : Sent) (es : List Entry) → (after_all (sending_fold kind interface) s es).counts ≡ record s.counts {
     lines = s.counts.lines + length es;
     messages = s.counts.messages + count_by (is_written kind interface) es;
@@ -171,15 +122,9 @@ module _ (kind : ℕ → Option Kind) (interface : Option (List ℕ)) where
 
   -- a run from the start
   pub counts_are_those : (held : Sequences) (es : List Entry) → (after_all (sending_fold kind interface) (record { held = held; counts = record { lines = 0; messages = 0; bad = 0; unknown = 0; broken = 0; held = 0 } }) es).counts ≡ frame_counts_of kind interface es
-  counts_are_those held es =
-      let none : Counts = record { lines = 0; messages = 0; bad = 0; unknown = 0; broken = 0; held = 0 } in
-      counts_after (record { held = held; counts = none }) es ∙ counts_are _ _ _ _ _ _ (omega arith) (omega arith) (omega arith) none
+  counts_are_those held es = grind (arith, counts_after)
 
 -- what a run makes from the start is what the whole log says
 pub output_is : (t : TableParts) (interface : Option (List ℕ)) (held : Sequences) → held ≡ first_sequences → ((ms : List PacketParts) → split_all (kind t) ms ≡ written (kind t) ms)
     → output_from (sending_fold (kind t) interface) Whole (record { held = held; counts = record { lines = 0; messages = 0; bad = 0; unknown = 0; broken = 0; held = 0 } }) ≡ frames_output t interface
-output_is t interface held is law =
-    let none : Counts = record { lines = 0; messages = 0; bad = 0; unknown = 0; broken = 0; held = 0 } in
-    output_same Whole 0 _ (frame_lines (kind t) interface) _ (frame_reports_from 1 (kind t) interface)
-    (λ es. ap (λ held. texts_from (sending_fold (kind t) interface) (record { held = held; counts = none }) es) is ∙ texts_are (kind t) interface law none es)
-    (λ es. reports_are (kind t) interface (record { held = held; counts = none }) 1 es refl)
+output_is t interface held is law = grind (arith, texts_are, reports_are)

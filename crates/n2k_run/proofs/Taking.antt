@@ -1,6 +1,5 @@
 -- The entry of the next line, as the maker takes it.
-use Rattle.std.proofs.Common.{◌≡◌, inl, ℕ, ◌<◌, true, List, length, refl, Option, Result, Ok, Err, Bor, nat_lt}
-use Rattle.std.proofs.lemmas.Bool.{lt-ltb}
+use Rattle.std.proofs.Common.{arith, ◌≡◌, ℕ, ◌<◌, List, length, Option, Result, Ok, Bor}
 use Rattle.n2k_wire.specs.declared.entry.BadCause.TheVariants as causes
 use Rattle.n2k_wire.specs.declared.entry.Entry.{Entry}
 use Rattle.n2k_wire.specs.declared.entry.Entry.TheVariants.{Bad}
@@ -8,7 +7,6 @@ use Rattle.n2k_wire.specs.declared.entry.Packing.{Packing}
 use Rattle.n2k_wire.specs.Entry.{entry, longest_line}
 use Rattle.n2k_run.specs.declared.blocks.Next.TheVariants.{Line, Long}
 use Rattle.n2k_run.specs.declared.fault.RunFault.{RunFault}
-use Rattle.n2k_run.specs.declared.fault.RunFault.TheVariants.{Memory, TooManyLines}
 use Rattle.n2k_run.specs.Blocks.{Held, Answers}
 use Rattle.n2k_run.specs.Fold.{Fold}
 use Rattle.n2k_run.specs.Inner.Engine.{NextEntry, TakesEntry, TakesNext}
@@ -16,21 +14,14 @@ use Rattle.n2k_run.specs.Inner.Engine.{NextEntry, TakesEntry, TakesNext}
 -- a line over the limit has the entry of one
 long_entry : (line : List ℕ) (packing : Packing) → longest_line < length line → Bad causes.Long ≡ entry line packing
 unfolding entry
-long_entry line packing long =
-    let test : nat_lt longest_line (length line) ≡ true = lt-ltb longest_line (length line) long in
-    rw test refl
+long_entry line packing long = grind arith
 
 module _ {S : Type 0} (m : Fold S) (packing : Packing) (s s' : S) (old new : Held) (left₀ left : Option (List ℕ)) (text text' report report' : List ℕ) where
   takes_entry : {T : Type 0} (x : Entry) (result : Result T RunFault) → NextEntry packing old new left₀ left x → TakesEntry m s s' x text text' report report' result → TakesNext m packing s s' old new left₀ left text text' report report' result
-  takes_entry x (Ok y) next takes = inl (x, next, takes)
-  takes_entry x (Err Memory) next takes = tt
-  takes_entry x (Err TooManyLines) next takes = (x, next, takes.0, takes.1)
-  takes_entry x _ next takes = absurd takes
+  takes_entry x result next takes = grind arith
 
   pub takes_line : {T : Type 0} (line : Bor (List ℕ)) (x : Entry) (calls₀ calls : ℕ) (result : Result T RunFault) → Answers old new left₀ left calls₀ calls (Ok (Line line)) → x ≡ entry line.now packing → TakesEntry m s s' x text text' report report' result → TakesNext m packing s s' old new left₀ left text text' report report' result
-  takes_line line x calls₀ calls result a is takes =
-      takes_entry x result (record { came = a.came; given = a.given; line = line.now; first = a.answer.0; entry_is = is }) takes
+  takes_line line x calls₀ calls result a is takes = grind (arith, takes_entry)
 
   pub takes_long : {T : Type 0} (calls₀ calls : ℕ) (result : Result T RunFault) → Answers old new left₀ left calls₀ calls (Ok Long) → TakesEntry m s s' (Bad causes.Long) text text' report report' result → TakesNext m packing s s' old new left₀ left text text' report report' result
-  takes_long calls₀ calls result a takes =
-      takes_entry (Bad causes.Long) result (record { came = a.came; given = a.given; line = a.answer.0; first = a.answer.1; entry_is = long_entry a.answer.0 packing a.answer.2 }) takes
+  takes_long calls₀ calls result a takes = grind (arith, takes_entry, long_entry)

@@ -1,7 +1,6 @@
 -- The plain lines of frames are read as these frames.
-use Rattle.std.proofs.Common.{◌≡◌, ◌≤◌, Bool, cond, List, [], ◌∷◌, map, length, refl, ap, subst, ◌∙◌, sym, append_assoc, All, flat_map}
+use Rattle.std.proofs.Common.{arith, ◌≡◌, ◌≤◌, Bool, cond, List, [], ◌∷◌, length, refl, ap, subst, ◌∙◌, sym, append_assoc, All, flat_map, le-leb}
 use Rattle.std.specs.List.{AllByRecursion}
-use Rattle.std.proofs.lemmas.Bool.{le-leb}
 use Rattle.std.proofs.lemmas.List.Elements.{recursion_from_All}
 use Rattle.n2k_wire.specs.declared.entry.Entry.{Entry}
 use Rattle.n2k_wire.specs.declared.entry.Entry.TheVariants as entries
@@ -21,7 +20,6 @@ use Rattle.n2k_join.specs.Replay.{Replays}
 use Rattle.n2k_run.specs.declared.options.Options.{Options}
 use Rattle.n2k_run.specs.Entries as logs
 use Rattle.n2k_run.specs.Replayed.{PrintsBack}
-use Rattle.n2k_run.specs.Lines.{lines}
 use Rattle.n2k_run.proofs.OutputLines.{lines_one}
 use Rattle.n2k_run.proofs.PrintedBack.{prints_back}
 
@@ -35,11 +33,7 @@ small p fits = ap (λ b. cond b (entries.Frame p) (entries.Whole p)) (le-leb (le
 
 pub texts_entries : PlainLaws → (ps : List PacketParts) → AllByRecursion IsEntry (as_entries ps) → logs.entries Frames (flat_map plain_text ps) ≡ as_entries ps
 texts_entries laws [] are = refl
-texts_entries laws (p ∷ ps) are =
-    ap (λ l. map (λ line. entry line Frames) (lines l)) (append_assoc (plain_line p) (10 ∷ []) (flat_map plain_text ps))
-    ∙ (ap (map (λ line. entry line Frames)) (lines_one (plain_line p) (flat_map plain_text ps) (laws.one_line p are.0.0))
-    ∙ (ap (λ e. e ∷ map (λ line. entry line Frames) (lines (flat_map plain_text ps))) (laws.reads_back p Frames are.0.0 ∙ small p are.0.1)
-    ∙ ap (λ es. entries.Frame p ∷ es) (texts_entries laws ps are.1)))
+texts_entries laws (p ∷ ps) are = grind (arith, texts_entries laws ps are.1, append_assoc, lines_one)
 
 pub written_back : PlainLaws → (t : TableParts) (ms : List PacketParts) (o : Options) → o.packing ≡ Frames → WrittenLog o.window (kind t) ms → ((es : List Entry) → IsScattered o.window (kind t) ms es → IsMute (kind t) es → Replays o.window (kind t) ms es) → ((m : PacketParts) (empty : Bool) → IsOneLine (json t m empty)) → PrintsBack t ms o (flat_map plain_text (written (kind t) ms))
 written_back laws t ms o frames written_log replays one =

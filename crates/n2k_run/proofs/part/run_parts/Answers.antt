@@ -1,4 +1,4 @@
-use Rattle.std.proofs.Common.{Err, ℕ, List, [], map, take, drop, suc, get_or, Bor, sym, subst, arith, inr}
+use Rattle.std.proofs.Common.{ℕ, List, [], map, take, drop, suc, get_or, Bor, sym, subst, arith, inr}
 use Rattle.std.proofs.lemmas.List.{map_more, take_all}
 use Rattle.std.proofs.lemmas.Result.{err_from_is_err_and}
 use Rattle.n2k_run.specs.Decoded.{out_of}

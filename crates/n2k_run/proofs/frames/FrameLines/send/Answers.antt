@@ -3,7 +3,7 @@ use Rattle.std.proofs.lemmas.Result.{IfOk-weaker}
 use Rattle.n2k_table.specs.Table.{kind}
 use Rattle.n2k_join.specs.Splitter.{sequences}
 use Rattle.n2k_run.specs.FramesOut.{interface_of}
-use Rattle.n2k_run.proofs.SentFrames.{IsFrameOf, frame_of, cut_back, line_appended, no_line, not_sent, one_more, sent, split_of}
+use Rattle.n2k_run.proofs.SentFrames.{frame_of, cut_back, line_appended, no_line, not_sent, one_more, split_of}
 use Rattle.n2k_run.proofs.frames.FrameLines.send.Goals as goal
 
 pub append_line-requires : goal.append_line-requires
