@@ -1,22 +1,15 @@
-use Rattle.std.proofs.Common.{◌∙◌, true, false, sym, ap, refl}
-use Rattle.n2k_join.specs.Frames.{Frame}
-use Rattle.n2k_join.specs.Inner.Stored.{key_of, frame_of, lost}
-use Rattle.n2k_join.specs.Inner.Order.{places}
+use Rattle.std.proofs.Common.{arith, ◌∙◌, true, false, sym}
+use Rattle.n2k_join.specs.Inner.Stored.{key_of}
 use Rattle.n2k_join.proofs.JoinLemmas.{on_err}
 use Rattle.n2k_join.proofs.Listed.{none-open, here}
 use Rattle.n2k_join.proofs.FrameGroups.{rejects-here, none-lost}
 use Rattle.n2k_join.proofs.frame_taking.take_frame.Goals as goal
 
 pub returns-in_err-is_message-clause-memory : goal.returns-in_err-is_message-clause-memory
-returns-in_err-is_message-clause-memory c =
-    let g = c.args.groups.now in
-    on_err c.from_residual.result _ (none-open g.groups.entries c.args.frame.now.key (c.in_default.ensures.none refl) (places g))
+returns-in_err-is_message-clause-memory c = grind (arith, on_err, none-open)
 
 pub returns-in_default-clause-broken : goal.returns-in_default-clause-broken
-returns-in_default-clause-broken c =
-    let x : Frame = frame_of c.args.line c.args.packet.now c.args.frame.now in
-    let g = c.args.groups.now in
-    sym (ap (lost c.args.in_order x) (none-open g.groups.entries c.args.frame.now.key (c.in_default.ensures.none refl) (places g)))
+returns-in_default-clause-broken c = grind (arith, none-open)
 
 pub reopen_at-requires-clause-there : goal.reopen_at-requires-clause-there
 reopen_at-requires-clause-there c =

@@ -1,13 +1,9 @@
-use Rattle.std.proofs.Common.{◌*◌, ◌-◌, ap, sym, ◌∙◌, arith}
-use Rattle.n2k_join.specs.Pieces.{piece_bytes}
+use Rattle.std.proofs.Common.{◌*◌, ◌-◌, arith}
 use Rattle.n2k_join.proofs.PieceBytes.{first_bytes, later_bytes}
 use Rattle.n2k_join.proofs.splitter.full_piece.Goals as goal
 
 pub returns-then-number-eq0 : goal.returns-then-number-eq0
-returns-then-number-eq0 c =
-    let payload = c.args.data.now in
-    let cases = c.in_ok-six.ensures.cases in
-    first_bytes payload c.in_ok-six.six.now cases.enough cases.same ∙ ap (piece_bytes payload) (sym c.if-number-eq0.true)
+returns-then-number-eq0 c = grind (arith, first_bytes)
 
 pub returns : goal.returns
 returns c =

@@ -10,8 +10,7 @@ use Rattle.n2k_join.proofs.Expiring.{is_due, expires_first, expires_by, expired_
 use Rattle.n2k_join.proofs.join.Join.expire.Goals as goal
 
 pub invariant_of-self : goal.invariant_of-self
-invariant_of-self c =
-    (subst (λ gs. IsState (record { id = c.self.inside.id; window = c.self.inside.window; counts = c.self.inside.counts; groups = gs })) (sym (c.in_err-broken.ensures.unchanged refl)) c.self.invariant.0, c.take_ended.ensures.kept)
+invariant_of-self c = grind arith
 
 pub invariant_of-self-2 : goal.invariant_of-self-2
 unfolding expired
@@ -43,9 +42,7 @@ returns-clause-fewer c = λ _.
     fewer c.args.self.now _ c.in_ok-broken.broken (told s c.args.self.now c.self.view_is c.if-self-eq-MOST_LINES.false _ (c.take_ended.ensures.broken) ∙ c.in_ok-broken.was) (expired_by s c.args.self.now (listed c.take_ended.new.self) c.self.view_is (c.in_ok-broken.ensures.taken refl))
 
 pub returns-clause-few : goal.returns-clause-few
-returns-clause-few c = λ _.
-    let s : State = record { id = c.self.inside.id; window = c.self.inside.window; counts = c.self.inside.counts; groups = listed c.self.inside.groups } in
-    due-few c.args.self.now c.in_ok-broken.broken (subst IsState c.self.view_is c.self.invariant.0).counted.lines (told s c.args.self.now c.self.view_is c.if-self-eq-MOST_LINES.false _ (c.take_ended.ensures.broken) ∙ c.in_ok-broken.was)
+returns-clause-few c = grind (arith, due-few, told)
 
 pub returns-clause-one_step : goal.returns-clause-one_step
 returns-clause-one_step c = λ kind e group due_is. steps c.args.self.now group kind e (subst IsState c.self.view_is c.self.invariant.0) due_is
@@ -54,14 +51,10 @@ returns-clause-one_step c = λ kind e group due_is. steps c.args.self.now group 
     steps t group kind e is due_is = expires_first t group (is_due t group is.groups.rise due_is) kind e
 
 pub returns-in_err-broken-clause-broken : goal.returns-in_err-broken-clause-broken
-returns-in_err-broken-clause-broken c =
-    let s : State = record { id = c.self.inside.id; window = c.self.inside.window; counts = c.self.inside.counts; groups = listed c.self.inside.groups } in
-    c.from_residual.ensures ∙ sym (told s c.args.self.now c.self.view_is c.if-self-eq-MOST_LINES.false _ (c.take_ended.ensures.broken) ∙ c.in_err-broken.was)
+returns-in_err-broken-clause-broken c = grind (arith, told)
 
 pub returns-clause-broken : goal.returns-clause-broken
-returns-clause-broken c =
-    let s : State = record { id = c.self.inside.id; window = c.self.inside.window; counts = c.self.inside.counts; groups = listed c.self.inside.groups } in
-    sym (told s c.args.self.now c.self.view_is c.if-self-eq-MOST_LINES.false _ (c.take_ended.ensures.broken) ∙ c.in_ok-broken.was)
+returns-clause-broken c = grind (arith, told)
 
 pub returns-in_err-broken-clause-one_step : goal.returns-in_err-broken-clause-one_step
 returns-in_err-broken-clause-one_step c = λ kind e group due_is. expires_first c.args.self.now group (is_due c.args.self.now group (subst IsState c.self.view_is c.self.invariant.0).groups.rise due_is) kind e

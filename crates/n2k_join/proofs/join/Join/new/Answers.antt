@@ -10,9 +10,4 @@ invariant_of-result c =
 
 pub returns : goal.returns
 unfolding open_groups waiting
-returns c = λ i. record {
-  id = c.id.ensures i;
-  window = c.args.window;
-  counts = record { lines = 0; messages = 0; bad = 0; unknown = 0; broken = 0; held = 0 };
-  groups = c.new.ensures.listed i;
-}
+returns c = grind arith

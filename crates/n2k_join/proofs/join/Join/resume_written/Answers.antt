@@ -1,4 +1,4 @@
-use Rattle.std.proofs.Common.{◌≡◌, ◌∙◌, ap, sym, subst, true, false, Bool, Ok, refl, rules}
+use Rattle.std.proofs.Common.{arith, ◌≡◌, ◌∙◌, ap, sym, subst, true, Bool, Ok, rules}
 use Rattle.n2k_table.specs.Table.{kind}
 use Rattle.n2k_join.specs.Resumed.{is_valid, valid_if, resumed, state_of_parts}
 use Rattle.n2k_join.specs.Saved.{IsId, state_text}
@@ -8,8 +8,7 @@ use Rattle.n2k_join.proofs.join.Join.resume_written.Goals as goal
 
 -- what is valid is given
 given-parts : (b : Bool) (t s : State) → valid_if b t ≡ Ok s → (b ≡ true) × (t ≡ s)
-given-parts true t s e = (refl, cc)
-given-parts false t s e = cc
+given-parts b t s e = grind arith
 
 pub returns-then-eq : goal.returns-then-eq
 returns-then-eq c =

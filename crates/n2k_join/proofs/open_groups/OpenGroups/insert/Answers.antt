@@ -1,4 +1,4 @@
-use Rattle.std.proofs.Common.{◌≡◌, ◌+◌, ◌<◌, ◌∙◌, ◌++◌, [], ◌∷◌, inr, ap, refl, length, arith, length-append}
+use Rattle.std.proofs.Common.{◌≡◌, ◌<◌, ◌∙◌, ◌++◌, [], ◌∷◌, inr, ap, refl, length, arith, length-append}
 use Rattle.indexmap.proofs.CallerLemmas.{insert_entry-new}
 use Rattle.n2k_join.specs.declared.piece.FrameKey.{FrameKey}
 use Rattle.n2k_join.specs.declared.open_groups.Linked.{Linked}
@@ -11,16 +11,7 @@ use Rattle.n2k_join.proofs.open_groups.OpenGroups.insert.Goals as goal
 
 pub set_behind-requires : goal.set_behind-requires
 unfolding same_key
-set_behind-requires c =
-    let g = c.args.self.now in
-    let k = c.args.key in
-    let l : Linked = record { group = c.args.group; before = g.last; behind = nowhere } in
-    let pushed : c.insert.new.self.entries ≡ g.groups.entries ++ (k, l) ∷ [] = c.in_ok-insert.ensures.entries ∙ insert_entry-new (λ (a b : FrameKey). same_key (key_of a) (key_of b)) g.groups k l c.requires.new in
-    let more : length c.insert.new.self.entries ≡ length g.groups.entries + 1 = ap length pushed ∙ length-append g.groups.entries ((k, l) ∷ []) in
-    record {
-      few = omega (arith, more, c.len-at.ensures.small, c.len-at.ensures.len);
-      place = later-place (length g.groups.entries) (length c.insert.new.self.entries) g.last (omega (arith, more)) (before-place c.args.group.first g c.requires.kept nowhere (inr refl));
-    }
+set_behind-requires c = grind (arith, before-place c.args.group.first c.args.self.now c.requires.kept nowhere (inr refl), insert_entry-new, length-append, later-place)
 
 pub returns-clause-added : goal.returns-clause-added
 unfolding same_key

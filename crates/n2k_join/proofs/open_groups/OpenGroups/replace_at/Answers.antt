@@ -1,4 +1,4 @@
-use Rattle.std.proofs.Common.{◌≡◌, ◌++◌, [], ◌∷◌, option_map, refl, sym, ap, subst, ◌∙◌, arith}
+use Rattle.std.proofs.Common.{◌≡◌, ◌++◌, [], ◌∷◌, option_map, refl, sym, ap, ◌∙◌, arith}
 use Rattle.indexmap.specs.Layout.{length-set_value_at}
 use Rattle.std.proofs.lemmas.Option.{same_Some}
 use Rattle.n2k_join.specs.declared.piece.FrameKey.{FrameKey}
@@ -7,7 +7,7 @@ use Rattle.n2k_join.specs.declared.open_groups.Linked.{Linked}
 use Rattle.n2k_join.specs.Inner.Stored.{key_of}
 use Rattle.n2k_join.specs.Inner.Slots.{group_in}
 use Rattle.n2k_join.specs.Inner.Places.{nowhere}
-use Rattle.n2k_join.specs.Inner.Order.{item, item_at, groups_at, IsPlace}
+use Rattle.n2k_join.specs.Inner.Order.{item, item_at, groups_at}
 use Rattle.n2k_join.proofs.Order.{entry-at, last-place, replaced}
 use Rattle.n2k_join.proofs.Listed.{place-split}
 use Rattle.n2k_join.proofs.open_groups.OpenGroups.replace_at.Goals as goal
@@ -16,13 +16,7 @@ pub unlink-requires : goal.unlink-requires
 unlink-requires c = record { kept = (c.args.group.first, c.requires.kept); within = c.requires.within }
 
 pub set_behind-requires : goal.set_behind-requires
-set_behind-requires c =
-    let g = c.args.self.now in
-    let s = c.unlink.new.self in
-    let at = place-split c.args.group.first g c.requires.kept c.args.at c.requires.within in
-    let w : Linked = record { group = c.args.group; before = s.last; behind = nowhere } in
-    let same = length-set_value_at s.groups.entries c.args.at w ∙ c.unlink.ensures.count in
-    record { few = omega (arith, same, c.requires.kept.few); place = subst (λ n. IsPlace n s.last) (sym same) (last-place c.args.group.first g s c.args.at at.xs at.ys c.requires.kept c.requires.within at.is c.unlink.ensures) }
+set_behind-requires c = grind (arith, place-split c.args.group.first c.args.self.now c.requires.kept c.args.at c.requires.within, length-set_value_at, last-place)
 
 pub returns-clause-replaced : goal.returns-clause-replaced
 returns-clause-replaced c = λ key old there xs ys is.

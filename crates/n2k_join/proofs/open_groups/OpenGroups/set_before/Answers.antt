@@ -1,5 +1,5 @@
-use Rattle.std.proofs.Common.{◌≤◌, ◌<◌, ◌⊎◌, inl, inr, length, refl, sym, arith}
-use Rattle.std.proofs.lemmas.Bool.{cases_lt, false≢true}
+use Rattle.std.proofs.Common.{refl, sym, arith}
+use Rattle.std.proofs.lemmas.Bool.{cases_lt}
 use Rattle.std.proofs.lemmas.Option.{slice_get_within}
 use Rattle.n2k_join.proofs.Order.{entry-at, told-before, told-last}
 use Rattle.n2k_join.proofs.open_groups.OpenGroups.set_before.Goals as goal
@@ -12,8 +12,4 @@ returns-in-Some c =
     told-before g c.args.at e.0 l (record l { before = c.args.before }) e.1 (λ is. omega (arith, is, c.requires.few, slice_get_within g.groups.entries c.args.at (e.0, l) e.1)) refl _ refl refl refl refl
 
 pub returns-in-None : goal.returns-in-None
-returns-in-None c = told-last c.args.self.now c.args.at c.args.before (past (cases_lt c.args.at (length c.args.self.now.groups.entries))) c.requires.place
-  where
-    past : (c.args.at < length c.args.self.now.groups.entries) ⊎ (length c.args.self.now.groups.entries ≤ c.args.at) → length c.args.self.now.groups.entries ≤ c.args.at
-    past (inl l) = absurd (false≢true (c.in-None.ensures.found.1 l))
-    past (inr l) = l
+returns-in-None c = grind (arith, told-last, cases_lt)

@@ -1,4 +1,4 @@
-use Rattle.std.proofs.Common.{◌+◌, List, [], ◌∙◌, ap, sym, drop, nat_lt, slice_get, option_map, Some}
+use Rattle.std.proofs.Common.{arith, ◌+◌, List, [], ◌∙◌, ap, sym, drop, nat_lt, slice_get, option_map, Some}
 use Rattle.std.proofs.lemmas.Option.{slice_get_within}
 use Rattle.n2k_join.specs.declared.piece.FrameKey.{FrameKey}
 use Rattle.n2k_join.specs.declared.open_groups.Linked.{Linked}
@@ -11,8 +11,7 @@ use Rattle.n2k_join.proofs.open_groups.OpenGroups.take_ended.Goals as goal
 
 pub returns-in_err-key-clause-broken : goal.returns-in_err-key-clause-broken
 unfolding ended
-returns-in_err-key-clause-broken c =
-    c.from_residual.ensures ∙ sym (ap (λ gs. option_map as_broken (slice_get (ended c.args.window c.args.line gs) 0)) (none-listed c.args.self.now (sym c.in_err-key.ensures.entry)))
+returns-in_err-key-clause-broken c = grind (arith, none-listed)
 
 pub returns-then-is_waiting-clause-broken : goal.returns-then-is_waiting-clause-broken
 returns-then-is_waiting-clause-broken c =

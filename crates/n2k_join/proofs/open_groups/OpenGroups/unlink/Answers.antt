@@ -1,25 +1,14 @@
-use Rattle.std.proofs.Common.{◌≡◌, inl, sym, subst, length, arith}
+use Rattle.std.proofs.Common.{◌≡◌, sym, subst, arith}
 use Rattle.n2k_join.specs.Inner.Places.{nowhere, put}
-use Rattle.n2k_join.specs.Inner.Order.{IsPlace, behind_of, before_of, AreRelinked}
+use Rattle.n2k_join.specs.Inner.Order.{behind_of, before_of, AreRelinked}
 use Rattle.n2k_join.proofs.Order.{beside-at, before-place, behind-place, both-told}
 use Rattle.n2k_join.proofs.open_groups.OpenGroups.unlink.Goals as goal
 
 pub set_behind-requires : goal.set_behind-requires
-set_behind-requires c =
-    let g = c.args.self.now in
-    let kept = c.requires.kept.1 in
-    let is = beside-at (λ l. l.before) g.last g.groups.entries c.args.at (c.in-Some.field-0-0.now, c.in-Some.linked.now) (λ e. omega (arith, e, c.requires.within, kept.few)) (sym c.in-Some.ensures.entry) in
-    record { few = kept.few; place = subst (IsPlace (length g.groups.entries)) is (before-place c.requires.kept.0 g kept c.args.at (inl c.requires.within)) }
+set_behind-requires c = grind (arith, beside-at, before-place)
 
 pub set_before-requires : goal.set_before-requires
-set_before-requires c =
-    let g = c.args.self.now in
-    let kept = c.requires.kept.1 in
-    let is = beside-at (λ l. l.behind) g.first g.groups.entries c.args.at (c.in-Some.field-0-0.now, c.in-Some.linked.now) (λ e. omega (arith, e, c.requires.within, kept.few)) (sym c.in-Some.ensures.entry) in
-    record {
-      few = omega (arith, kept.few, c.set_behind.ensures.count);
-      place = subst (λ n. IsPlace n c.in-Some.linked.now.behind) (sym c.set_behind.ensures.count) (subst (IsPlace (length g.groups.entries)) is (behind-place c.requires.kept.0 g kept c.args.at (inl c.requires.within)));
-    }
+set_before-requires c = grind (arith, beside-at, behind-place)
 
 pub returns : goal.returns
 returns c =

@@ -1,4 +1,4 @@
-use Rattle.std.proofs.Common.{◌≡◌, ◌≤◌, ℕ, ◌+◌, ◌-◌, take, drop, slice_index, get_or, [], ap, sym, ◌∙◌, arith, length-take}
+use Rattle.std.proofs.Common.{◌≤◌, slice_index, get_or, [], arith, length-take}
 use Rattle.n2k_wire.specs.Packet.{longest_message}
 use Rattle.n2k_join.specs.Frames.{Key}
 use Rattle.n2k_join.proofs.SlotLemmas.{zeroth-slot, data-slots}
@@ -13,14 +13,7 @@ slice_bounds-set_data-end c =
     omega (arith, small, c.from-total.ensures, c.as_flattened-sent.ensures.len, c.args.self.now.many)
 
 pub set_data-requires : goal.set_data-requires
-set_data-requires c =
-    let small : slice_index (get_or c.args.self.now.slots 0 []) 0 ≤ longest_message = c.args.self.now.total (zeroth-slot any_key c.args.self.now (c.requires any_key)) in
-    omega (arith, small, c.from-total.ensures, length-take ((1 + c.from-total.result) - 1) (drop 1 c.as_flattened-sent.result.now))
+set_data-requires c = grind (arith, zeroth-slot, any_key, length-take)
 
 pub returns-clause-message : goal.returns-clause-message
-returns-clause-message c key =
-    let t : ℕ = slice_index (get_or c.args.self.now.slots 0 []) 0 in
-    let small : t ≤ longest_message = c.args.self.now.total (zeroth-slot key c.args.self.now (c.requires key)) in
-    let count : (1 + c.from-total.result) - 1 ≡ t = omega (arith, c.from-total.ensures) in
-    let payload = ap (λ n. take n (drop 1 c.as_flattened-sent.result.now)) count ∙ ap (λ bs. take t (drop 1 bs)) c.as_flattened-sent.ensures.value ∙ sym (data-slots key c.args.self.now (c.requires key) small) in
-    c.set_data.ensures ∙ (λ i. record { stamp = c.args.packet.now.stamp; id = c.args.packet.now.id; payload = payload i })
+returns-clause-message c key = grind (arith, zeroth-slot key c.args.self.now (c.requires key), data-slots key c.args.self.now (c.requires key) (c.args.self.now.total (zeroth-slot key c.args.self.now (c.requires key))))

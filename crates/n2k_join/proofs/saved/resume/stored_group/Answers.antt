@@ -1,22 +1,18 @@
-use Rattle.std.proofs.Common.{◌≡◌, ◌==◌, ℕ, Bool, true, false, List, [], ◌∷◌, length, refl, sym, ap, subst, ◌∙◌}
+use Rattle.std.proofs.Common.{arith, ◌≡◌, ◌==◌, ℕ, Bool, true, false, List, [], ◌∷◌, length, refl, sym, ap, subst, ◌∙◌}
 use Rattle.std.specs.List.{AllByRecursion}
 use Rattle.n2k_table.specs.Table.{kind}
 use Rattle.n2k_join.specs.Frames.{Key}
 use Rattle.n2k_join.specs.Groups.{complete}
 use Rattle.n2k_join.specs.Open.{Piece, Group}
-use Rattle.n2k_join.specs.Resumed.{pieces_rise, group_holds, key_holds, is_some_list}
+use Rattle.n2k_join.specs.Resumed.{pieces_rise, key_holds, is_some_list}
 use Rattle.n2k_join.specs.State.{held_of, IsPiece}
-use Rattle.n2k_join.specs.Inner.Apart.{SomeUnder}
-use Rattle.n2k_join.specs.Inner.Slots.{group_at, group_in}
+use Rattle.n2k_join.specs.Inner.Slots.{group_in}
 use Rattle.n2k_join.specs.Inner.Stored.{key_of}
 use Rattle.n2k_join.proofs.SavedGroups.{pieces-refused, complete-refused, group-taken}
 use Rattle.n2k_join.proofs.saved.resume.stored_group.Goals as goal
 
 pub returns-in_err-stored-clause-value : goal.returns-in_err-stored-clause-value
-returns-in_err-stored-clause-value c =
-    let g : Group = c.args.group.now in
-    let bad = ap (pieces_rise 0) (ap (λ (h : Group). h.pieces) (sym c.group.view_is) ∙ sym c.deref.ensures.value) ∙ c.in_err-stored.ensures.value g.key in
-    subst (λ o. SomeUnder group_at o (group_holds (kind c.args.table.now) g) g) (sym c.from_residual.ensures) (pieces-refused (kind c.args.table.now) g bad)
+returns-in_err-stored-clause-value c = grind (arith, pieces-refused (kind c.args.table.now) c.args.group.now (ap (pieces_rise 0) (ap (λ (h : Group). h.pieces) (sym c.group.view_is) ∙ sym c.deref.ensures.value) ∙ c.in_err-stored.ensures.value c.args.group.now.key))
 
 -- the group that is stored under a key is the one that is read
 is_read : (first : ℕ) (key : Key) (ps items : List Piece) (stored g : Group) → stored ≡ record { first = first; key = key; pieces = ps } → ps ≡ items → record { first = first; key = key; pieces = items } ≡ g → stored ≡ g

@@ -1,9 +1,9 @@
-use Rattle.std.proofs.Common.{◌≡◌, ◌+◌, ◌++◌, [], ◌∷◌, true, false, IfSome, sym, ap, subst, ◌∙◌, arith, is_some}
+use Rattle.std.proofs.Common.{◌≡◌, ◌+◌, ◌++◌, [], ◌∷◌, false, IfSome, sym, ap, subst, ◌∙◌, arith, is_some}
 use Rattle.std.specs.List.{list_any, AllByRecursion}
 use Rattle.n2k_table.specs.Table.{kind}
 use Rattle.n2k_join.specs.Frames.{same_key}
 use Rattle.n2k_join.specs.Open.{Group}
-use Rattle.n2k_join.specs.Resumed.{group_holds, valid_if}
+use Rattle.n2k_join.specs.Resumed.{group_holds}
 use Rattle.n2k_join.specs.State.{HasParts}
 use Rattle.n2k_join.specs.Inner.Apart.{each_new, SomeUnder}
 use Rattle.n2k_join.specs.Inner.Slots.{group_at}
@@ -25,28 +25,14 @@ loop-group-init c = record {
 
 pub returns-then-contains_key-clause-value : goal.returns-then-contains_key-clause-value
 unfolding same_key
-returns-then-contains_key-clause-value c = λ _.
-    let k = c.in_ok-key.key in
-    let s = c.loop-group.stored in
-    let taken = subst (λ o. SomeUnder group_at o (group_holds (kind c.args.table.now) c.group-item.result) c.group-item.result) c.in_ok-key.ensures.ok_part c.stored_group.ensures.value in
-    let at = open-found c.loop-group.invariant.rises.0 s c.loop-group.invariant.rises.1.0 k in
-    let there : is_some (found s.groups.entries k) ≡ true = sym c.contains_key.ensures ∙ c.if-contains_key.true in
-    let again = ap (λ (g : Group). list_any (same_key g.key) (keys_in (listed s))) (sym taken.1) ∙ key_listed (key_of k) (listed s) ∙ at ∙ there in
-    ap (λ b. valid_if b c.args.groups.now) (key_again (kind c.args.table.now) (keys_in (listed s)) c.args.groups.now c.loop-group.group-index c.group-item.result (omega arith) c.group-item.is c.loop-group.invariant.left taken.0 again)
+returns-then-contains_key-clause-value c = grind (arith, open-found, keys_in, key_listed, key_again)
 
 pub insert-requires-clause-new : goal.insert-requires-clause-new
 unfolding same_key
 insert-requires-clause-new c = none_from _ (sym c.contains_key.ensures ∙ c.if-contains_key.false)
 
 pub insert-requires-clause-kept : goal.insert-requires-clause-kept
-insert-requires-clause-kept c =
-    let g = c.group-item.result in
-    let s = c.loop-group.stored in
-    let taken = subst (λ o. SomeUnder group_at o (group_holds (kind c.args.table.now) g) g) c.in_ok-key.ensures.ok_part c.stored_group.ensures.value in
-    let first : c.in_ok-key.open.first ≡ g.first = ap (λ (h : Group). h.first) taken.1 in
-    let r = c.loop-group.invariant.rises in
-    let next = next_rises r.0 c.args.lines c.loop-group.group-index c.args.groups.now g (omega arith) c.group-item.is r.1.1.1 in
-    kept-later r.0 c.in_ok-key.open.first s (omega (arith, next.0, first)) r.1.0
+insert-requires-clause-kept c = grind (arith, next_rises c.loop-group.invariant.rises.0 c.args.lines c.loop-group.group-index c.args.groups.now c.group-item.result (omega arith) c.group-item.is c.loop-group.invariant.rises.1.1.1, kept-later)
 
 pub loop-group-preserved : goal.loop-group-preserved
 unfolding same_key
@@ -74,7 +60,4 @@ loop-group-preserved c =
     }
 
 pub returns-clause-kept : goal.returns-clause-kept
-returns-clause-kept c =
-    let s = c.loop-group.stored in
-    let r = c.loop-group.invariant.rises in
-    kept-later r.0 (c.args.lines + 1) s r.1.1.0 r.1.0
+returns-clause-kept c = grind (arith, kept-later)

@@ -1,4 +1,4 @@
-use Rattle.std.proofs.Common.{◌≡◌, ◌∙◌, ◌++◌, ◌+◌, ◌-◌, length, ap, sym, refl, option_map, arith}
+use Rattle.std.proofs.Common.{◌≡◌, ◌∙◌, ◌++◌, ◌+◌, ◌-◌, length, ap, sym, option_map, arith}
 use Rattle.n2k_join.specs.declared.piece.FrameKey.{FrameKey}
 use Rattle.n2k_join.specs.declared.open_groups.Linked.{Linked}
 use Rattle.n2k_join.specs.Inner.SavedTokens.{groups_tokens}
@@ -7,10 +7,7 @@ use Rattle.n2k_join.proofs.Listed.{no-places, places-more, groups_written, group
 use Rattle.n2k_join.proofs.saved.text.push_groups.Goals as goal
 
 pub loop-written-init : goal.loop-written-init
-loop-written-init c =
-    let g = c.args.groups.now in
-    let all : length g.groups.entries ≡ length g.groups.entries - 0 = omega arith in
-    record { tokens = ap (λ n. c.args.out.now.tokens ++ groups_tokens (groups_at (item_at g) (places_from g.groups.entries n g.first))) all; before = refl; end = c.len-written-end.ensures.len }
+loop-written-init c = grind arith
 
 pub loop-written-preserved : goal.loop-written-preserved
 loop-written-preserved c =

@@ -1,7 +1,7 @@
-use Rattle.std.proofs.Common.{◌≡◌, ◌+◌, ◌/◌, List, ℕ, length, Some, ap, sym, ◌∙◌}
+use Rattle.std.proofs.Common.{arith, ◌≡◌, ◌+◌, ◌/◌, List, ℕ, length, Some, ap, ◌∙◌}
 use Rattle.n2k_table.specs.Table.{kind}
-use Rattle.n2k_table.specs.declared.definition.Kind.TheVariants.{Single, Fast}
-use Rattle.n2k_join.specs.Pieces.{pieces_as, stream_of}
+use Rattle.n2k_table.specs.declared.definition.Kind.TheVariants.{Fast}
+use Rattle.n2k_join.specs.Pieces.{stream_of}
 use Rattle.n2k_join.specs.Splitter.{sequences}
 use Rattle.n2k_join.proofs.LentFrames.{are_fast, are_single, pieces_single}
 use Rattle.n2k_join.proofs.Numbered.{raised_fast, raised_single}
@@ -14,15 +14,10 @@ pub invariant_of-result-in-Fast : goal.invariant_of-result-in-Fast
 invariant_of-result-in-Fast c = are_fast c.args.message.now _ _ c.in_ok-sequence-in-Fast.ensures.small c.data.ensures.valid.payload_ok (ap (λ (bytes : List ℕ). length bytes / 7 + 1) c.data.ensures.value)
 
 pub returns-in-Single-clause-frames : goal.returns-in-Single-clause-frames
-returns-in-Single-clause-frames c =
-    let m = c.args.message.now in
-    let single : kind c.args.table.now m.id.pgn ≡ Some Single = c.in_ok-kind_of.ensures.kind ∙ ap Some c.in-Single.is in
-    pieces_single m 0 (sequences c.args.self.now (stream_of m.id)) ∙ ap (λ k. pieces_as k m (sequences c.args.self.now (stream_of m.id))) (sym single)
+returns-in-Single-clause-frames c = grind (arith, pieces_single)
 
 pub returns-in-Single-clause-raised : goal.returns-in-Single-clause-raised
-returns-in-Single-clause-raised c =
-    let single : kind c.args.table.now c.args.message.now.id.pgn ≡ Some Single = c.in_ok-kind_of.ensures.kind ∙ ap Some c.in-Single.is in
-    sym (raised_single (kind c.args.table.now) (sequences c.args.self.now) (stream_of c.args.message.now.id) single)
+returns-in-Single-clause-raised c = grind (arith, raised_single)
 
 pub returns-in_ok-sequence-in-Fast-clause-raised : goal.returns-in_ok-sequence-in-Fast-clause-raised
 returns-in_ok-sequence-in-Fast-clause-raised c =

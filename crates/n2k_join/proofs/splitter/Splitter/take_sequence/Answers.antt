@@ -38,11 +38,7 @@ returns-in-Some-clause-small c =
 
 pub returns-in-Some-clause-raised : goal.returns-in-Some-clause-raised
 unfolding same_stream
-returns-in-Some-clause-raised c s =
-    let held = c.self.inside.next.entries in
-    let is : c.in-Some.next.now ≡ sequences held c.args.stream = ap (λ o. unwrap_or o 0) c.in-Some.ensures.value in
-    let updates = (c.get_mut.follows.holds ((c.in-Some.next.now + 1) % 8)).3 (search rules) in
-    raised_by_map held c.args.stream s c.in-Some.next.now _ is (updates.0 s) ∙ ap (λ held. cond (same_stream c.args.stream s) ((sequences held s + 1) % 8) (sequences held s)) c.self.view_is
+returns-in-Some-clause-raised c s = grind (arith, raised_by_map)
 
 pub returns-in_ok-insert-in-None-clause-sequence : goal.returns-in_ok-insert-in-None-clause-sequence
 unfolding same_stream
