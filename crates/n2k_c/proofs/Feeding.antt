@@ -1,7 +1,8 @@
 -- A decoder with more bytes fed, at the end of its log, and with what waits taken out.
-use Rattle.std.proofs.Common.{◌≡◌, ◌≢◌, ◌⊎◌, inl, inr, ℕ, zero, suc, ◌+◌, ◌-◌, ◌<◌, ◌≤◌, Bool, true, false, List, [], ◌∷◌, ◌++◌, length, take, drop, get_or, Option, Some, None, Result, Ok, Err, refl, sym, ap, subst, ◌∙◌, arith, append_assoc, eqb-true, append-nil, length-append, ◌==◌}
+use Rattle.std.proofs.Common.{◌≡◌, inl, inr, ℕ, zero, suc, ◌+◌, ◌-◌, ◌<◌, ◌≤◌, Bool, true, false, List, [], ◌∷◌, ◌++◌, length, take, drop, get_or, Some, None, Result, Ok, Err, refl, sym, ap, subst, ◌∙◌, arith, append_assoc, eqb-true, append-nil, length-append}
 use Rattle.std.specs.Io.{IsEmptyOrEndsWith}
 use Rattle.std.proofs.Math.Seq.{take-suc}
+use Rattle.std.proofs.lemmas.Bool.{false_from_ne_true}
 use Rattle.std.proofs.lemmas.List.Elements.{All-append}
 use Rattle.std.proofs.lemmas.List.{append_cancel_left, get_or-drop, length-drop, take-append-drop}
 use Rattle.memchr.specs.Find.{Nowhere, Passes, NoneAfter, is_byte}
@@ -9,7 +10,7 @@ use Rattle.n2k_wire.specs.declared.entry.Packing.{Packing}
 use Rattle.n2k_table.specs.Table.{TableParts, kind}
 use Rattle.n2k_join.specs.Counts.{most_lines}
 use Rattle.n2k_join.specs.Messages.{counts}
-use Rattle.n2k_join.specs.State.{State, state}
+use Rattle.n2k_join.specs.State.{State}
 use Rattle.n2k_join.specs.Saved.{state_text}
 use Rattle.n2k_join.specs.Window.{Window}
 use Rattle.n2k_join.specs.declared.counts.Counts.{Counts}
@@ -93,24 +94,20 @@ waits_no_feed fed rest is =
 both_no_feed : (a b : List ℕ) → HasNoFeed a → HasNoFeed b → HasNoFeed (a ++ b)
 both_no_feed a b none_a none_b = All-append (λ byte. is_line_feed byte ≡ false) a b none_a none_b
 
-not_true : (b : Bool) → (b ≡ true → ⊥) → b ≡ false
-not_true true h = absurd (h refl)
-not_true false h = refl
-
 same_default : (l : List ℕ) (i d e : ℕ) → i < length l → get_or l i d ≡ get_or l i e
 same_default [] i d e below = absurd (omega (arith, below))
 same_default (x ∷ l) zero d e below = refl
 same_default (x ∷ l) (suc i) d e below = same_default l i d e (omega (arith, below))
 
 nowhere_no_feed : (bytes : List ℕ) → Nowhere (Passes (is_byte 10) bytes) 0 (length bytes) → HasNoFeed bytes
-nowhere_no_feed bytes none = λ k d below. ap is_line_feed (same_default bytes k d 0 below) ∙ not_true _ (none k (omega arith) below)
+nowhere_no_feed bytes none = λ k d below. ap is_line_feed (same_default bytes k d 0 below) ∙ false_from_ne_true _ (none k (omega arith) below)
 
 no_feed_after : (bytes rest : List ℕ) (last : ℕ) → rest ≡ drop (last + 1) bytes → NoneAfter (Passes (is_byte 10) bytes) 0 (length bytes) last → HasNoFeed rest
 no_feed_after bytes rest last is none = subst HasNoFeed (sym is) (λ k d below.
     let all = length-drop (last + 1) bytes in
     let high : last + 1 + k < length bytes = omega (arith, all, below) in
     let low : last + 1 ≤ last + 1 + k = omega arith in
-    ap is_line_feed (get_or-drop (last + 1) bytes k d ∙ same_default bytes (last + 1 + k) d 0 high) ∙ not_true _ (none.after (last + 1 + k) low high))
+    ap is_line_feed (get_or-drop (last + 1) bytes k d ∙ same_default bytes (last + 1 + k) d 0 high) ∙ false_from_ne_true _ (none.after (last + 1 + k) low high))
 
 ends_at_feed : (bytes lines : List ℕ) (last : ℕ) → lines ≡ take (last + 1) bytes → NoneAfter (Passes (is_byte 10) bytes) 0 (length bytes) last → Passes (is_byte 10) bytes last → lines ≡ take last bytes ++ (10 ∷ [])
 ends_at_feed bytes lines last is none passes =
@@ -120,10 +117,7 @@ ends_at_feed bytes lines last is none passes =
 -- ---- a line that is cut, taken as it is
 
 options_are : (p : Packing) (e : Bool) (w : Window) (o : Options) → p ≡ o.packing → e ≡ o.empty → w ≡ o.window → (let x : Options = record { packing = p; empty = e; window = w } in x) ≡ o
-options_are p e w o is_p is_e is_w =
-    ap (λ (x : Packing). let y : Options = record { packing = x; empty = e; window = w } in y) is_p
-    ∙ ap (λ (x : Bool). let y : Options = record { packing = o.packing; empty = x; window = w } in y) is_e
-    ∙ ap (λ (x : Window). let y : Options = record { packing = o.packing; empty = o.empty; window = x } in y) is_w
+options_are p e w o is_p is_e is_w = rw (is_p, is_e, is_w) refl
 
 -- what a run over more promises, behind each front
 More : TableParts → Options → State → List ℕ → Devices → Devices → State → Result (Unit {0}) RunFault → Type 0
@@ -249,9 +243,7 @@ spends_more d d₁ d₂ bytes lines rest last of_run.TooManyLines is_lines is_re
     inl (too_many t o fed printed reported d d₁ bytes lines rest last is_lines is_rest none passes cut s (runs t o (whole_lines fed) printed reported (whole_ends fed) (to t o (whole_lines fed) printed reported s.taken)))
 spends_more d d₁ d₂ bytes lines rest last of_run.Read is_lines is_rest none passes cut to runs = λ t o fed printed reported s.
     inr (too_long t o fed printed reported d d₁ bytes lines rest last is_lines is_rest none passes cut s (runs t o (whole_lines fed) printed reported (whole_ends fed) (to t o (whole_lines fed) printed reported s.taken)))
-spends_more d d₁ d₂ bytes lines rest last of_run.Write is_lines is_rest none passes cut to runs = tt
-spends_more d d₁ d₂ bytes lines rest last of_run.Report is_lines is_rest none passes cut to runs = tt
-spends_more d d₁ d₂ bytes lines rest last of_run.Memory is_lines is_rest none passes cut to runs = tt
+spends_more d d₁ d₂ bytes lines rest last _ is_lines is_rest none passes cut to runs = tt
 
 -- ---- n2k_end
 
@@ -270,9 +262,7 @@ spends_end d d' of_run.TooManyLines runs = λ t o fed printed reported s.
     inl (subst (λ x. most_lines < length (entries o.packing x)) (sym (append-nil fed ∙ s.fed_is)) (runs t o (whole_lines fed) printed reported (whole_ends fed) s.taken))
 spends_end d d' of_run.Read runs = λ t o fed printed reported s.
     inr (let many : most_reads ≤ length d.cut.items + 1 = runs t o (whole_lines fed) printed reported (whole_ends fed) s.taken in omega (arith, many))
-spends_end d d' of_run.Write runs = tt
-spends_end d d' of_run.Report runs = tt
-spends_end d d' of_run.Memory runs = tt
+spends_end d d' _ runs = tt
 
 -- ---- what is told of a decoder
 

@@ -3,9 +3,7 @@
 --     pair_good     it has the type that the fields give
 --     grip_out      a grip by value owns its box, at a block, and its allocator's word
 --     grip_in       these two make a grip
-use Rattle.std.proofs.Common.{◌≡◌, ℕ, List, [], ◌∷◌, ◌++◌, refl, subst}
-use mathlib.Core.Bool.{true, ◌&&◌}
-use lib.Dec.{T}
+use Rattle.std.proofs.Common.{◌≡◌, ℕ, List, [], ◌∷◌, ◌++◌, refl, subst, true, ◌&&◌, T}
 use seplogic.Ra.Ura.{Ura}
 use mir.Syntax.{impl, tnil, dnil}
 use mir.Raw.{raw as bare}
@@ -22,7 +20,7 @@ use denote.Steps.{nothing}
 use denote.Param.{layout}
 use denote.Param.Laws.{Laws}
 use denote.Struct.Struct.{within}
-use denote.Struct.Owning.{Owning, shape}
+use denote.Struct.Owning.{shape}
 use Rattle.std.specs.declared.alloc.Allocator.{Ghosts}
 use Rattle.std.proofs.alloc.Calls.{Al, handle_tells}
 use Rattle.std.proofs.cell.Inside.{Good}

@@ -1,5 +1,5 @@
 -- What a call answers, from what its parts do.
-use Rattle.std.proofs.Common.{◌≡◌, ℕ, Bool, true, false, true≢false, List, [], Option, Some, None, Result, Ok, Err, MatchResult, is_some, refl, sym, ap, ◌∙◌, subst, arith}
+use Rattle.std.proofs.Common.{◌≡◌, ℕ, Bool, true, false, true≢false, List, [], Option, Some, None, Result, Err, MatchResult, is_some, refl, sym, ap, ◌∙◌, subst, arith}
 use Rattle.n2k_table.specs.Table.{TableParts, faults, table}
 use Rattle.n2k_run.specs.declared.options.Options.{Options}
 use Rattle.n2k_run.specs.Decoded.{out, reports}
@@ -7,7 +7,7 @@ use Rattle.n2k_run.specs.Parts.{IsFront}
 use Rattle.n2k_c.specs.declared.Settings.{Settings}
 use Rattle.n2k_c.specs.declared.decoder.Decoder.{Decoder}
 use Rattle.n2k_c.specs.declared.refusal.Refusal.{Refusal}
-use Rattle.n2k_c.specs.declared.refusal.Refusal.TheVariants.{Room, Memory, Window, TooMuch, Closed, Open, Ended, Reserved, Table, State}
+use Rattle.n2k_c.specs.declared.refusal.Refusal.TheVariants.{Room, Memory}
 use Rattle.n2k_c.specs.Answers.{IsDecoderOf, NotMoved, NotSaved, NotSavedInto, Sized, WantsRoom, are_known, settings_options}
 use Rattle.n2k_c.specs.Stands.{Stands}
 
@@ -62,14 +62,7 @@ not_saved_by : (before after : Sized) (old new : Option Decoder) (from to : Deco
     → NotSaved before after old new refusal
 not_saved_by before after old new from to Room was now same why = record { from = from; to = to; was = was; is = now; how = (same, why) }
 not_saved_by before after old new from to Memory was now same why = record { from = from; to = to; was = was; is = now; how = (same, why) }
-not_saved_by before after old new from to Window was now same why = absurd why
-not_saved_by before after old new from to TooMuch was now same why = absurd why
-not_saved_by before after old new from to Closed was now same why = absurd why
-not_saved_by before after old new from to Open was now same why = absurd why
-not_saved_by before after old new from to Ended was now same why = absurd why
-not_saved_by before after old new from to Reserved was now same why = absurd why
-not_saved_by before after old new from to (Table fault) was now same why = absurd why
-not_saved_by before after old new from to (State fault) was now same why = absurd why
+not_saved_by before after old new from to _ was now same why = absurd why
 
 pub not_saved : (Done : Type 0) (before after : Sized) (old new : Option Decoder) (from to : Decoder) (refusal : Refusal) (result : Result (Unit {0}) Refusal)
     → result ≡ Err refusal → old ≡ Some from → new ≡ Some to → to ≡ from → NotSavedInto before after from refusal

@@ -1,5 +1,5 @@
 -- What the parts of the calls answer: for private clauses.
-use Rattle.std.specs.Prelude.{◌≡◌, ◌<◌, ◌≤◌, ◌+◌, ℕ, List, ◌++◌, length, Option, Some, None, Result, Ok, Err}
+use Rattle.std.specs.Prelude.{◌<◌, ◌≤◌, ◌+◌, ℕ, List, ◌++◌, length, Result, Ok, Err}
 use Rattle.n2k_table.specs.Table.{TableParts}
 use Rattle.n2k_table.specs.declared.fault.TableFault.{TableFault}
 use Rattle.n2k_table.specs.declared.fault.TableFault.TheVariants as of_table

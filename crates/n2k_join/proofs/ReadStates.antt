@@ -15,7 +15,7 @@ use Rattle.n2k_join.specs.Counts.{most_lines}
 use Rattle.n2k_join.specs.Frames.{same_key, Key, most_frames}
 use Rattle.n2k_join.specs.Open.{Group, Piece}
 use Rattle.n2k_wire.specs.Steps.{or_cause}
-use Rattle.n2k_join.specs.Resumed.{counts_hold, firsts_rise, format_in, group_holds, groups_hold, is_valid, resumed, key_holds, parsed, read_state, waits_hold, pieces_rise, is_fast_pgn}
+use Rattle.n2k_join.specs.Resumed.{counts_hold, firsts_rise, format_in, group_holds, groups_hold, is_valid, resumed, key_holds, parsed, read_state, waits_hold, pieces_rise}
 use Rattle.n2k_join.specs.Saved.{IsId, state_text, are_waiting}
 use Rattle.n2k_join.specs.State.{State, state, AreFast, IsState, HasParts, IsKey, IsPiece, IsOpen, AreWaiting, step_after}
 use Rattle.n2k_join.specs.Window.{Window, IsWindow}
@@ -32,18 +32,18 @@ use Rattle.n2k_join.specs.Bounds.{HasWindow, HoldsFew}
 use Rattle.n2k_join.proofs.Rising.{all-map, rise-few}
 use Rattle.n2k_join.proofs.StateBound.{state-short}
 
-is_fast-true : (k : Option Kind) → is_fast_pgn k ≡ true → k ≡ Some Fast
-is_fast-true k h = grind arith
+fast-key : (kind : ℕ → Option Kind) (k : Key) → key_holds kind k ≡ true → kind k.pgn ≡ Some Fast
+unfolding key_holds
+fast-key kind k h = grind arith
 
 groups-fast : (kind : ℕ → Option Kind) (gs : List Group) → groups_hold kind gs ≡ true → AreFast kind gs
-unfolding groups_hold group_holds key_holds
+unfolding groups_hold group_holds
 groups-fast kind [] h = tt
 groups-fast kind (g ∷ gs) h =
     let all = and_parts (group_holds kind g) _ h in
     let key = and_parts (key_holds kind g.key) _ all.0 in
-    let ranges = and_parts _ _ key.0 in
     let rest = and_parts (not (list_any (λ (other : Group). same_key g.key other.key) gs)) (groups_hold kind gs) all.1 in
-    (is_fast-true (kind g.key.pgn) (and_parts (is_fast_pgn (kind g.key.pgn)) _ ranges.1).0, groups-fast kind gs rest.1)
+    (fast-key kind g.key key.0, groups-fast kind gs rest.1)
 
 pub valid-fast : (kind : ℕ → Option Kind) (s : State) → is_valid kind s ≡ true → AreFast kind s.groups
 unfolding is_valid

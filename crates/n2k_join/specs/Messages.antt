@@ -53,15 +53,10 @@ single_by None packet = None
 single_by (Some Single) packet = Some packet
 single_by (Some Fast) packet = None
 
--- the message that a whole message is: it is one where its PGN is in the table, however that is sent
-abbrev pub whole_by : Option Kind → PacketParts → Option PacketParts
-whole_by None packet = None
-whole_by (Some kind) packet = Some packet
-
--- the message that an entry gives alone
+-- the message that an entry gives alone: a whole message is one where its PGN is in the table, however that is sent
 abbrev pub alone : (ℕ → Option Kind) → Entry → Option PacketParts
 alone kind (entries.Frame packet) = single_by (kind packet.id.pgn) packet
-alone kind (entries.Whole packet) = whole_by (kind packet.id.pgn) packet
+alone kind (entries.Whole packet) = if is_some (kind packet.id.pgn) then Some packet else None
 alone kind _ = None
 
 -- the message that a line gives: of the group that it completes, or of its entry alone
@@ -86,20 +81,17 @@ cause_in kind (entries.Bad cause) = Some cause
 cause_in kind (entries.Frame packet) = fast_cause (kind packet.id.pgn) packet
 cause_in kind _ = None
 
--- what is reported of a broken group, by its key and frames
-abbrev pub broken_of : Key → List Frame → Broken
-broken_of key group = record { pgn = key.pgn; src = key.src; dst = key.dst; seq = key.sequence; first = first group }
+-- what is reported of a broken group: its key, and the line that opened it
+abbrev pub broken_from : Key → ℕ → Broken
+broken_from key line = record { pgn = key.pgn; src = key.src; dst = key.dst; seq = key.sequence; first = line }
 
--- what is reported of a broken group, by what a state keeps of it
+-- that, by its key and frames
+abbrev pub broken_of : Key → List Frame → Broken
+broken_of key group = broken_from key (first group)
+
+-- and by what a state keeps of it
 abbrev pub as_broken : Group → Broken
-as_broken group =
-    record {
-      pgn = group.key.pgn;
-      src = group.key.src;
-      dst = group.key.dst;
-      seq = group.key.sequence;
-      first = group.first;
-    }
+as_broken group = broken_from group.key group.first
 
 -- The line at which a group that isn't complete is broken, where these groups come after it: that at which its window
 -- ends, or that of the frame after it, whichever is first.

@@ -13,7 +13,6 @@ use Rattle.serde_json.specs.Read.{read}
 use Rattle.n2k_wire.specs.Packet.{greatest_pgn, longest_message}
 use Rattle.n2k_wire.specs.Plain.{greatest_address}
 use Rattle.n2k_table.specs.declared.definition.Kind.{Kind}
-use Rattle.n2k_table.specs.declared.definition.Kind.TheVariants.{Single, Fast}
 use Rattle.n2k_join.specs.declared.counts.Counts.{Counts}
 use Rattle.n2k_join.specs.declared.fault.StateFault.{StateFault}
 use Rattle.n2k_join.specs.declared.fault.StateFault.TheVariants.{NotJson, Format, Shape, TableDiffers, WindowDiffers}
@@ -26,6 +25,7 @@ use Rattle.n2k_join.specs.Counts.{most_lines}
 use Rattle.n2k_join.specs.Frames.{Key, same_key, frame_bytes, most_frames, most_sequences}
 use Rattle.n2k_join.specs.Groups.{complete}
 use Rattle.n2k_join.specs.Open.{Piece, Group}
+use Rattle.n2k_join.specs.Pieces.{is_fast}
 use Rattle.n2k_join.specs.State.{State, held_of}
 use Rattle.n2k_join.specs.Saved.{saved_format, old_format, are_waiting}
 use Rattle.n2k_wire.specs.Steps.{◌>>=◌, or_cause, holds_or}
@@ -170,17 +170,11 @@ read_state format window d = do
   lines ← read_window format window.lines d
   Ok (state_of_parts id (record { lines = lines; in_order = window.in_order }) counts groups)
 
-abbrev pub is_int : ℕ → Option ℕ → Bool
-is_int n None = false
-is_int n (Some m) = m == n
-
-abbrev pub format_numbered : Option ℕ → Result StateFormat StateFault
-format_numbered n =
-    if is_int old_format n then Ok WithoutWindow else if is_int saved_format n then Ok WithWindow else Err Format
-
 -- the format that a value has
 abbrev pub format_in : Data → Result StateFormat StateFault
-format_in d = format_numbered (option_and_then as_int (get (codes "format") d))
+format_in d = do
+  n ← or_cause Format (option_and_then as_int (get (codes "format") d))
+  if n == old_format then Ok WithoutWindow else if n == saved_format then Ok WithWindow else Err Format
 
 -- The rules of a valid state.
 -- Each line counts once at most as a message, as bad or as unknown, and opens one group at most, which is broken or
@@ -194,16 +188,10 @@ unfoldable pub firsts_rise : ℕ → ℕ → List Group → Bool
 firsts_rise least lines [] = true
 firsts_rise least lines (g ∷ gs) = nat_le least g.first && (nat_le g.first lines && firsts_rise (g.first + 1) lines gs)
 
--- the table sends a PGN of this kind in fast packets
-abbrev pub is_fast_pgn : Option Kind → Bool
-is_fast_pgn None = false
-is_fast_pgn (Some Single) = false
-is_fast_pgn (Some Fast) = true
-
 -- a key is one that frames of the table's fast PGNs can have
 unfoldable pub key_holds : (ℕ → Option Kind) → Key → Bool
 key_holds kind k =
-    nat_le k.pgn greatest_pgn && (is_fast_pgn (kind k.pgn)
+    nat_le k.pgn greatest_pgn && (is_fast (kind k.pgn)
     && (nat_le k.src greatest_address && (nat_le k.dst greatest_address && nat_lt k.sequence most_sequences)))
 
 -- a frame 0 has a total that isn't too large

@@ -16,9 +16,10 @@ pub(crate) const MOST_SEQUENCES: u8 = 8;
 pub(crate) const LONGEST_MESSAGE: u8 = 223;
 
 /// What the bytes of a frame are filled with.
-pub(crate) const FILLER: u8 = 0xff;
+const FILLER: u8 = 0xff;
 
-fn byte_or_filler(bytes: &[u8], at: usize) -> u8
+/// The byte at a place, or what fills a frame where the bytes have ended.
+pub(crate) fn byte_or_filler(bytes: &[u8], at: usize) -> u8
     ensures { result ≡ slice_index_or bytes.now at filler }
 {
     match bytes.get(at) {

@@ -22,8 +22,8 @@ use crate::fault::{JoinFault, StateFault};
 use crate::laws;
 use crate::open_groups::OpenGroups;
 use crate::saved::{
-    SpelledGroup, SpelledState, format_in, parsed, read_state, rules_hold, state_text,
-    stored_groups, waits_hold, written_parts,
+    SpelledGroup, format_in, parsed, read_state, rules_hold, state_text, stored_groups, waits_hold,
+    written_parts,
 };
 use crate::step::{Broken, LentStep, Step};
 use crate::window::Window;
@@ -151,8 +151,7 @@ impl Join {
     pub fn counts(&self) -> Counts
         ensures { result ≡ self.now.counts }
     {
-        let Join { counts, .. } = self;
-        *counts
+        self.counts
     }
 
     /// What ends a group that isn't complete: the window that was handed in. It takes no memory.
@@ -165,8 +164,7 @@ impl Join {
     pub fn window(&self) -> Window
         ensures { result ≡ self.now.window }
     {
-        let Join { window, .. } = self;
-        *window
+        self.window
     }
 
     /// Breaks the oldest of the open groups whose window ends at the next line, if not before, and answers what is
@@ -201,16 +199,9 @@ impl Join {
             return None;
         }
         let broken = self.groups.take_ended(self.window, self.counts.lines + 1)?;
-        let Counts {
-            broken: before,
-            held,
-            ..
-        } = self.counts;
-        self.counts = Counts {
-            broken: before + 1,
-            held: held - 1,
-            ..self.counts
-        };
+        let counts = &mut self.counts;
+        counts.broken += 1;
+        counts.held -= 1;
         Some(broken)
     }
 
@@ -291,17 +282,12 @@ impl Join {
         ensures own { IfOk result (λ step. IsOwn table.now step.message (packet_in entry.new)) }
         ensures entry { OnErr result (entry.new ≡ entry.old) }
     {
-        let Taken {
-            message,
-            bad,
-            broken,
-            ..
-        } = self.take(table, entry)?;
+        let taken = self.take(table, entry)?;
         Ok(LentStep {
             line: self.counts.lines,
-            message,
-            bad,
-            broken,
+            message: taken.message,
+            bad: taken.bad,
+            broken: taken.broken,
         })
     }
 
@@ -381,13 +367,7 @@ impl Join {
         if !waits_hold(format, &state) {
             return Err(StateFault::Invalid);
         }
-        let SpelledState {
-            id,
-            counts,
-            groups,
-            ..
-        } = state;
-        Join::from_state(alloc, table, id, window, counts, &groups)
+        Join::from_state(alloc, table, state.id, window, state.counts, &state.groups)
     }
 
     /// The join that a saved state spells, under the table and the window that it was saved with. It goes on where that

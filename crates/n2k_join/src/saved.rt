@@ -12,7 +12,7 @@ mod written;
 pub(crate) use reader::read_state;
 pub(crate) use resume::{format_in, parsed, stored_groups};
 pub(crate) use rules::{rules_hold, waits_hold};
-pub(crate) use spelled::{SpelledGroup, SpelledState};
+pub(crate) use spelled::SpelledGroup;
 pub(crate) use text::state_text;
 pub(crate) use written::written_parts;
 

@@ -10,7 +10,7 @@ ghost use Rattle.n2k_join.specs.Pieces.{sent_byte, piece, piece_bytes, pieces_as
 ghost use Rattle.n2k_join.specs.Splitter.{sequences, refusal};
 
 use crate::fault::SplitFault;
-use crate::frame::{FILLER, MOST_FRAMES, MOST_SEQUENCES};
+use crate::frame::{MOST_FRAMES, MOST_SEQUENCES, byte_or_filler};
 use crate::stream::Stream;
 use indexmap::IndexMap;
 use n2k_table::{Kind, Table};
@@ -71,10 +71,7 @@ fn sent_byte(data: &[u8], place: usize) -> u8
     if place == 0 {
         return data.len() as u8;
     }
-    match data.get(place - 1) {
-        Some(byte) => *byte,
-        None => FILLER,
-    }
+    byte_or_filler(data, place - 1)
 }
 
 /// The seven bytes of a frame that the data fill.
@@ -83,22 +80,11 @@ fn full_piece(data: &[u8], number: u8) -> Option<[u8; 7]>
     ensures { IfSome result (λ bytes. bytes ≡ piece_bytes «data».now number) }
 {
     if number == 0 {
-        let six = data.first_chunk::<6>()?;
-        return Some([
-            data.len() as u8,
-            six[0],
-            six[1],
-            six[2],
-            six[3],
-            six[4],
-            six[5],
-        ]);
+        let [a, b, c, d, e, f] = *data.first_chunk::<6>()?;
+        return Some([data.len() as u8, a, b, c, d, e, f]);
     }
     let first = FRAME_BYTES * number as usize - 1;
-    if first > data.len() {
-        return None;
-    }
-    let (_, behind) = data.split_at(first);
+    let (_, behind) = data.split_at_checked(first)?;
     let seven = behind.first_chunk::<7>()?;
     Some(*seven)
 }

@@ -4,8 +4,7 @@ use Rattle.std.specs.Io.KnownBytes.{Consumes, IsAtEnd}
 use Rattle.n2k_wire.specs.declared.entry.Entry.{Entry}
 use Rattle.n2k_wire.specs.declared.entry.Packing.{Packing}
 use Rattle.n2k_run.specs.declared.fault.RunFault.{RunFault}
-use Rattle.n2k_run.specs.declared.fault.RunFault.TheVariants.{Read, TooManyLines}
-use Rattle.n2k_run.specs.Runs.{Devices, RunEnds, IsOfDevice, IsWhole, Output, Runs}
+use Rattle.n2k_run.specs.Runs.{Devices, IsWhole, Output, Runs}
 
 -- outputs are equal that agree on all entries
 pub output_same : (packing : Packing) (counted : ℕ) (texts texts' reports reports' : List Entry → List ℕ) → ((es : List Entry) → texts es ≡ texts' es) → ((es : List Entry) → reports es ≡ reports' es)
@@ -32,15 +31,6 @@ log_if_ok o stands before after P (Err fault) runs here = tt
 module _ (o : Output) (stands stands' : List Entry → Type 0) (before after : Devices) where
   pub ok_more : {T U : Type 0} (x : T) (y : U) → Runs {T = T} o stands before after (Ok x) → ((es : List Entry) → stands es → stands' es) → Runs {T = U} o stands' before after (Ok y)
   ok_more x y runs follows = grind arith
-
-  ends_more : (T U : Type 0) (fault : RunFault) → ((es : List Entry) → stands es → stands' es) → RunEnds {T = T} o stands before after (Err fault) → RunEnds {T = U} o stands' before after (Err fault)
-  ends_more T U Read follows e = record { came = e.came; given = e.given; numbered = e.numbered; gained = e.gained; holds = follows _ e.holds }
-  ends_more T U TooManyLines follows e = record { taken = e.taken; full = e.full; left = e.left; gained = e.gained; holds = follows _ e.holds }
-  ends_more T U _ follows e = tt
-
-  device_same : (T U : Type 0) (fault : RunFault) → IsOfDevice {T = T} before after (Err fault) → IsOfDevice {T = U} before after (Err fault)
-  device_same T U Read d = d
-  device_same T U _ d = d
 
   pub err_more : (T U : Type 0) (fault : RunFault) → Runs {T = T} o stands before after (Err fault) → ((es : List Entry) → stands es → stands' es) → Runs {T = U} o stands' before after (Err fault)
   err_more T U fault runs follows = grind arith

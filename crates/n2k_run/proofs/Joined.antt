@@ -4,7 +4,7 @@ use Rattle.std.specs.List.{All, concat}
 use Rattle.std.proofs.lemmas.List.{get_or_at, map-append, take-append-drop}
 use Rattle.std.proofs.Math.Seq.{drop-cons}
 use Rattle.std.specs.Io.KnownBytes.{Appends}
-use Rattle.std.proofs.KnownBytes.{Appends-nil, Appends-trans}
+use Rattle.std.proofs.KnownBytes.{Appends-trans}
 use Rattle.std.proofs.lemmas.Grind.{flat_map-append}
 use Rattle.n2k_wire.specs.declared.entry.Entry.{Entry}
 use Rattle.n2k_table.specs.Table.{TableParts, kind}
@@ -37,12 +37,6 @@ empty-of laws t o window join result id is saves = grind (arith, begun-under law
 
 pub refused_memory : (t : TableParts) (o : Options) (handed : Option (List ℕ)) (s : State) (result : Result Part PartFault) → begun t o handed ≡ Ok s → BeginsBy t o handed result → RefusedByMemory result
 refused_memory t o handed s result is begins = grind arith
-
-pub none_taken : (t : TableParts) (o : Options) (before : Devices) (part : Part) → IsPartOf t o (state t.id o.window (kind t) []) part → TakesAll t o [] before before part
-none_taken t o before part is = record {
-  taken = record { printed = Appends-nil before.written; reported = Appends-nil before.reported; writes = refl; report_writes = refl };
-  leads_to = is;
-}
 
 entries_next : (o : Options) (done : List (List ℕ)) (met : List ℕ) → entries_of_parts o (done ++ met ∷ []) ≡ entries_of_parts o done ++ entries o.packing met
 entries_next o done met = flat_map-append (entries o.packing) done (met ∷ []) ∙ ap (λ es. entries_of_parts o done ++ es) (append-nil (entries o.packing met))

@@ -13,10 +13,6 @@ use Rattle.n2k_join.specs.Step.{due, expired}
 use Rattle.n2k_run.specs.Inner.Overdue.{BreaksOverdue}
 use Rattle.n2k_run.specs.Reports.{broken_text}
 
--- before the first round
-pub none_broken : (s : State) (report : List ℕ) → BreaksOverdue s s report report
-none_broken s report = record { after = λ kind e. refl; message = λ kind e. refl; cause = λ kind e. refl; broken = λ kind e. refl; same_lines = refl; still = λ full. (refl, refl) }
-
 -- the group of which was told
 record FoundDue (s : State) (b : Broken) : Type 0 where
   pub group : Group

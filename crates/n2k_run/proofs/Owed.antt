@@ -1,9 +1,9 @@
 -- How what is owed of a text shrinks as it is written.
-use Rattle.std.proofs.Common.{ℕ, List, ◌++◌, length, take, drop, sym, ◌∙◌, subst, append_assoc, ◌-◌, Option}
+use Rattle.std.proofs.Common.{ℕ, List, ◌++◌, ◌<◌, length, take, drop, sym, ap, ◌∙◌, subst, append_assoc, ◌-◌, Option, arith, length-append, Result, Ok, Err, OnErr}
 use Rattle.std.specs.Io.KnownBytes.{Appends}
 use Rattle.std.proofs.KnownBytes.{Appends-trans}
 use Rattle.std.proofs.lemmas.List.{take-append-drop, take_rest}
-use Rattle.n2k_run.specs.Writing.{Owes}
+use Rattle.n2k_run.specs.Writing.{Owes, AppendsFront}
 
 -- the first part of what is still to come is written
 pub Owes-part : (old mid new : Option (List ℕ)) (text part rest : List ℕ) → Owes old mid text (part ++ rest) → Appends mid new part → Owes old new text rest
@@ -19,3 +19,39 @@ Owes-taken old mid new text rest n owed more =
     let whole : Owes old mid text (take n rest ++ drop n rest) = subst (λ r. Owes old mid text r) (sym (take-append-drop n rest)) owed in
     let left : Owes old new text (drop n rest) = Owes-part old mid new text (take n rest) (drop n rest) whole more in
     subst (λ r. Owes old new text r) (sym (take_rest rest n)) left
+
+-- of a text of two parts both are written
+pub both_parts : (old mid new : Option (List ℕ)) (first rest : List ℕ) → Appends old mid first → Appends mid new rest → Appends old new (first ++ rest)
+both_parts = Appends-trans
+
+-- or a front of the first
+pub front_of_first : (old new : Option (List ℕ)) (first rest : List ℕ) → AppendsFront old new first → AppendsFront old new (first ++ rest)
+front_of_first old new first rest owed = (
+  owed.0 ++ rest,
+  record {
+    front = owed.1.front;
+    appended = owed.1.appended;
+    still = ap (λ (t : List ℕ). t ++ rest) owed.1.still ∙ append_assoc owed.1.front owed.0 rest;
+  },
+)
+
+-- or the first and a front of the other
+pub first_and_front : (old mid new : Option (List ℕ)) (first rest : List ℕ) → Appends old mid first → AppendsFront mid new rest → AppendsFront old new (first ++ rest)
+first_and_front old mid new first rest done owed = (
+  owed.0,
+  record {
+    front = first ++ owed.1.front;
+    appended = Appends-trans old mid new first owed.1.front done owed.1.appended;
+    still = ap (λ (t : List ℕ). first ++ t) owed.1.still ∙ sym (append_assoc first owed.1.front owed.0);
+  },
+)
+
+pub front_of_both : {T E : Type 0} (r : Result T E) (old mid new : Option (List ℕ)) (first rest : List ℕ) → Appends old mid first → OnErr r (AppendsFront mid new rest) → OnErr r (AppendsFront old new (first ++ rest))
+front_of_both (Ok x) old mid new first rest done owed = owed
+front_of_both (Err e) old mid new first rest done owed = first_and_front old mid new first rest done owed
+
+pub some_first : (first rest : List ℕ) → 0 < length first → 0 < length (first ++ rest)
+some_first first rest some = omega (arith, length-append first rest, some)
+
+pub some_rest : (first rest : List ℕ) → 0 < length rest → 0 < length (first ++ rest)
+some_rest first rest some = omega (arith, length-append first rest, some)

@@ -17,9 +17,9 @@ use Rattle.n2k_run.specs.declared.part.PartFault.TheVariants.{State as Refused, 
 use Rattle.n2k_run.specs.declared.options.Options.{Options}
 use Rattle.n2k_run.specs.Decoded.{join_fold, output_after}
 use Rattle.n2k_run.specs.Entries.{entries}
-use Rattle.n2k_run.specs.Inner.Parts.{Finishes, HasSaved, Saves}
+use Rattle.n2k_run.specs.Inner.Parts.{Finishes, HasSaved}
 use Rattle.n2k_run.specs.Fold.{after_all}
-use Rattle.n2k_run.specs.Parts.{BeginsBy, HasPart, IsPartOf, OnRefusal, Ran, EndsAtLine, TellsRun, begun}
+use Rattle.n2k_run.specs.Parts.{BeginsBy, HasPart, OnRefusal, EndsAtLine, TellsRun, begun}
 use Rattle.n2k_run.specs.Runs.{Devices, HasFronts, Output, Runs, output_from}
 use Rattle.n2k_run.proofs.Calls.{none_read}
 use Rattle.n2k_run.proofs.Ending.{of_log, runs_more, runs_same}
@@ -53,9 +53,6 @@ module _ (o : Output) (before after : Devices) where
 
   pub told_run : (stands : List Entry → Type 0) (fault : RunFault) → TellsRun o stands before after (Err (Run fault)) → Runs {T = Unit {0}} o stands before after (Err fault)
   told_run stands fault told = subst (λ r. Runs o stands before after r) told.ended told.runs
-
-finished : (result : Result Part PartFault) (ran : Result (Unit {0}) RunFault) → Finishes result ran → Ran result ran
-finished result ran is = grind arith
 
 -- after a run no state is refused
 pub begins_by : (t : TableParts) (o : Options) (handed : Option (List ℕ)) (s : State) (result : Result Part PartFault) (ran : Result (Unit {0}) RunFault) → begun t o handed ≡ Ok s → Finishes result ran → BeginsBy t o handed result
@@ -105,9 +102,6 @@ module _ (laws : KeepsFast) (t : TableParts) (o : Options) (window : IsWindow o.
     same_table = step-id s e ∙ under.same_table;
     same_window = step-window s e ∙ under.same_window;
   })
-
-  pub part-of : (s : State) (part : Part) → IsId t.id → IsUnder t o s → Saves s part → IsPartOf t o s part
-  part-of s part id under saves = grind arith
 
   pub has_part : (s : State) (result : Result Part PartFault) → IsId t.id → IsUnder t o s → HasSaved result s → HasPart t o result s
   has_part s result id under saves = grind arith

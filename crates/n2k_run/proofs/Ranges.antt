@@ -1,6 +1,7 @@
 -- Parts of a list by their places.
-use Rattle.std.proofs.Common.{◌≡◌, ℕ, ◌+◌, ◌-◌, ◌≤◌, List, [], ◌∷◌, ◌++◌, length, take, drop, refl, ap, arith, length-take, length-drop, zero-add, suc}
+use Rattle.std.proofs.Common.{◌≡◌, ℕ, ◌+◌, ◌-◌, ◌≤◌, List, ◌++◌, length, take, drop, arith, length-take, length-drop}
 use Rattle.std.specs.List.{slice_range}
+use Rattle.std.proofs.Math.Seq.{take-append-add}
 use Rattle.std.proofs.lemmas.List.{append-nil, drop-append-le, drop-drop, drop-take, drop_all, length-take-le}
 use Rattle.std.proofs.lemmas.Slice.{between_is}
 use borrow.Rule.Slice.PartMut.{put_mid}
@@ -11,12 +12,6 @@ range_drop b s e n few = grind (arith, length-take (e - s) (drop s b), drop-take
 
 pub length-range : (b : List ℕ) (s e : ℕ) → s ≤ e → e ≤ length b → length (slice_range b s e) ≡ e - s
 length-range b s e in_order within = length-take-le (e - s) (drop s b) (omega (arith, length-drop s b, in_order, within))
-
-take-append-add : (xs ys : List ℕ) (n : ℕ) → take (length xs + n) (xs ++ ys) ≡ xs ++ take n ys
-take-append-add [] ys n = rw (zero-add n) refl
-take-append-add (x ∷ xs) ys n =
-    let count : length (x ∷ xs) + n ≡ suc (length xs + n) = omega arith in
-    rw count (ap (λ zs. x ∷ zs) (take-append-add xs ys n))
 
 -- bytes that were put behind it
 pub range_grown : (b ys : List ℕ) (s e k n : ℕ) → s ≤ e → e + k ≡ length b → length ys ≡ k → n ≤ k → slice_range (put_mid e k b ys) s (e + n) ≡ slice_range b s e ++ take n ys

@@ -1,17 +1,14 @@
 -- The frames of one message, and their lines.
-use Rattle.std.proofs.Common.{◌≡◌, ◌≤◌, ◌<◌, ◌+◌, ◌*◌, ℕ, zero, suc, Bool, true, false, cond, List, [], ◌∷◌, ◌++◌, length, get_or, map, take, refl, ap, ◌∙◌, append_assoc, arith, codes, Option, Some, None, Result, Ok, Err, IsOkUnless, MatchOption, option_map, slice_get, is_none, leb-true, append-nil}
+use Rattle.std.proofs.Common.{◌≡◌, ◌≤◌, ◌<◌, ◌+◌, ◌*◌, ℕ, zero, suc, List, [], ◌∷◌, ◌++◌, length, get_or, map, take, refl, ap, ◌∙◌, append_assoc, arith, Option, Some, None, Ok, Err, IsOkUnless, MatchOption, option_map, slice_get, leb-true, append-nil}
 use Rattle.std.specs.List.{AllByRecursion, range_with_len}
 use Rattle.std.proofs.Math.Seq.{take-append_seam, take-suc, take_all}
 use Rattle.std.proofs.lemmas.List.Concat.{flat_map-append}
 use Rattle.std.proofs.lemmas.List.FromFn.{length-map-range_with_len}
 use Rattle.std.proofs.lemmas.Option.{get_or_from_slice_get, slice_get_within}
-use Rattle.n2k_wire.specs.declared.entry.BadCause.{BadCause}
 use Rattle.n2k_wire.specs.declared.fault.WireFault.{WireFault}
 use Rattle.n2k_wire.specs.Candump.{frame_payload}
 use Rattle.n2k_wire.specs.Packet.{PacketParts}
-use Rattle.n2k_wire.specs.Stamp.{Moment}
-use Rattle.n2k_wire.specs.Steps.{◌>>=◌}
-use Rattle.n2k_wire.specs.Texts.{Appends, candump_line, candump_parts}
+use Rattle.n2k_wire.specs.Texts.{Appends, candump_parts}
 use Rattle.n2k_table.specs.declared.definition.Kind.{Kind}
 use Rattle.n2k_join.specs.declared.fault.SplitFault.{SplitFault}
 use Rattle.n2k_join.specs.declared.fault.SplitFault.TheVariants as unsplit
@@ -20,7 +17,7 @@ use Rattle.n2k_join.specs.Splitter.{refusal}
 use Rattle.n2k_run.specs.declared.frames.Outcome.{Outcome}
 use Rattle.n2k_run.specs.declared.frames.Outcome.TheVariants.{Written, Bad}
 use Rattle.n2k_run.specs.FramesOut.{fault_cause, frame_text, frame_texts, interface_cause}
-use Rattle.n2k_run.specs.Inner.Sending.{SentMessage, frame_line, outcome_by}
+use Rattle.n2k_run.specs.Inner.Sending.{SentMessage, frame_line}
 
 -- what candump writes in front of a frame's data is what it writes for the message, and the frame has at most 8 bytes
 pub record IsFrameOf (m p : PacketParts) : Type 0 where
@@ -39,9 +36,6 @@ pieces_are : (m : PacketParts) (s first n : ℕ) → AllByRecursion (IsFrameOf m
 pieces_are m s first zero = tt
 pieces_are m s first (suc n) = grind (arith, pieces_are m s (first + 1) n, piece_parts, seven)
 
-single_fits : (b : Bool) → cond b None (Some unsplit.TooLong) ≡ None → b ≡ true
-single_fits b e = grind arith
-
 frames_are : (k : Option Kind) (m : PacketParts) (s : ℕ) → refusal k m ≡ None → AllByRecursion (IsFrameOf m) (pieces_as k m s)
 unfolding pieces_as
 frames_are k m s e = grind (arith, leb-true, pieces_are)
@@ -55,9 +49,6 @@ at P (x ∷ xs) (suc n) d all within = at P xs n d all.1 (omega (arith, within))
 pub frame_of : (k : Option Kind) (m : PacketParts) (s : ℕ) (ps : List PacketParts) (n : ℕ) (p : PacketParts) → ps ≡ pieces_as k m s → refusal k m ≡ None → slice_get ps n ≡ Some p → IsFrameOf m p
 frame_of k m s ps n p are split is = grind (arith, frames_are k m s split, get_or_from_slice_get ps n p p is, slice_get_within ps n p is, at)
 
-ok_err : {A E : Type 0} (x : A) (fault : E) → Ok x ≡ Err fault → ⊥
-ok_err x fault e = cc
-
 -- a message that was split isn't refused
 pub split_of : {A : Type 0} (refused : Option SplitFault) (x : A) → MatchOption refused (IsOkUnless (Ok x) unsplit.Memory) (λ fault. Ok x ≡ Err fault) → refused ≡ None
 split_of refused x e = grind arith
@@ -67,17 +58,8 @@ pub record IsLineAppended (interface : Option (List ℕ)) (m p : PacketParts) (o
   pub seen : interface_cause interface m ≡ None
   pub text_is : new ≡ old ++ frame_text interface p
 
-by_parts : (interface : List ℕ) (m p : PacketParts) (parts : Result (Moment × ℕ) WireFault) (old new : List ℕ) → candump_parts p ≡ parts → candump_parts p ≡ candump_parts m
-    → Appends (parts >>= (λ x. Ok (candump_line interface x.0 x.1 p.payload ++ codes "\n"))) (Ok tt) old new → IsLineAppended (Some interface) m p old new
-by_parts interface m p parts old new is same a = grind arith
-
 pub line_appended : (interface : Option (List ℕ)) (m p : PacketParts) (old new : List ℕ) → IsFrameOf m p → Appends (frame_line interface p) (Ok tt) old new → IsLineAppended interface m p old new
 line_appended interface m p old new is a = grind arith
-
--- A frame has no line: neither has the message any.
-none_by : (interface : List ℕ) (m p : PacketParts) (fault : WireFault) (made : Outcome) (parts : Result (Moment × ℕ) WireFault) (old new : List ℕ) → candump_parts p ≡ parts → candump_parts p ≡ candump_parts m → Some made ≡ option_map Bad (fault_cause fault)
-    → Appends (parts >>= (λ x. Ok (candump_line interface x.0 x.1 p.payload ++ codes "\n"))) (Err fault) old new → interface_cause (Some interface) m ≡ fault_cause fault
-none_by interface m p fault made parts old new is same outcome a = grind arith
 
 pub no_line : (interface : Option (List ℕ)) (m p : PacketParts) (fault : WireFault) (made : Outcome) (old new : List ℕ) → IsFrameOf m p → Some made ≡ option_map Bad (fault_cause fault) → Appends (frame_line interface p) (Err fault) old new
     → interface_cause interface m ≡ fault_cause fault
@@ -92,10 +74,6 @@ one_more interface frames n p start now after is before grown = grind (arith, ta
 pub sent : (kind : ℕ → Option Kind) (interface : Option (List ℕ)) (m : PacketParts) (held held' : Sequences) (frames : List PacketParts) (n : ℕ) (text text' : List ℕ) → frames ≡ pieces_by kind m (held (stream_of m.id)) → refusal (kind m.id.pgn) m ≡ None
     → held' ≡ raised kind held (stream_of m.id) → interface_cause interface m ≡ None → length frames ≤ n → text' ≡ text ++ frame_texts interface (take n frames) → SentMessage kind interface m held held' text text' Written
 sent kind interface m held held' frames n text text' are split after seen all is = grind (arith, take_all)
-
--- a message was split, and none of its lines is written
-bad_of : (cause : Option BadCause) (made : Outcome) → Some made ≡ option_map Bad cause → (made ≡ outcome_by cause) × (is_none cause ≡ false)
-bad_of cause made e = grind arith
 
 pub not_sent : (kind : ℕ → Option Kind) (interface : Option (List ℕ)) (m : PacketParts) (held held' : Sequences) (fault : WireFault) (made : Outcome) (text : List ℕ) → refusal (kind m.id.pgn) m ≡ None → held' ≡ raised kind held (stream_of m.id)
     → interface_cause interface m ≡ fault_cause fault → Some made ≡ option_map Bad (fault_cause fault) → SentMessage kind interface m held held' text text made

@@ -24,20 +24,14 @@ use Rattle.n2k_run.specs.Fold.{after_all, texts_from, reports_from}
 use Rattle.n2k_run.specs.Reports.{cause_report}
 use Rattle.n2k_run.specs.Runs.{output_from}
 use Rattle.n2k_run.specs.Inner.Engine.{MovesOn}
-use Rattle.n2k_run.specs.Inner.Sending.{Sent, frame_counts_after, held_after, line_text, outcome, outcome_by, sending_fold}
+use Rattle.n2k_run.specs.Inner.Sending.{Sent, frame_counts_after, held_after, line_text, outcome, sending_fold}
 
 -- a refusal is never for want of memory
 refusal_by : (k : Option Kind) (m : PacketParts) → refusal k m ≡ Some unsplit.Memory → ⊥
 refusal_by k m e = grind arith
 
-cause_of : (o : Option BadCause) (cause : BadCause) → outcome_by o ≡ Bad cause → o ≡ Some cause
-cause_of o cause e = grind arith
-
 counts_are : (l m b l' m' b' : ℕ) → l ≡ l' → m ≡ m' → b ≡ b' → (c : Counts) → record c { lines = l; messages = m; bad = b } ≡ record c { lines = l'; messages = m'; bad = b' }
 counts_are l m b l' m' b' p q r c = rw (p, q, r) refl
-
-both_lists : (a b c d : List ℕ) → a ≡ b → c ≡ d → a ++ c ≡ b ++ d
-both_lists a b c d e f = ap (λ t. t ++ c) e ∙ ap (λ t. b ++ t) f
 
 module _ (kind : ℕ → Option Kind) (interface : Option (List ℕ)) where
   -- a line was taken

@@ -29,9 +29,6 @@ without_last_empty-append [] next more = refl
 without_last_empty-append (piece ∷ []) next more = without_last_empty-keeps piece next more
 without_last_empty-append (piece ∷ (second ∷ pieces)) next more = grind (arith, without_last_empty-append (second ∷ pieces) next more)
 
-onto_first-append : (byte : ℕ) (pieces others : List (List ℕ)) (first : List ℕ) (more : List (List ℕ)) → pieces ≡ first ∷ more → onto_first byte (pieces ++ others) ≡ onto_first byte pieces ++ others
-onto_first-append byte pieces others first more is = grind arith
-
 slice_split-feed : (front rest : List ℕ) → slice_split is_line_feed (front ++ (10 ∷ rest)) ≡ slice_split is_line_feed front ++ slice_split is_line_feed rest
 slice_split-feed [] rest = refl
 slice_split-feed (byte ∷ front) rest = grind (arith, slice_split-feed front rest, first_piece front)

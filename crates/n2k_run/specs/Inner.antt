@@ -2,6 +2,7 @@
 pub mod Block
 pub mod Counting
 pub mod Engine
+pub mod Failures
 pub mod Overdue
 pub mod Parts
 pub mod Reading

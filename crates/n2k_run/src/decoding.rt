@@ -67,11 +67,9 @@ fn push_cause(
 /// The JSON line of the message that a line gives. It is inlined, since a call for each line costs more.
 #[inline(always)]
 fn push_message(
-    alloc: Global,
     message: Option<TableMessage<'_>>,
     empty: bool,
-    room: &mut LineBuffer,
-    text: &mut Vec<u8>,
+    text: &mut LineBuffer,
 ) -> Result<(), AllocError>
     requires { IfSome message (λ m. m.pgn.pgn ≡ m.packet.now.id.pgn) }
     ensures { (t : TableParts) → IfSome message.entry (λ m. m.pgn.table ≡ t)
@@ -80,15 +78,8 @@ fn push_message(
 {
     match message {
         None => Ok(()),
-        Some(TableMessage { packet, pgn }) => json_line_of(alloc, &pgn, packet, empty, room, text),
+        Some(TableMessage { packet, pgn }) => json_line_of(&pgn, packet, empty, text),
     }
-}
-
-/// A join, and the room in which each JSON line is put together: it is large, and a new one would be zeroed for each.
-#[derive(Drop)]
-struct Joining {
-    join: Join,
-    room: LineBuffer,
 }
 
 /// Makes the JSON lines of the messages that a join gives.
@@ -103,11 +94,11 @@ impl<'a> EntryHandler for JsonLines<'a> {
     ghost use Rattle.n2k_join.specs.State.{State};
     ghost use Rattle.n2k_run.specs.Decoded.{join_fold};
 
-    type State = Joining;
+    type State = Join;
 
     ghost Known = { State };
 
-    ghost known = { λ joining. joining.join };
+    ghost known = { λ join. join };
 
     ghost fold = { λ s. join_fold s.table.now s.empty };
 
@@ -116,18 +107,17 @@ impl<'a> EntryHandler for JsonLines<'a> {
     fn take(
         &self,
         alloc: Global,
-        joining: &mut Joining,
+        join: &mut Join,
         entry: &mut Entry,
-        text: &mut Vec<u8>,
+        text: &mut LineBuffer,
         report: &mut Vec<u8>,
     ) -> Result<(), RunFault> {
-        let Joining { join, room } = joining;
         break_overdue(alloc, join, report)?;
         let step = join.lend(self.table, entry)?;
         push_broken(alloc, step.line, step.broken, report)?;
         push_cause(alloc, step.line, step.bad, report)?;
         let message = message_of(step.message, entry);
-        push_message(alloc, message, self.empty, room, text)?;
+        push_message(message, self.empty, text)?;
         Ok(())
     }
 }
@@ -184,19 +174,16 @@ pub fn run<R: Source, W: Sink, E: Sink>(
         window,
     } = options;
     let handler = JsonLines { table, empty };
-    let mut joining = Joining {
-        join: mem::replace(join, Join::new(alloc, table, window)),
-        room: LineBuffer::new(alloc),
-    };
+    let mut running = mem::replace(join, Join::new(alloc, table, window));
     let ran = run_entries(
         alloc,
         &handler,
         packing,
-        &mut joining,
+        &mut running,
         reader,
         writer,
         reporter,
     );
-    *join = joining.join;
+    *join = running;
     ran
 }

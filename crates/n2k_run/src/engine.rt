@@ -12,7 +12,8 @@ ghost use Rattle.n2k_run.specs.Inner.Engine.{FailsPending, ReadsNext, TakesEntry
 use crate::blocks::{Blocks, Next};
 use crate::device::{Failed, Sink, Source};
 use crate::fault::RunFault;
-use crate::writing::write_all;
+use crate::writing::{write_all, write_parts};
+use n2k_table::LineBuffer;
 use n2k_wire::{BadCause, Entry, LineReader, Packing};
 use std::alloc::Global;
 
@@ -40,7 +41,7 @@ pub(crate) trait EntryHandler {
         alloc: Global,
         state: &mut Self::State,
         entry: &mut Entry,
-        text: &mut Vec<u8>,
+        text: &mut LineBuffer,
         report: &mut Vec<u8>,
     ) -> Result<(), RunFault>
         requires short { IsShort entry.old }
@@ -53,7 +54,7 @@ pub(crate) trait EntryHandler {
 /// The texts and reports that a run has made and not written yet.
 #[derive(Drop)]
 pub(crate) struct Pending {
-    pub(crate) text: Vec<u8>,
+    pub(crate) text: LineBuffer,
     pub(crate) report: Vec<u8>,
 }
 
@@ -64,7 +65,7 @@ impl Pending {
         ensures report { result.report.items ≡ [] }
     {
         Pending {
-            text: Vec::new(alloc),
+            text: LineBuffer::new(alloc),
             report: Vec::new(alloc),
         }
     }
@@ -83,7 +84,8 @@ impl Pending {
     {
         write_all(reporter, &self.report).map_err(|_| RunFault::Report)?;
         self.report.clear();
-        write_all(writer, &self.text).map_err(|_| RunFault::Write)?;
+        let (front, rest) = self.text.parts();
+        write_parts(writer, front, rest).map_err(|_| RunFault::Write)?;
         self.text.clear();
         Ok(())
     }

@@ -16,7 +16,7 @@ use crate::engine::{EntryHandler, run_entries};
 use crate::fault::RunFault;
 use crate::texts::bad_text;
 use n2k_join::{Counts, MOST_LINES, SplitFault, Splitter, laws};
-use n2k_table::Table;
+use n2k_table::{LineBuffer, Table};
 use n2k_wire::{BadCause, CandumpLines, Entry, Id, Packet, Packing, WireFault, plain_text};
 use std::alloc::{AllocError, Global};
 
@@ -143,7 +143,7 @@ impl<'a> FrameLines<'a> {
         alloc: Global,
         sender: &mut Sender,
         entry: &Entry,
-        text: &mut Vec<u8>,
+        text: &mut LineBuffer,
     ) -> Result<Outcome, AllocError>
         requires { sender.old.lines ≡ interface_of self.now.interface }
         ensures sent { IfOk result (SentLine (kind self.now.table.now) (interface_of self.now.interface) entry.now
@@ -154,7 +154,12 @@ impl<'a> FrameLines<'a> {
             Entry::Skip => Ok(Outcome::Skipped),
             Entry::Bad(cause) => Ok(Outcome::Bad(*cause)),
             Entry::Frame(_) => Ok(Outcome::Bad(BadCause::Frame)),
-            Entry::Whole(message) => self.send(alloc, sender, message, text),
+            Entry::Whole(message) => {
+                let mut lines = text.take_lines(alloc)?;
+                let sent = self.send(alloc, sender, message, &mut lines)?;
+                text.put_back(lines);
+                Ok(sent)
+            }
         }
     }
 }
@@ -181,7 +186,7 @@ impl<'a> EntryHandler for FrameLines<'a> {
         alloc: Global,
         state: &mut Sending<'a>,
         entry: &mut Entry,
-        text: &mut Vec<u8>,
+        text: &mut LineBuffer,
         report: &mut Vec<u8>,
     ) -> Result<(), RunFault> {
         if state.counts.lines == MOST_LINES {

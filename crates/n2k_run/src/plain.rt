@@ -9,7 +9,8 @@ use crate::engine::{EntryHandler, run_entries};
 use crate::fault::RunFault;
 use crate::texts::bad_text;
 use n2k_join::{Counts, MOST_LINES};
-use n2k_wire::{Entry, Packing, plain_text};
+use n2k_table::LineBuffer;
+use n2k_wire::{Entry, Packing};
 use std::alloc::Global;
 
 /// Makes plain lines, and counts what it took.
@@ -37,7 +38,7 @@ impl EntryHandler for PlainLines {
         alloc: Global,
         counts: &mut Counts,
         entry: &mut Entry,
-        text: &mut Vec<u8>,
+        text: &mut LineBuffer,
         report: &mut Vec<u8>,
     ) -> Result<(), RunFault> {
         if counts.lines == MOST_LINES {
@@ -51,7 +52,7 @@ impl EntryHandler for PlainLines {
                 counts.bad += 1;
             }
             Entry::Frame(packet) | Entry::Whole(packet) => {
-                plain_text(alloc, packet, text)?;
+                text.push_plain(packet)?;
                 counts.messages += 1;
             }
         }

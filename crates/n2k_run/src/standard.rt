@@ -2,6 +2,7 @@
 ghost use Rattle.std.specs.Prelude.{◌≡◌, ◌<◌, ◌≤◌, length, IfErr, IfOk, IsErr, MatchResult, Ok, Some};
 ghost use Rattle.std.specs.Io.KnownBytes.{ReadConsumes, WriteAppends};
 ghost use Rattle.n2k_run.specs.Device.{CountsFailure};
+ghost use Rattle.n2k_run.specs.Inner.Failures.{count_of, last_of};
 
 use crate::device::{Failed, Sink, Source};
 use std::io;
@@ -40,21 +41,43 @@ fn write_retrying<W: Write>(writer: &mut W, piece: &[u8]) -> io::Result<usize>
     Err(Error::from(ErrorKind::Interrupted))
 }
 
-/// Counts a call, where it failed, and notes why.
-fn note(
-    answer: io::Result<usize>,
-    failed_calls: &mut u64,
-    failure: &mut Option<Error>,
-) -> Result<usize, Failed>
-    ensures answered { MatchResult result (λ n. answer ≡ Ok n) (λ _. IsErr answer) }
-    ensures counted { CountsFailure failed_calls.old failed_calls.new result }
-    ensures noted { IfErr answer (λ error. failure.new ≡ Some error) }
+/// The calls of a device that failed.
+#[derive(Clone, Copy, Debug)]
+struct Failures {
+    /// The error of the last one.
+    last: Error,
+    /// How many failed before it. At 2^64 - 1 the number stays.
+    before: u64,
+}
+
+/// How many calls failed, with one more.
+fn counted(failures: &Option<Failures>) -> u64
+    ensures { result ≡ count_of failures.now }
 {
-    if let Err(error) = answer {
-        *failed_calls = failed_calls.saturating_add(1);
-        *failure = Some(error);
+    match failures {
+        Some(failures) => failures.before.saturating_add(1),
+        None => 0,
+    }
+}
+
+/// Counts a call, where it failed, and notes why.
+fn note(answer: io::Result<usize>, failures: &mut Option<Failures>) -> Result<usize, Failed>
+    ensures answered { MatchResult result (λ n. answer ≡ Ok n) (λ _. IsErr answer) }
+    ensures counted { CountsFailure (count_of failures.old) (count_of failures.new) result }
+    ensures noted { IfErr answer (λ error. last_of failures.new ≡ Some error) }
+{
+    if let Err(last) = answer {
+        let before = counted(failures);
+        *failures = Some(Failures { last, before });
     }
     answer.map_err(|_| Failed)
+}
+
+/// The error of the last call that failed.
+fn last(failures: &Option<Failures>) -> Option<Error>
+    ensures { result ≡ last_of failures.now }
+{
+    Some(failures.as_ref()?.last)
 }
 
 /// A reader of the standard library as a source.
@@ -62,12 +85,12 @@ fn note(
 pub struct StdSource<R> {
     reader: R,
     calls: u64,
-    failed_calls: u64,
-    failure: Option<Error>,
+    failures: Option<Failures>,
 }
 
 impl<R: Read> StdSource<R> {
     ghost use Rattle.std.specs.Prelude.{◌≡◌};
+    ghost use Rattle.n2k_run.specs.Device.{IsWhy};
 
     /// A source that gives what the reader gives.
     ///
@@ -85,12 +108,11 @@ impl<R: Read> StdSource<R> {
         StdSource {
             reader,
             calls: 0,
-            failed_calls: 0,
-            failure: None,
+            failures: None,
         }
     }
 
-    /// The error of the last call that failed.
+    /// The error of the last call that failed. None where no call has.
     ///
     /// ```rust
     /// let mut source = StdSource::new("abc".as_bytes());
@@ -98,23 +120,24 @@ impl<R: Read> StdSource<R> {
     /// assert!(rt; source.failure().is_none());
     /// ```
     pub fn failure(&self) -> Option<Error>
-        ensures { result ≡ self.now.failure }
+        ensures last { result ≡ last_of self.now.failures }
+        ensures told { IsWhy (⟦<StdSource<R> as Source>⟧.failed_calls self.now) result }
     {
-        self.failure
+        last(&self.failures)
     }
 }
 
 impl<R: Read> Source for StdSource<R> {
     ghost calls = { λ s. s.calls };
 
-    ghost failed_calls = { λ s. s.failed_calls };
+    ghost failed_calls = { λ s. count_of s.failures };
 
     ghost remaining = { λ s. R.remaining s.reader };
 
     fn read(&mut self, buffer: &mut [u8]) -> Result<usize, Failed> {
         let answer = read_retrying(&mut self.reader, buffer);
         self.calls = self.calls.saturating_add(1);
-        note(answer, &mut self.failed_calls, &mut self.failure)
+        note(answer, &mut self.failures)
     }
 }
 
@@ -122,12 +145,12 @@ impl<R: Read> Source for StdSource<R> {
 #[derive(Drop)]
 pub struct StdSink<W> {
     writer: W,
-    failed_calls: u64,
-    failure: Option<Error>,
+    failures: Option<Failures>,
 }
 
 impl<W: Write> StdSink<W> {
     ghost use Rattle.std.specs.Prelude.{◌≡◌};
+    ghost use Rattle.n2k_run.specs.Device.{IsWhy};
 
     /// A sink whose bytes go to the writer.
     ///
@@ -144,12 +167,11 @@ impl<W: Write> StdSink<W> {
     {
         StdSink {
             writer,
-            failed_calls: 0,
-            failure: None,
+            failures: None,
         }
     }
 
-    /// The error of the last call that failed.
+    /// The error of the last call that failed. None where no call has.
     ///
     /// ```rust
     /// let mut sink = StdSink::new(Vec::new(alloc));
@@ -157,19 +179,20 @@ impl<W: Write> StdSink<W> {
     /// assert!(rt; sink.failure().is_none());
     /// ```
     pub fn failure(&self) -> Option<Error>
-        ensures { result ≡ self.now.failure }
+        ensures last { result ≡ last_of self.now.failures }
+        ensures told { IsWhy (⟦<StdSink<W> as Sink>⟧.failed_calls self.now) result }
     {
-        self.failure
+        last(&self.failures)
     }
 }
 
 impl<W: Write> Sink for StdSink<W> {
-    ghost failed_calls = { λ s. s.failed_calls };
+    ghost failed_calls = { λ s. count_of s.failures };
 
     ghost contents = { λ s. W.contents s.writer };
 
     fn write(&mut self, piece: &[u8]) -> Result<usize, Failed> {
         let answer = write_retrying(&mut self.writer, piece);
-        note(answer, &mut self.failed_calls, &mut self.failure)
+        note(answer, &mut self.failures)
     }
 }

@@ -1,5 +1,5 @@
 //! Writing a whole text to a sink that may take it in parts.
-ghost use Rattle.std.specs.Prelude.{◌<◌, length, OnOk, OnErr};
+ghost use Rattle.std.specs.Prelude.{◌<◌, ◌++◌, length, OnOk, OnErr};
 ghost use Rattle.std.specs.Io.KnownBytes.{Appends};
 ghost use Rattle.n2k_run.specs.Device.{CountsFailure};
 ghost use Rattle.n2k_run.specs.Writing.{AppendsFront};
@@ -26,4 +26,16 @@ pub fn write_all<W: Sink>(writer: &mut W, text: &[u8]) -> Result<(), Failed>
         rest = &rest[taken..];
     }
     Ok(())
+}
+
+/// Writes a text that has two parts, as `write_all` does.
+#[tactic(auto, using(crate::proofs::Owed::both_parts, crate::proofs::Owed::front_of_first, crate::proofs::Owed::first_and_front, crate::proofs::Owed::some_first, crate::proofs::Owed::some_rest))]
+pub(crate) fn write_parts<W: Sink>(writer: &mut W, front: &[u8], rest: &[u8]) -> Result<(), Failed>
+    ensures written { OnOk result (Appends (W.contents writer.old) (W.contents writer.new) (front.now ++ rest.now)) }
+    ensures front { OnErr result (AppendsFront (W.contents writer.old) (W.contents writer.new) (front.now ++ rest.now)) }
+    ensures some { OnErr result (0 < length (front.now ++ rest.now)) }
+    ensures counted { CountsFailure (W.failed_calls writer.old) (W.failed_calls writer.new) result }
+{
+    write_all(writer, front)?;
+    write_all(writer, rest)
 }

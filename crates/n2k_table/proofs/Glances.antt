@@ -1,10 +1,9 @@
 -- What fields ask of the first eight bytes, put together.
-use Rattle.std.proofs.Common.{◌≡◌, ℕ, ◌+◌, ◌-◌, ◌*◌, ◌/◌, ◌%◌, ◌^◌, ◌<◌, ◌≤◌, ◌≢◌, min, max, bit_and, bit_or, nat_eq, true, false, List, length, get_or, slice_get, Option, Some, None, inl, inr, sym, ap, ◌∙◌, arith, lit<}
+use Rattle.std.proofs.Common.{◌≡◌, ℕ, ◌+◌, ◌-◌, ◌*◌, ◌/◌, ◌%◌, ◌^◌, ◌<◌, ◌≤◌, ◌≢◌, min, max, bit_and, bit_or, nat_eq, true, false, List, length, slice_get, Option, Some, None, inl, inr, sym, ap, ◌∙◌, arith, lit<}
 use Rattle.std.specs.Int.{bit_at}
 use Rattle.std.specs.List.{list_all}
-use Rattle.std.proofs.lemmas.Bool.{and_parts, cases_Bool, false≢true}
+use Rattle.std.proofs.lemmas.Bool.{and_parts, cases_Bool}
 use Rattle.std.proofs.lemmas.Bool.Decides.{nat_tests}
-use Rattle.std.proofs.lemmas.List.Folds.{list_all_at}
 use Rattle.std.proofs.lemmas.Nat.{pow-add, shl_whole}
 use Rattle.std.proofs.lemmas.Nat.Bits.{and_high, bit_at_and, bit_at_or, same_from_bits}
 use Rattle.std.proofs.Math.Nat.{one-le-pow}
@@ -63,14 +62,6 @@ pub in_word : (payload : List ℕ) (a n : ℕ) → a + n ≤ 64 → raw payload 
 in_word payload a n inside =
     let place : 0 + a ≡ a = omega arith in
     raw_out_of payload 0 a n 64 inside ∙ ap (λ p. raw payload p n) place
-
--- a field of those that match
-pub matches_at : (payload : List ℕ) (fs : List FieldParts) (k : ℕ) (f : FieldParts) → k < length fs → f ≡ get_or fs k f → list_all (field_matches payload) fs ≡ true → field_matches payload f ≡ true
-matches_at payload fs k f lt at all =
-    elim (cases_Bool (field_matches payload f)) [
-      | inl match ↦ match
-      | inr differs ↦ absurd (false≢true (sym (list_all_at (field_matches payload) fs k f lt (ap (field_matches payload) (sym at) ∙ differs)) ∙ all))
-    ]
 
 -- data whose first eight bytes differ don't match the definition of a candidate
 pub candidate_differs : (payload : List ℕ) (ds : List DefinitionParts) (c : Candidate) → IsOfPlace ds c → 8 ≤ length payload → bit_and (raw payload 0 64) c.glance.mask ≢ c.glance.wanted

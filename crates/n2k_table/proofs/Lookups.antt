@@ -1,5 +1,5 @@
 -- The lookups of a table by their names, as the code's map has them.
-use Rattle.std.proofs.Common.{◌≡◌, ℕ, true, false, List, [], ◌∷◌, ◌++◌, String, Global, string_bytes, map, Option, Some, None, is_some, option_map, Ok, Err, refl, sym, ap, ◌∙◌, append_assoc, subst, inl, inr, Bor}
+use Rattle.std.proofs.Common.{◌≡◌, ℕ, true, false, List, [], ◌∷◌, ◌++◌, String, Global, string_bytes, map, Option, Some, None, is_some, option_map, Err, refl, sym, ap, ◌∙◌, append_assoc, subst, inl, inr, Bor}
 use Rattle.std.specs.Cmp.Lexicographic.{nat_list_eq_equiv}
 use Rattle.std.specs.Prelude.{option_copied}
 use Rattle.std.specs.Str.{bytes_eq}
@@ -7,7 +7,7 @@ use Rattle.std.specs.String.{string_eq}
 use Rattle.std.specs.Map.{lookup as value_at}
 use Rattle.std.specs.List.{list_any, find}
 use Rattle.std.proofs.lemmas.Bool.{cases_Bool}
-use Rattle.std.proofs.lemmas.List.{map-append, append-nil}
+use Rattle.std.proofs.lemmas.List.{map-append}
 use Rattle.indexmap.specs.IndexMap.{IndexMap, insert_entry}
 use Rattle.indexmap.proofs.CallerLemmas.{insert_entry-new}
 use Rattle.n2k_table.specs.declared.fault.TableFault.TheVariants.{Twice}
@@ -91,9 +91,3 @@ module _ {R S : Type 0} (value : R → LookupParts) (m : IndexMap (String Global
 
   pub still_named : (es : List (String Global × R)) → es ≡ insert_entry string_eq m.entries name r → AreNamed value m.entries → string_bytes name ≡ (value r).name → AreNamed value es
   still_named es is named of = subst (λ l. AreNamed value l) (sym (is ∙ insert_entry-new string_eq m name r none)) (named_more value m.entries name r named of)
-
--- all are apart where no two of the map are
-pub all_apart : (ls all : List LookupParts) → ls ++ [] ≡ all → has_duplicate is_same_lookup ls ≡ false → apart all ≡ Ok ls
-all_apart ls all so_far single =
-    let whole : all ≡ ls = sym so_far ∙ append-nil ls in
-    rw (whole, single) refl

@@ -1,9 +1,7 @@
 -- The members of an object, one after the other.
-use Rattle.std.proofs.Common.{◌≡◌, ℕ, zero, suc, ◌+◌, Bool, true, false, ◌||◌, List, [], ◌∷◌, ◌++◌, length, Option, Some, None, is_some, map, refl, sym, ap, ◌∙◌, append_assoc, arith, Result, Ok, Err, OnOk, codes}
-use Rattle.std.specs.Prelude.{nat_lt, if◌then◌else◌}
-use Rattle.std.specs.List.{filter_map, cons_option, join_with_byte, range_with_len}
-use Rattle.std.proofs.lemmas.Bool.{lt-ltb, le-ltb}
-use Rattle.std.proofs.lemmas.List.FromFn.{map-range_with_len_more}
+use Rattle.std.proofs.Common.{◌≡◌, ℕ, ◌+◌, Bool, true, false, ◌||◌, List, [], ◌∷◌, ◌++◌, length, Option, Some, None, is_some, refl, sym, ap, ◌∙◌, append_assoc, arith, Result, Ok, Err, OnOk, codes}
+use Rattle.std.specs.Prelude.{if◌then◌else◌}
+use Rattle.std.specs.List.{filter_map, cons_option, join_with_byte}
 use Rattle.std.proofs.lemmas.List.{append-nil}
 use Rattle.n2k_table.specs.Field.{FieldParts}
 use Rattle.n2k_table.specs.Shown.{all_shown, shown}
@@ -49,32 +47,6 @@ pub joined_more : (ms : List (List ℕ)) (m : List ℕ) → join_with_byte 44 (m
 joined_more [] m = refl
 joined_more (x ∷ []) m = refl
 joined_more (x ∷ y ∷ ms) m = ap (λ rest. x ++ (44 ∷ rest)) (joined_more (y ∷ ms) m) ∙ sym (append_assoc x (44 ∷ join_with_byte 44 (y ∷ ms)) (44 ∷ m))
-
-map_twice : {X Y Z : Type 0} (g : Y → Z) (f : X → Y) (xs : List X) → map g (map f xs) ≡ map (λ x. g (f x)) xs
-map_twice g f [] = refl
-map_twice g f (x ∷ xs) = ap (λ ys. g (f x) ∷ ys) (map_twice g f xs)
-
--- members of the first n numbers
-pub has_members-range : (f : ℕ → List ℕ) (n : ℕ) → has_members (map f (range_with_len 0 n)) ≡ nat_lt 0 n
-has_members-range f zero = sym (le-ltb 0 0 (omega arith))
-has_members-range f (suc n) = sym (lt-ltb 0 (suc n) (omega arith))
-
-pub range_more : (f : ℕ → List ℕ) (n : ℕ) → join_with_byte 44 (map f (range_with_len 0 (n + 1))) ≡ join_with_byte 44 (map f (range_with_len 0 n)) ++ member_text (nat_lt 0 n) (Some (f n))
-range_more f n =
-    ap (join_with_byte 44) (map-range_with_len_more f 0 n n (omega arith))
-    ∙ joined_more (map f (range_with_len 0 n)) (f n)
-    ∙ ap (λ later. join_with_byte 44 (map f (range_with_len 0 n)) ++ member_text later (Some (f n))) (has_members-range f n)
-
--- one more set
-pub sets_more : (f : ℕ → List ℕ) (n : ℕ) (line l1 l2 : List ℕ) → l1 ≡ line ++ join_with_byte 44 (map f (range_with_len 0 n)) → l2 ≡ l1 ++ member_text (nat_lt 0 n) (Some (f n))
-    → l2 ≡ line ++ join_with_byte 44 (map f (range_with_len 0 (n + 1)))
-sets_more f n line l1 l2 p1 p2 = rw (p2, p1, range_more f n) (append_assoc line (join_with_byte 44 (map f (range_with_len 0 n))) (member_text (nat_lt 0 n) (Some (f n))))
-
--- all sets
-pub sets_done : {X : Type 0} (g : X → List ℕ) (f : ℕ → X) (n count total : ℕ) (line l1 : List ℕ) → n ≡ count → count ≡ total
-    → l1 ≡ line ++ join_with_byte 44 (map (λ j. g (f j)) (range_with_len 0 n)) → l1 ≡ line ++ join_with_byte 44 (map g (map f (range_with_len 0 total)))
-sets_done g f n count total line l1 p q so_far =
-    so_far ∙ ap (λ k. line ++ join_with_byte 44 (map (λ j. g (f j)) (range_with_len 0 k))) (p ∙ q) ∙ ap (λ xs. line ++ join_with_byte 44 xs) (sym (map_twice g f (range_with_len 0 total)))
 
 -- whether a member stands before the next
 flag_more : (later : Bool) (m : Option (List ℕ)) (rest : List (List ℕ)) → (later || has_members (cons_option m rest)) ≡ ((later || is_some m) || has_members rest)

@@ -1,9 +1,9 @@
 -- The sizes of sets, and the sets that follow each other.
-use Rattle.std.proofs.Common.{◌≡◌, ℕ, zero, suc, ◌+◌, ◌-◌, ◌*◌, ◌/◌, ◌≤◌, ◌<◌, true, false, ◌||◌, ◌&&◌, List, [], ◌∷◌, length, take, drop, Option, Some, None, refl, sym, ap, ◌∙◌, inl, inr, arith}
+use Rattle.std.proofs.Common.{◌≡◌, ℕ, zero, suc, ◌+◌, ◌-◌, ◌*◌, ◌/◌, ◌≤◌, true, false, ◌||◌, ◌&&◌, List, [], ◌∷◌, length, take, drop, Option, Some, None, refl, sym, ap, ◌∙◌, inl, inr, arith}
 use Rattle.std.specs.Prelude.{nat_le, option_map, unwrap_or}
 use Rattle.std.specs.List.{list_any}
 use Rattle.std.specs.Option.{option_and_then}
-use Rattle.std.proofs.lemmas.Bool.{cases_Bool, leb-true, leb-false, le-leb, lt-leb, or_parts, or_cases, and_parts, true≢false, false≢true}
+use Rattle.std.proofs.lemmas.Bool.{leb-true, le-leb, or_parts, or_cases, and_parts, true≢false, false≢true}
 use Rattle.std.proofs.lemmas.Option.{none-some, same_Some, cond_some, option_and_then_some}
 use Rattle.std.proofs.lemmas.List.{length-drop}
 use Rattle.n2k_table.specs.declared.string_place.Form.{Form}
@@ -134,23 +134,6 @@ one_set r (b ∷ bs) n some e =
     sym (by_size r (length bs) (b ∷ bs) (Some n) e
     ∙ ap (λ s. take n (b ∷ bs) ∷ s) (enough r some (length bs) (length (drop n (b ∷ bs))) (drop n (b ∷ bs)) (omega (arith, le, size)) (omega arith)))
 
--- or none
-pub no_set : (r : RepeatParts) (bytes : List ℕ) → set_size r bytes ≡ None → [] ≡ sets_in r bytes
-no_set r [] e = refl
-no_set r (b ∷ bs) e = sym (by_size r (length bs) (b ∷ bs) None e)
-
--- how large a set is, by what its strings leave
-inside_not : (s : Option ℕ) (size all : ℕ) → all < size → option_and_then (λ n. if_inside (size + n) all) s ≡ None
-inside_not None size all lt = refl
-inside_not (Some n) size all lt = rw (lt-leb (size + n) all (omega (arith, lt))) refl
-
-none_left : (s : Option ℕ) (size all : ℕ) → size ≤ all → left_beside (all - size) s ≡ None → option_and_then (λ n. if_inside (size + n) all) s ≡ None
-none_left None size all le e = refl
-none_left (Some n) size all le e = elim (cases_Bool (nat_le n (all - size))) [
-  | inl fits ↦ absurd (none-some (all - size - n) (sym e ∙ (rw fits refl)))
-  | inr not ↦ let lt = leb-false n (all - size) not in rw (lt-leb (size + n) all (omega (arith, lt, le))) refl
-]
-
 some_left : (s : Option ℕ) (size all left : ℕ) → size ≤ all → left_beside (all - size) s ≡ Some left → option_and_then (λ n. if_inside (size + n) all) s ≡ Some (all - left)
 some_left None size all left le e = absurd (none-some left e)
 some_left (Some n) size all left le e =
@@ -164,13 +147,6 @@ eighth : (r : RepeatParts) (size : ℕ) (bytes : List ℕ) → r.bits ≡ 8 * si
 eighth r size bytes bits =
     let is : r.bits / 8 ≡ size = omega (arith, bits) in
     ap (λ b. option_and_then (λ n. if_inside (b + n) (length bytes)) (strings_size r.fields bytes)) is
-
-pub too_few : (r : RepeatParts) (size : ℕ) (bytes : List ℕ) → r.bits ≡ 8 * size → length bytes < size → set_size r bytes ≡ None
-too_few r size bytes bits lt = eighth r size bytes bits ∙ inside_not (strings_size r.fields bytes) size (length bytes) lt
-
-pub not_left : (r : RepeatParts) (size : ℕ) (bytes : List ℕ) → r.bits ≡ 8 * size → size ≤ length bytes → left_beside (length bytes - size) (strings_size r.fields bytes) ≡ None
-    → set_size r bytes ≡ None
-not_left r size bytes bits le e = eighth r size bytes bits ∙ none_left (strings_size r.fields bytes) size (length bytes) le e
 
 pub is_left : (r : RepeatParts) (size left : ℕ) (bytes : List ℕ) → r.bits ≡ 8 * size → size ≤ length bytes
     → left_beside (length bytes - size) (strings_size r.fields bytes) ≡ Some left → set_size r bytes ≡ Some (length bytes - left)

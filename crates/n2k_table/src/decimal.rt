@@ -131,7 +131,6 @@ pub fn decimal_text(
     ensures only { (text : List ℕ) → IsDecimal value decimals text → text ≡ dec value decimals }
 {
     let mut line = LineBuffer::new(alloc);
-    line.begin(alloc);
-    let written = push_decimal(value, decimals, &mut line);
-    line.end(written, out)
+    push_decimal(value, decimals, &mut line)?;
+    line.append_to(out)
 }

@@ -19,12 +19,13 @@
 //!   `Definition::repeat` gives the same of each set of fields that repeats behind them (`Sets`), where the table says
 //!   that something does.
 //! - `decimal_text` appends a number with its decimals, and `json_line` the line of a message. For the lines of a log,
-//!   one after the other, use `json_line_in`, which keeps the buffer in which a line is put together (`LineBuffer`).
+//!   one after the other, use `json_line_of`, which puts them together in a buffer that is kept (`LineBuffer`).
 //!
 //! A table that reads has no fault, and a fault that is answered is the first in it. What a number field shows is its raw
-//! value, the sum of its bits times powers of two, taken as two's complement where it is signed, times a
-//! resolution that is kept as whole numbers. So each decimal that is printed is exact: nothing is rounded, and
-//! there is no floating-point number. A message that no definition matches is printed with its data as they are.
+//! value, the sum of its bits times powers of two, taken as two's complement where it is signed, with its offset added
+//! where it has one, times a resolution that is kept as whole numbers. So each decimal that is printed is exact: nothing
+//! is rounded, and there is no floating-point number. A message that no definition matches is printed with its data as
+//! they are.
 //!
 //! Each example is a test of `n2k_tests`, in the same words. In them `rt` is the runtime that `main` or a test is
 //! handed, and `alloc` its allocator, `rt.alloc()`; `frame_in(line)` is the packet of a line's frame, and

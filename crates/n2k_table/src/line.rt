@@ -1,5 +1,5 @@
 //! The JSON line of a message.
-ghost use Rattle.std.specs.Prelude.{◌≡◌, ◌++◌, ◌+◌, ◌*◌, ◌≤◌, ◌||◌, true, is_some, nat_lt, codes, if◌then◌else◌};
+ghost use Rattle.std.specs.Prelude.{◌≡◌, [], ◌++◌, ◌+◌, ◌*◌, ◌≤◌, ◌||◌, true, is_some, nat_lt, codes, if◌then◌else◌};
 ghost use Rattle.std.specs.Prelude.{decimal, length, map, IfOk, IfSome, OnOk, OnErr, Some};
 ghost use Rattle.n2k_table.specs.Shown.{shown, all_shown, flags_left};
 ghost use Rattle.std.specs.List.{flat_map, join_with_byte};
@@ -377,24 +377,6 @@ fn push_line(
     }
 }
 
-/// Appends the line of a packet by the definition that describes it, put together in a buffer.
-fn append_line(
-    alloc: Global,
-    definition: Option<Definition<'_>>,
-    packet: &Packet,
-    empty: bool,
-    line: &mut LineBuffer,
-    out: &mut Vec<u8>,
-) -> Result<(), AllocError>
-    requires { IfSome definition (λ d. d.pgn ≡ packet.now.id.pgn) }
-    ensures appends { OnOk result (out.new.items ≡ out.old.items ++ chosen_json definition.entry packet.now empty) }
-    ensures unchanged { OnErr result (out.new.items ≡ out.old.items) }
-{
-    line.begin(alloc);
-    let written = push_line(definition, packet, AbsentFields::new(empty), line);
-    line.end(written, out)
-}
-
 /// Appends the JSON line of a packet, with its LF: when it was seen, its priority, source, destination and
 /// PGN, and the fields of its definition in their order, without spaces. A field that shows nothing is left
 /// out, and with `empty` it is `null`. Where sets repeat behind the fields, the last member is `list`, an array of one
@@ -441,7 +423,7 @@ pub fn json_line(
 /// ```
 #[tactic(auto, unfolding(crate::specs::Json::json))]
 pub fn json_line_in(
-    alloc: Global,
+    _alloc: Global,
     table: &Table,
     packet: &Packet,
     empty: bool,
@@ -452,33 +434,38 @@ pub fn json_line_in(
     ensures unchanged { OnErr result (out.new.items ≡ out.old.items) }
 {
     let definition = table.choose(packet.id().pgn, packet.data());
-    append_line(alloc, definition, packet, empty, line, out)
+    line.clear();
+    push_line(definition, packet, AbsentFields::new(empty), line)?;
+    line.append_to(out)
 }
 
-/// Appends what `json_line_in` does of a packet whose PGN has been looked up.
+/// Adds to the lines of a buffer what `json_line` appends, of a packet whose PGN has been looked up. A refused growth
+/// leaves no lines.
 ///
 /// ```rust
 /// let table = sample_table(alloc)?;
 /// let packet = frame_in("(1.0) can0 09F8027F#0500")?;
 /// let known = table.find(packet.id().pgn).ok_or("a definition")?;
-/// let mut line = LineBuffer::new(alloc);
-/// let mut text = Vec::new(alloc);
-/// json_line_of(alloc, &known, &packet, false, &mut line, &mut text)?;
+/// let mut lines = LineBuffer::new(alloc);
+/// json_line_of(&known, &packet, false, &mut lines)?;
 /// let end = "{\"SID\":5,\"COG Reference\":\"True\"}}\n";
-/// assert!(rt; text.ends_with(end.as_bytes()));
+/// assert!(rt; lines.take_lines(alloc)?.ends_with(end.as_bytes()));
 /// ```
 #[tactic(auto, unfolding(crate::specs::Json::json))]
 pub fn json_line_of(
-    alloc: Global,
     known: &KnownPgn<'_>,
     packet: &Packet,
     empty: bool,
-    line: &mut LineBuffer,
-    out: &mut Vec<u8>,
+    lines: &mut LineBuffer,
 ) -> Result<(), AllocError>
     requires { known.now.pgn ≡ packet.now.id.pgn }
-    ensures appends { OnOk result (out.new.items ≡ out.old.items ++ json known.now.table packet.now empty) }
-    ensures unchanged { OnErr result (out.new.items ≡ out.old.items) }
+    ensures adds { OnOk result (lines.new.items ≡ lines.old.items ++ json known.now.table packet.now empty) }
+    ensures emptied { OnErr result (lines.new.items ≡ []) }
 {
-    append_line(alloc, known.choose(packet.data()), packet, empty, line, out)
+    let definition = known.choose(packet.data());
+    let added = push_line(definition, packet, AbsentFields::new(empty), lines);
+    if added.is_err() {
+        lines.clear();
+    }
+    added
 }

@@ -1,21 +1,22 @@
-//! Room in which a line is put together before it is appended to a vector. It is kept from line to line, since new
-//! room for each would be zeroed each time.
-ghost use Rattle.std.specs.Prelude.{◌≡◌, ◌∷◌, [], ◌++◌, ◌+◌, ◌≤◌, take, IfOk, OnOk, OnErr, is_ok, true};
+//! The text that lines are put together in, one behind the other, where they stay until they are written. It is kept,
+//! since new room would be zeroed each time.
+ghost use Rattle.std.specs.Prelude.{◌≡◌, ◌∷◌, [], ◌++◌, ◌+◌, ◌≤◌, take, IfOk, OnOk, OnErr};
+ghost use Rattle.n2k_wire.specs.Texts.{plain_text};
 ghost use Rattle.n2k_table.specs.Decimal.{after_dot};
 
+use n2k_wire::{LINE_ROOM, Packet, write_line};
 use std::alloc::{AllocError, Global};
 use std::marker::Model;
+use std::mem;
 
-/// How many bytes of a line are put together before they are appended.
-const ROOM: usize = 1024;
+/// How many bytes of lines have room before they go to a vector: mostly those of all lines of a block of a log.
+const ROOM: usize = 32768;
 
-/// Room in which lines are put together, one after the other. It holds nothing that counts between two of them.
-///
-/// A line is appended to in parts, which are put together in an array: copying a few bytes at a constant length into
-/// one costs a third of appending them to a vector.
+/// Lines, one behind the other. They are appended to in parts, which are put together in an array: copying a few bytes
+/// at a constant length into one costs a third of appending them to a vector.
 #[derive(Drop)]
 pub struct LineBuffer {
-    /// The front of a line that is longer than the room. Most lines have none.
+    /// The front of lines that are longer than the room. Mostly there is none.
     front: Vec<u8>,
     room: [u8; ROOM],
     /// How many bytes of the room count. They stand behind the front.
@@ -30,13 +31,13 @@ impl Model for LineBuffer {
 
     ghost view = { λ l. record { items = l.front.items ++ take l.at l.room; held = l.at } };
 
-    ghost invariant = { λ l. l.at ≤ 1024 };
+    ghost invariant = { λ l. l.at ≤ 32768 };
 }
 
 /// Appends what the room holds. It is not inlined: few lines do so.
 #[inline(never)]
 fn empty_room(front: &mut Vec<u8>, room: &[u8; ROOM], at: usize) -> Result<(), AllocError>
-    requires { at ≤ 1024 }
+    requires { at ≤ 32768 }
     ensures ok { OnOk result (front.new.items ≡ front.old.items ++ take at room.now) }
 {
     front.extend_from_slice(&room[..at])
@@ -46,14 +47,14 @@ fn empty_room(front: &mut Vec<u8>, room: &[u8; ROOM], at: usize) -> Result<(), A
 /// overlap.
 #[inline(always)]
 fn write_at<const N: usize>(room: &mut [u8; ROOM], at: usize, bytes: [u8; N])
-    requires { at + N ≤ 1024 }
+    requires { at + N ≤ 32768 }
     ensures { take (at + N) room.new ≡ take at room.old ++ bytes.entry }
 {
     room[at..at + N].copy_from_slice(&bytes);
 }
 
 impl LineBuffer {
-    /// Room for lines.
+    /// No lines.
     ///
     /// ```rust
     /// let table = sample_table(alloc)?;
@@ -62,7 +63,9 @@ impl LineBuffer {
     /// let mut text = Vec::new(alloc);
     /// json_line_in(alloc, &table, &packet, false, &mut line, &mut text)?;
     /// ```
-    pub fn new(alloc: Global) -> LineBuffer {
+    pub fn new(alloc: Global) -> LineBuffer
+        ensures { result.items ≡ [] }
+    {
         LineBuffer {
             front: Vec::new(alloc),
             room: [0; ROOM],
@@ -70,15 +73,85 @@ impl LineBuffer {
         }
     }
 
-    /// Begins a line. The memory that a long one took before it is given back.
-    #[inline(always)]
-    pub(crate) fn begin(&mut self, alloc: Global)
-        ensures { self.new ≡ record { items = []; held = 0 } }
+    /// Lets go of the lines. Their room is kept.
+    ///
+    /// ```rust
+    /// let mut lines = LineBuffer::new(alloc);
+    /// lines.push_plain(&frame_in("(1.0) can0 18EAFF01#14F001")?)?;
+    /// lines.clear();
+    /// assert!(rt; lines.parts().1.is_empty());
+    /// ```
+    pub fn clear(&mut self)
+        ensures { self.new.items ≡ [] }
     {
-        if !self.front.is_empty() {
-            self.front = Vec::new(alloc);
-        }
+        self.front.clear();
         self.at = 0;
+    }
+
+    /// The lines in two parts, one behind the other.
+    ///
+    /// ```rust
+    /// let mut lines = LineBuffer::new(alloc);
+    /// lines.push_plain(&frame_in("(1.0) can0 18EAFF01#14F001")?)?;
+    /// let (front, rest) = lines.parts();
+    /// assert_eq!(rt; (front.len(), rest.len()), (0, 50));
+    /// ```
+    pub fn parts(&self) -> (&[u8], &[u8])
+        ensures { result.0.now ++ result.1.now ≡ self.now.items }
+    {
+        (self.front.as_slice(), &self.room[..self.at])
+    }
+
+    /// Moves all lines to the front.
+    #[inline(always)]
+    fn settle(&mut self) -> Result<(), AllocError>
+        ensures { OnOk result (self.new ≡ record { items = self.old.items; held = 0 }) }
+    {
+        if self.at > 0 {
+            empty_room(&mut self.front, &self.room, self.at)?;
+            self.at = 0;
+        }
+        Ok(())
+    }
+
+    /// Takes the lines out as a vector, to which other text can be appended. `put_back` gives them back.
+    ///
+    /// ```rust
+    /// let mut lines = LineBuffer::new(alloc);
+    /// let mut text = lines.take_lines(alloc)?;
+    /// text.push(b'\n')?;
+    /// lines.put_back(text);
+    /// assert_eq!(rt; lines.parts().0, b"\n".as_slice());
+    /// ```
+    #[inline(always)]
+    pub fn take_lines(&mut self, alloc: Global) -> Result<Vec<u8>, AllocError>
+        ensures { IfOk result (λ lines. lines.items ≡ self.old.items) }
+    {
+        self.settle()?;
+        Ok(mem::replace(&mut self.front, Vec::new(alloc)))
+    }
+
+    /// Has these lines alone.
+    ///
+    /// ```rust
+    /// let mut lines = LineBuffer::new(alloc);
+    /// lines.put_back(Vec::new(alloc));
+    /// ```
+    #[inline(always)]
+    pub fn put_back(&mut self, lines: Vec<u8>)
+        ensures { self.new.items ≡ lines.items }
+    {
+        self.front = lines;
+        self.at = 0;
+    }
+
+    /// Appends the lines to a vector, which is as it was where that is refused.
+    pub(crate) fn append_to(&mut self, out: &mut Vec<u8>) -> Result<(), AllocError>
+        ensures ok { OnOk result (out.new.items ≡ out.old.items ++ self.old.items) }
+        ensures err { OnErr result (out.new.items ≡ out.old.items) }
+    {
+        self.settle()?;
+        out.extend_from_slice(&self.front)
     }
 
     /// Appends a byte.
@@ -92,9 +165,9 @@ impl LineBuffer {
     /// The place of the room that has so many bytes behind it.
     #[inline(always)]
     fn place(&mut self, count: usize) -> Result<usize, AllocError>
-        requires { count ≤ 1024 }
+        requires { count ≤ 32768 }
         ensures items { OnOk result (self.new.items ≡ self.old.items) }
-        ensures place { IfOk result (λ at. (at ≡ self.new.held) × (at + count ≤ 1024)) }
+        ensures place { IfOk result (λ at. (at ≡ self.new.held) × (at + count ≤ 32768)) }
     {
         if self.at > ROOM - count {
             empty_room(&mut self.front, &self.room, self.at)?;
@@ -111,7 +184,7 @@ impl LineBuffer {
         count: usize,
     ) -> Result<(), AllocError>
         requires few { count ≤ N }
-        requires room { N ≤ 1024 }
+        requires room { N ≤ 32768 }
         ensures { OnOk result (self.new.items ≡ self.old.items ++ take count bytes.now) }
     {
         let at = self.place(N)?;
@@ -129,7 +202,7 @@ impl LineBuffer {
         count: usize,
     ) -> Result<(), AllocError>
         requires few { count ≤ M }
-        requires room { N + M ≤ 1024 }
+        requires room { N + M ≤ 32768 }
         ensures { OnOk result (self.new.items ≡ self.old.items ++ (label.now ++ take count bytes.now)) }
     {
         let at = self.place(N + M)?;
@@ -190,31 +263,21 @@ impl LineBuffer {
         self.front.extend_from_slice(bytes)
     }
 
-    /// Appends the line to a vector, unless a part of it was refused. A refusal leaves the vector as it was.
+    /// Appends the plain line of a packet.
+    ///
+    /// ```rust
+    /// let mut lines = LineBuffer::new(alloc);
+    /// lines.push_plain(&frame_in("(1.0) can0 18EAFF01#14F001")?)?;
+    /// let wanted = "1970-01-01T00:00:01.000Z,6,59904,1,255,3,14,f0,01\n";
+    /// assert_eq!(rt; lines.parts().1, wanted.as_bytes());
+    /// ```
     #[inline(always)]
-    pub(crate) fn end(
-        &mut self,
-        written: Result<(), AllocError>,
-        out: &mut Vec<u8>,
-    ) -> Result<(), AllocError>
-        ensures ok { OnOk result (out.new.items ≡ out.old.items ++ self.old.items) }
-        ensures err { OnErr result (out.new.items ≡ out.old.items) }
-        ensures written { OnOk result (is_ok written ≡ true) }
+    pub fn push_plain(&mut self, packet: &Packet) -> Result<(), AllocError>
+        ensures { OnOk result (self.new.items ≡ self.old.items ++ plain_text packet.now) }
     {
-        written?;
-        if self.front.is_empty() {
-            return out.extend_from_slice(&self.room[..self.at]);
-        }
-        self.end_long(out)
-    }
-
-    /// Appends a line that is longer than the room.
-    #[inline(never)]
-    fn end_long(&mut self, out: &mut Vec<u8>) -> Result<(), AllocError>
-        ensures ok { OnOk result (out.new.items ≡ out.old.items ++ self.old.items) }
-        ensures err { OnErr result (out.new.items ≡ out.old.items) }
-    {
-        empty_room(&mut self.front, &self.room, self.at)?;
-        out.extend_from_slice(&self.front)
+        let _data = packet.data();
+        let at = self.place(LINE_ROOM)?;
+        self.at = write_line(&mut self.room, at, packet);
+        Ok(())
     }
 }

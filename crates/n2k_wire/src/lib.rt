@@ -48,5 +48,5 @@ pub use fault::WireFault;
 pub use identifier::{Id, join_id, split_id};
 pub use packet::{GREATEST_PGN, Packet};
 pub use plain::GREATEST_ADDRESS;
-pub use plain_writer::plain_text;
+pub use plain_writer::{LINE_ROOM, plain_text, write_line};
 pub use stamp::UTC_LEN;

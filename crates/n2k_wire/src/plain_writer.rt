@@ -17,7 +17,7 @@ use std::simd::prelude::*;
 const FRAME_ROOM: usize = 96;
 
 /// Room for any line and for what is written behind it: three bytes for each byte of data, and at most 58 more.
-const LINE_ROOM: usize = 736;
+pub const LINE_ROOM: usize = 736;
 
 /// The bytes of the last piece of a line of eight bytes that count: the length, the bytes and the LF.
 const END: usize = 27;
@@ -187,8 +187,9 @@ fn put_end(text: &mut [u8], at: usize, data: &[u8]) -> usize
     requires room { at + 32 ≤ length text.old }
     requires bytes { at + 3 * length «data».now + 5 ≤ length text.old }
     requires short { length «data».now ≤ 223 }
-    ensures { take result text.new ≡ take at text.old ++ number_piece (length «data».now)
+    ensures bytes { take result text.new ≡ take at text.old ++ number_piece (length «data».now)
         ++ flat_map byte_piece «data».now ++ codes "\n" }
+    ensures end { result ≤ length text.old }
 {
     if let Some(data) = data.as_array() {
         return put(text, at, &end_piece(data), END);
@@ -199,12 +200,23 @@ fn put_end(text: &mut [u8], at: usize, data: &[u8]) -> usize
     put(text, at, b"\n", 1)
 }
 
-/// Writes the line at a place of the text, and answers the place behind it.
+/// Writes the plain line of a packet at a place of the text, and answers the place behind it. `LINE_ROOM` bytes are
+/// enough for any.
+///
+/// ```rust
+/// let packet = frame_in("(1.0) can0 18EAFF01#14F001")?;
+/// assert_eq!(rt; packet.data().len(), 3);
+/// let mut text = [0; LINE_ROOM];
+/// let end = write_line(&mut text, 0, &packet);
+/// let wanted = "1970-01-01T00:00:01.000Z,6,59904,1,255,3,14,f0,01\n";
+/// assert_eq!(rt; &text[..end], wanted.as_bytes());
+/// ```
 #[inline(always)]
-fn write_line(text: &mut [u8], at: usize, packet: &Packet) -> usize
+pub fn write_line(text: &mut [u8], at: usize, packet: &Packet) -> usize
     requires room { at + 85 ≤ length text.old }
     requires bytes { at + 58 + 3 * length packet.now.payload ≤ length text.old }
-    ensures { take result text.new ≡ take at text.old ++ plain_text packet.now }
+    ensures bytes { take result text.new ≡ take at text.old ++ plain_text packet.now }
+    ensures end { result ≤ length text.old }
 {
     let id = packet.id();
     let (stamp, len) = packet.stamp_buffer();

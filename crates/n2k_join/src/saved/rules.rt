@@ -2,15 +2,15 @@
 ghost use Rattle.std.specs.Prelude.{◌≡◌, ◌≤◌, ◌<◌, true, IfSome};
 ghost use Rattle.std.specs.List.{AllByRecursion};
 ghost use Rattle.n2k_join.specs.Saved.{are_waiting};
-ghost use Rattle.n2k_join.specs.Inner.Apart.{numbers_hold};
+ghost use Rattle.n2k_join.specs.Inner.Apart.{numbers_hold, SomeUnder};
 ghost use Rattle.n2k_wire.specs.Packet.{greatest_pgn};
 ghost use Rattle.n2k_table.specs.Table.{kind};
 ghost use Rattle.n2k_join.specs.Counts.{most_lines};
 ghost use Rattle.n2k_join.specs.Frames.{most_frames};
-ghost use Rattle.n2k_join.specs.Inner.Apart.{SomeUnder};
 ghost use Rattle.n2k_join.specs.State.{IsPiece};
 ghost use Rattle.n2k_join.specs.Inner.Stored.{piece_of};
-ghost use Rattle.n2k_join.specs.Resumed.{counts_hold, firsts_rise, waits_hold, key_holds, total_holds, piece_holds, is_fast_pgn};
+ghost use Rattle.n2k_join.specs.Resumed.{counts_hold, firsts_rise, waits_hold, key_holds, total_holds, piece_holds};
+ghost use Rattle.n2k_join.specs.Pieces.{is_fast};
 
 use crate::counts::{Counts, MOST_LINES};
 use crate::frame::{LONGEST_MESSAGE, MOST_FRAMES, MOST_SEQUENCES};
@@ -74,14 +74,12 @@ pub(crate) fn waits_hold(format: StateFormat, state: &SpelledState) -> bool
     }
 }
 
-fn is_fast_pgn(table: &Table, pgn: u64) -> bool
+/// Whether the table sends the PGN in fast packets.
+fn is_fast(table: &Table, pgn: u64) -> bool
     requires { pgn ≤ greatest_pgn }
-    ensures { result ≡ is_fast_pgn (kind table.now pgn) }
+    ensures { result ≡ is_fast (kind table.now pgn) }
 {
-    match table.kind(pgn as u32) {
-        Some(Kind::Fast) => true,
-        _ => false,
-    }
+    matches!(table.kind(pgn as u32), Some(Kind::Fast))
 }
 
 /// Whether frames of a fast PGN of the table can have the key.
@@ -90,7 +88,7 @@ pub(crate) fn key_holds(table: &Table, key: &SpelledKey) -> bool
     ensures { result ≡ key_holds (kind table.now) key.now }
 {
     key.pgn <= u64::from(GREATEST_PGN)
-        && (is_fast_pgn(table, key.pgn)
+        && (is_fast(table, key.pgn)
             && (key.src <= GREATEST_ADDRESS
                 && (key.dst <= GREATEST_ADDRESS && key.sequence < u64::from(MOST_SEQUENCES))))
 }
@@ -126,10 +124,8 @@ pub(crate) fn stored_piece(least: u8, piece: &SpelledPiece) -> Option<StoredPiec
     ensures value { SomeUnder piece_of result (piece_holds least piece.now) piece.now }
     ensures parts { IfSome result (λ stored. IsPiece (piece_of stored)) }
 {
-    if piece.number < u64::from(least) || piece.number >= u64::from(MOST_FRAMES) {
-        return None;
-    }
-    if !total_holds(piece.number, &piece.bytes) {
+    let numbers = u64::from(least)..u64::from(MOST_FRAMES);
+    if !numbers.contains(&piece.number) || !total_holds(piece.number, &piece.bytes) {
         return None;
     }
     Some(piece_of_parts(piece.number as u8, &piece.bytes))

@@ -3,11 +3,10 @@ ghost use Rattle.std.specs.Prelude.{◌≡◌, ℕ, ◌*◌, ◌<◌, ◌≤◌,
 ghost use Rattle.hex.specs.Hex.{encode_lower};
 ghost use Rattle.json.specs.Token.{Token};
 ghost use Rattle.n2k_join.specs.Frames.{most_frames};
-ghost use Rattle.n2k_join.specs.Open.{piece_at};
+ghost use Rattle.n2k_join.specs.Open.{piece_at, is_waiting};
 ghost use Rattle.n2k_join.specs.Saved.{piece_tree, group_tree, state_tree, state_text, IsId};
 ghost use Rattle.n2k_join.specs.Inner.SavedTokens.{AppendsTokens, tokens_of, count_tokens, piece_tokens, pieces_tokens, frames_tokens, key_tokens, groups_tokens, open_tokens, front_tokens, lines_tokens, table_tokens, back_tokens, window_tokens};
 ghost use Rattle.std.specs.List.{list_all};
-ghost use Rattle.n2k_join.specs.Open.{is_waiting};
 ghost use Rattle.n2k_join.specs.Inner.Stored.{key_of};
 ghost use Rattle.n2k_join.specs.Inner.Slots.{slot_of, pieces_in, group_in};
 ghost use Rattle.n2k_join.specs.Inner.Order.{listed, IsKept};
@@ -93,8 +92,7 @@ fn push_frames(group: &OpenGroup, out: &mut Writer) -> Result<(), AllocError>
     out.key("frames")?;
     out.begin_array()?;
     push_pieces(group, out)?;
-    out.end_array()?;
-    Ok(())
+    out.end_array()
 }
 
 /// Writes what the frames of a group have in common, but for the destination.
@@ -115,8 +113,7 @@ fn push_group(key: &FrameKey, group: &OpenGroup, out: &mut Writer) -> Result<(),
     push_count("first", group.first, out)?;
     push_frames(group, out)?;
     push_key(key, out)?;
-    out.end_object()?;
-    Ok(())
+    out.end_object()
 }
 
 /// Writes the open groups as a member.
@@ -141,8 +138,7 @@ fn push_open(groups: &OpenGroups, out: &mut Writer) -> Result<(), AllocError>
     out.key("groups")?;
     out.begin_array()?;
     push_groups(groups, out)?;
-    out.end_array()?;
-    Ok(())
+    out.end_array()
 }
 
 /// Writes the members before `groups`, of a state with its window or without.

@@ -71,11 +71,39 @@ fn json_lines_of_a_known_pgn(rt: HostRuntime) -> Result<(), Fail> {
     let table = sample_table(alloc)?;
     let packet = frame_in("(1.0) can0 09F8027F#0500")?;
     let known = table.find(packet.id().pgn).ok_or("a definition")?;
-    let mut line = LineBuffer::new(alloc);
-    let mut text = Vec::new(alloc);
-    json_line_of(alloc, &known, &packet, false, &mut line, &mut text)?;
+    let mut lines = LineBuffer::new(alloc);
+    json_line_of(&known, &packet, false, &mut lines)?;
     let end = "{\"SID\":5,\"COG Reference\":\"True\"}}\n";
-    assert!(rt; text.ends_with(end.as_bytes()));
+    assert!(rt; lines.take_lines(alloc)?.ends_with(end.as_bytes()));
+    Ok(())
+}
+
+#[test]
+fn lines_in_a_buffer(rt: HostRuntime) -> Result<(), Fail> {
+    let alloc = rt.alloc();
+    let mut lines = LineBuffer::new(alloc);
+    lines.push_plain(&frame_in("(1.0) can0 18EAFF01#14F001")?)?;
+    lines.clear();
+    assert!(rt; lines.parts().1.is_empty());
+
+    let mut lines = LineBuffer::new(alloc);
+    lines.push_plain(&frame_in("(1.0) can0 18EAFF01#14F001")?)?;
+    let (front, rest) = lines.parts();
+    assert_eq!(rt; (front.len(), rest.len()), (0, 50));
+
+    let mut lines = LineBuffer::new(alloc);
+    let mut text = lines.take_lines(alloc)?;
+    text.push(b'\n')?;
+    lines.put_back(text);
+    assert_eq!(rt; lines.parts().0, b"\n".as_slice());
+
+    let mut lines = LineBuffer::new(alloc);
+    lines.put_back(Vec::new(alloc));
+
+    let mut lines = LineBuffer::new(alloc);
+    lines.push_plain(&frame_in("(1.0) can0 18EAFF01#14F001")?)?;
+    let wanted = "1970-01-01T00:00:01.000Z,6,59904,1,255,3,14,f0,01\n";
+    assert_eq!(rt; lines.parts().1, wanted.as_bytes());
     Ok(())
 }
 

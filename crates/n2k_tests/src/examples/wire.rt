@@ -1,8 +1,8 @@
 //! Examples of `n2k_wire`.
 use super::frame_in;
 use n2k_wire::{
-    BadCause, CandumpLines, Entry, Id, LineReader, Packet, Packing, candump_text, is_interface,
-    join_id, plain_text, read_line, split_id,
+    BadCause, CandumpLines, Entry, Id, LINE_ROOM, LineReader, Packet, Packing, candump_text,
+    is_interface, join_id, plain_text, read_line, split_id, write_line,
 };
 use std::test::Fail;
 
@@ -106,6 +106,17 @@ fn plain_texts(rt: HostRuntime) -> Result<(), Fail> {
     plain_text(alloc, &packet, &mut text)?;
     let wanted = "1970-01-01T00:00:01.000Z,6,59904,1,255,3,14,f0,01\n";
     assert_eq!(rt; text.as_slice(), wanted.as_bytes());
+    Ok(())
+}
+
+#[test]
+fn plain_lines(rt: HostRuntime) -> Result<(), Fail> {
+    let packet = frame_in("(1.0) can0 18EAFF01#14F001")?;
+    assert_eq!(rt; packet.data().len(), 3);
+    let mut text = [0; LINE_ROOM];
+    let end = write_line(&mut text, 0, &packet);
+    let wanted = "1970-01-01T00:00:01.000Z,6,59904,1,255,3,14,f0,01\n";
+    assert_eq!(rt; &text[..end], wanted.as_bytes());
     Ok(())
 }
 

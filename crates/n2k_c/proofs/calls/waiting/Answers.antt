@@ -1,4 +1,4 @@
-use Rattle.std.proofs.Common.{Some, refl, sym, ap, ◌∙◌}
+use Rattle.std.proofs.Common.{Some, sym, ap, ◌∙◌}
 use Rattle.n2k_c.proofs.calls.waiting.Goals as goal
 
 pub returns : goal.returns

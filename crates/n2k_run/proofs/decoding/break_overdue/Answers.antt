@@ -5,10 +5,7 @@ use Rattle.n2k_run.proofs.decoding.break_overdue.Goals as goal
 
 -- the lines that are counted after a round are those before it
 pub overflow_add-line : goal.overflow_add-line
-overflow_add-line c =
-    let few = c.in-Some.ensures.few refl in
-    let same = ap (λ (k : Counts). k.lines) (c.counts-line.ensures ∙ ap (λ s. s.counts) (c.in-Some.ensures.after refl)) ∙ lines_stay c.loop-group.join in
-    omega (arith, few, same)
+overflow_add-line c = grind (arith, lines_stay)
 
 pub loop-group-preserved : goal.loop-group-preserved
 loop-group-preserved c =

@@ -1,4 +1,4 @@
-use Rattle.std.proofs.Common.{◌∙◌, ap}
+use Rattle.std.proofs.Common.{arith, ◌∙◌, ap}
 use Rattle.n2k_join.specs.State.{State}
 use Rattle.n2k_run.specs.Decoded.{join_fold, output_after}
 use Rattle.n2k_run.specs.Fold.{after_all}
@@ -12,15 +12,10 @@ returns-clause-log g c = λ front is.
     let t = c.args.table.now in
     let o = c.args.options in
     let laws = log_laws o.window c.know_window.ensures c.steps_agree.ensures c.lines_stay.ensures in
-    let was = c.replace.ensures.value ∙ is in
+    let was = c.replace-running.ensures.value ∙ is in
     let same = ap (output_from (join_fold t o.empty) o.packing) was ∙ output_after-is t o laws t.id front in
     let runs = runs_same _ _ _ _ _ _ same c.run_entries-ran.ensures.runs in
     runs_more (output_after t o front) _ _ _ _ c.run_entries-ran.result runs (λ es stands. stands ∙ ap (λ (s : State). after_all (join_fold t o.empty) s es) was ∙ state_after t o laws t.id front es)
 
 pub returns-clause-steps : goal.returns-clause-steps
-returns-clause-steps g c =
-    let t = c.args.table.now in
-    let o = c.args.options in
-    let was = c.replace.ensures.value in
-    let runs = runs_same _ _ _ _ _ _ (ap (output_from (join_fold t o.empty) o.packing) was) c.run_entries-ran.ensures.runs in
-    runs_more (output_from (join_fold t o.empty) o.packing c.args.join.now) _ _ _ _ c.run_entries-ran.result runs (λ es stands. stands ∙ ap (λ (s : State). after_all (join_fold t o.empty) s es) was)
+returns-clause-steps g c = grind (arith, runs_same)

@@ -1,4 +1,4 @@
-use Rattle.std.proofs.Common.{◌≡◌, ◌++◌, List, Ok, refl, subst, option_map}
+use Rattle.std.proofs.Common.{arith, ◌≡◌, ◌++◌, List, Ok, subst, option_map}
 use Rattle.std.proofs.lemmas.Result.{err_from_is_err_and}
 use Rattle.n2k_wire.specs.declared.entry.Entry.{Entry}
 use Rattle.n2k_table.specs.Table.{kind}
@@ -14,18 +14,7 @@ use Rattle.n2k_run.proofs.Parting.{KeepsFast, begins_by, log_of, memory_alone, n
 use Rattle.n2k_run.proofs.part.run_part.Goals as goal
 
 pub returns-in_err-join-clause-runs : goal.returns-in_err-join-clause-runs
-returns-in_err-join-clause-runs g c =
-    let p = err_from_is_err_and c.from_residual.result c.from_residual.ensures.1 in
-    let fault = c.in_err-join.field-0.0 in
-    let refused = refused_by fault _ c.in_err-join.ensures.state in
-    rw (p.1, p.2) (record {
-      fault_kinds = tt;
-      begins = (c.in_err-join.ensures.handed, refused);
-      untouched = refl;
-      steps = λ s is. unbegun _ _ _ fault refl;
-      log = λ front is. unbegun _ _ _ fault refl;
-      headline = λ front is. memory_alone fault _ _ is.leads_to refused;
-    })
+returns-in_err-join-clause-runs g c = grind (arith, err_from_is_err_and, refused_by, unbegun, memory_alone)
 
 pub returns-clause-runs : goal.returns-clause-runs
 returns-clause-runs g c =

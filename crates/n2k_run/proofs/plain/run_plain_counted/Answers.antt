@@ -1,10 +1,10 @@
-use Rattle.std.proofs.Common.{◌≡◌, ◌+◌, false, List, [], ◌∷◌, length, refl, ap, ◌∙◌, count_by}
+use Rattle.std.proofs.Common.{arith, ◌≡◌, ◌+◌, false, List, [], ◌∷◌, length, refl, ap, ◌∙◌, count_by}
 use Rattle.std.proofs.lemmas.List.Sums.{sum_by-cons}
 use Rattle.n2k_wire.specs.declared.entry.Entry.{Entry}
 use Rattle.n2k_wire.specs.declared.entry.Packing.TheVariants.{Frames}
 use Rattle.n2k_join.specs.declared.counts.Counts.{Counts}
 use Rattle.n2k_run.specs.Entries.{is_bad, is_packet}
-use Rattle.n2k_run.specs.Plain.{entry_line, plain_lines, plain_counts_of, plain_output, plain_reports_of}
+use Rattle.n2k_run.specs.Plain.{entry_line, plain_counts_of, plain_output}
 use Rattle.n2k_run.specs.Fold.{after_all}
 use Rattle.n2k_run.specs.Runs.{output_from}
 use Rattle.n2k_run.specs.Inner.Counting.{counting_fold}
@@ -13,10 +13,7 @@ use Rattle.n2k_run.proofs.Ending.{log_if_ok, output_same, runs_same, runs_more}
 use Rattle.n2k_run.proofs.plain.run_plain_counted.Goals as goal
 
 output_is : output_from (counting_fold entry_line is_packet (λ _. false)) Frames (record { lines = 0; messages = 0; bad = 0; unknown = 0; broken = 0; held = 0 }) ≡ plain_output
-output_is =
-    output_same Frames 0 _ plain_lines _ plain_reports_of
-    (λ es. texts_are entry_line is_packet (λ _. false) (record { lines = 0; messages = 0; bad = 0; unknown = 0; broken = 0; held = 0 }) es)
-    (λ es. reports_are entry_line is_packet (λ _. false) (record { lines = 0; messages = 0; bad = 0; unknown = 0; broken = 0; held = 0 }) 1 es refl)
+output_is = grind (arith, output_same, texts_are, reports_are)
 
 none_unknown : (es : List Entry) → count_by (λ (e : Entry). false) es ≡ 0
 none_unknown [] = refl

@@ -6,3 +6,9 @@ returns-clause-decimal c = dec_is_decimal c.args.value c.args.decimals (size_lt 
 
 pub returns-clause-only : goal.returns-clause-only
 returns-clause-only c = dec_only c.args.value c.args.decimals (size_lt c.args.value c.ranges.value)
+
+pub returns-in_err-push_decimal-clause-decimal : goal.returns-in_err-push_decimal-clause-decimal
+returns-in_err-push_decimal-clause-decimal c = dec_is_decimal c.args.value c.args.decimals (size_lt c.args.value c.ranges.value)
+
+pub returns-in_err-push_decimal-clause-only : goal.returns-in_err-push_decimal-clause-only
+returns-in_err-push_decimal-clause-only c = dec_only c.args.value c.args.decimals (size_lt c.args.value c.ranges.value)

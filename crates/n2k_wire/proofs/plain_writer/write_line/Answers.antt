@@ -4,14 +4,14 @@ use Rattle.n2k_wire.proofs.TextLemmas.{piece_of_one}
 use Rattle.n2k_wire.proofs.PlainTexts.{line_is}
 use Rattle.n2k_wire.proofs.plain_writer.write_line.Goals as goal
 
-pub returns : goal.returns
-returns c =
+pub returns-clause-bytes : goal.returns-clause-bytes
+returns-clause-bytes c =
     let p = c.args.packet.now in
     let prio = p.id.prio in
     let id_is = c.id-id.ensures.value in
     let small = c.id-id.ensures.valid.prio_ok in
     let one : prio % 10 ≡ prio = omega (arith, small) in
     let prio_is = ap (λ i. 44 ∷ (48 + i.prio) ∷ []) id_is ∙ ap (λ d. 44 ∷ (48 + d) ∷ []) (sym one) ∙ sym (piece_of_one prio (omega (arith, small))) in
-    line_is p _ _ _ _ _ _ _ _ _ _ _ _ _ c.put-at.ensures.bytes c.put-at-2.ensures.bytes c.put_pgn-at.ensures.bytes c.put-at-3.ensures.bytes c.put-at-4.ensures.bytes c.put_end.ensures
+    line_is p _ _ _ _ _ _ _ _ _ _ _ _ _ c.put-at.ensures.bytes c.put-at-2.ensures.bytes c.put_pgn-at.ensures.bytes c.put-at-3.ensures.bytes c.put-at-4.ensures.bytes c.put_end.ensures.bytes
     c.stamp_buffer-len.ensures.value prio_is (ap (λ i. number_piece i.pgn) id_is) (c.small_piece-count.ensures.piece ∙ ap (λ i. number_piece i.src) id_is)
     (c.small_piece-count-2.ensures.piece ∙ ap (λ i. number_piece i.dst) id_is) c.data.ensures.value

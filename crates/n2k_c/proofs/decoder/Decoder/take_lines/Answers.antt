@@ -1,4 +1,4 @@
-use Rattle.std.proofs.Common.{Err, refl, sym, subst}
+use Rattle.std.proofs.Common.{refl, sym, subst}
 use Rattle.n2k_c.specs.Answers.{Spends}
 use Rattle.n2k_c.proofs.Feeding.{spends_more, stands_more}
 use Rattle.n2k_c.proofs.decoder.Decoder.take_lines.Goals as goal

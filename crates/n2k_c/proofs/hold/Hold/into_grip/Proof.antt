@@ -1,6 +1,5 @@
 -- `into_grip` gives up what was held.
-use Rattle.std.proofs.Common.{◌≡◌, List, [], ◌∷◌, ◌++◌, refl, sym, ap, ◌∙◌, subst}
-use Rattle.std.specs.Prelude.{Option, Some, IsSome}
+use Rattle.std.proofs.Common.{◌≡◌, List, [], ◌∷◌, ◌++◌, refl, sym, ap, ◌∙◌, subst, Option, Some, IsSome}
 use mir.Raw.{raw as bare}
 use mir.Val.{Val, vptr}
 use base.Logic.{SProp, ent, emp, id⊢, never, fst∗}

@@ -19,8 +19,8 @@ invariant_of-self-2 c =
     let d = expires_by s c.args.self.now c.in_ok-broken.broken c.self.view_is c.self.invariant.0 (told s c.args.self.now c.self.view_is c.if-self-eq-MOST_LINES.false _ (c.take_ended.ensures.broken) ∙ c.in_ok-broken.was) in
     (subst (λ gs. IsState (record { id = s.id; window = s.window; counts = record s.counts { broken = s.counts.broken + 1; held = s.counts.held - 1 }; groups = gs })) (sym (c.in_ok-broken.ensures.taken refl)) (expired-state s d.group d.is c.self.invariant.0), c.take_ended.ensures.kept)
 
-pub overflow_sub-self : goal.overflow_sub-self
-overflow_sub-self c =
+pub overflow_sub-counts : goal.overflow_sub-counts
+overflow_sub-counts c =
     let s : State = record { id = c.self.inside.id; window = c.self.inside.window; counts = c.self.inside.counts; groups = listed c.self.inside.groups } in
     let d = expires_by s c.args.self.now c.in_ok-broken.broken c.self.view_is c.self.invariant.0 (told s c.args.self.now c.self.view_is c.if-self-eq-MOST_LINES.false _ (c.take_ended.ensures.broken) ∙ c.in_ok-broken.was) in
     omega (arith, some-due s d.group d.is, c.self.invariant.0.held)

@@ -1,4 +1,4 @@
-use Rattle.std.proofs.Common.{◌≡◌, ◌-◌, ◌+◌, ◌≤◌, [], ◌++◌, List, ℕ, length, take, Option, Some, None, refl, sym, ap, ◌∙◌, subst, arith, add-zero, append-nil}
+use Rattle.std.proofs.Common.{◌≡◌, ◌-◌, ◌+◌, ◌≤◌, [], List, ℕ, length, Option, Some, None, refl, sym, ap, ◌∙◌, subst, arith, add-zero, append-nil}
 use Rattle.std.specs.Io.KnownBytes.{Consumes, Keeps}
 use Rattle.std.specs.List.{slice_range}
 use Rattle.std.proofs.lemmas.Result.{err_from_is_err_and}
@@ -52,22 +52,7 @@ returns-in_err-count-clause-failed g c =
     rw p.1 (rw add-zero at same ∙ kept)
 
 pub returns-clause-gains : goal.returns-clause-gains
-returns-clause-gains g c =
-    let i = c.self.inside in
-    let kept = ap (λ (h : Held). h.kept) c.self.view_is in
-    let n = c.in_ok-count.count in
-    let size : length c.read.new.buffer ≡ 4096 - i.end = c.read.auto.buffer ∙ length-range i.block i.end 4096 (omega arith) (omega arith) in
-    let few : n ≤ 4096 - i.end = omega (arith, c.in_ok-count.ensures.bound, size) in
-    record {
-      gained = take n c.read.new.buffer;
-      appended = range_grown i.block c.read.new.buffer i.start i.end (4096 - i.end) n c.self.invariant.kept_ends (omega arith) size few ∙ ap (λ k. k ++ take n c.read.new.buffer) kept;
-      given = c.in_ok-count.ensures.bytes.0;
-    }
+returns-clause-gains g c = grind (arith, length-range, range_grown)
 
 pub returns-clause-end : goal.returns-clause-end
-returns-clause-end g c = λ none.
-    let i = c.self.inside in
-    let kept = ap (λ (h : Held). h.kept) c.self.view_is in
-    let room = ap (λ (h : Held). h.room) c.self.view_is in
-    let size : length c.read.new.buffer ≡ 4096 - i.end = c.read.auto.buffer ∙ length-range i.block i.end 4096 (omega arith) (omega arith) in
-    (same_kept i.block c.read.new.buffer i.start i.end (4096 - i.end) c.in_ok-count.count c.self.invariant.kept_ends (omega arith) size none ∙ kept, c.in_ok-count.ensures.bytes.1 none (omega (arith, size, room, c.requires.room)))
+returns-clause-end g c = grind (arith, length-range, same_kept)
