@@ -1,5 +1,5 @@
 -- From what `clap` says of a parse to what the words ask for.
-use Rattle.std.proofs.Common.{◌≡◌, ◌∙◌, List, [], ◌∷◌, Bool, cond, true, false, Option, Some, None, Result, Ok, Err, IfErr, IfOk, IfSome, IsErrOf, ap, sym, subst, refl, inl, inr, codes, true≢false}
+use Rattle.std.proofs.Common.{◌≡◌, ◌∙◌, ℕ, List, [], ◌∷◌, Bool, cond, true, false, Option, Some, None, Result, Ok, Err, IfErr, IfOk, IfSome, IsErrOf, ap, sym, subst, refl, inl, inr, codes, true≢false}
 use Rattle.std.specs.Option.{option_and_then, option_map}
 use Rattle.std.specs.Borrow.{Bor}
 use Rattle.std.specs.List.{flat_map}
@@ -12,15 +12,18 @@ use Rattle.clap.specs.declared.parser.matches.ArgMatches.{ArgMatches}
 use Rattle.clap.specs.declared.error.kind.ErrorKind.{ErrorKind}
 use Rattle.clap.specs.declared.error.kind.ErrorKind.TheVariants.{DisplayHelp, DisplayVersion, OutOfMemory}
 use Rattle.clap.proofs.OnLiterals.{clap_on_literals}
-use Rattle.n2k_join.specs.Window.{Window}
+use Rattle.std.specs.Prelude.{Vec}
+use Rattle.std.specs.declared.alloc.Global.{Global}
+use Rattle.n2kdec.specs.declared.asked.Command.{Command}
+use Rattle.n2kdec.specs.declared.asked.Request.{Request}
+use Rattle.n2kdec.specs.declared.asked.Request.TheVariants as to
 use Rattle.n2kdec.specs.declared.fault.Fault.{Fault}
 use Rattle.n2kdec.specs.declared.fault.Fault.TheVariants as fault
-use Rattle.n2kdec.specs.declared.words.Words.{Words}
-use Rattle.n2kdec.specs.declared.words.Words.TheVariants.{Help}
 use Rattle.n2kdec.specs.Usage.{program_app}
+use Rattle.n2kdec.specs.Asked.{IsAsked, IsOfWords, IsUnasked}
 use Rattle.n2kdec.specs.Inner.Parse.{AnswersKind}
-use Rattle.n2kdec.specs.Parser.{AreMatchesOf, IsRefusal, Shown, no_window, said_at, said_of}
-use Rattle.n2kdec.specs.Words.{IsAskedBy, IsRefused, Names, decode_words, frames_words, named, plain_words, window_of, words_of}
+use Rattle.n2kdec.specs.Parser.{AreLinesOf, AreMatchesOf, IsRefusal, Shown, no_window, said_at, said_of}
+use Rattle.n2kdec.specs.Words.{Names, command_of, named}
 
 -- the command is one of those whose matches and faults are known
 program_is_simple : is_simple program_app ≡ true
@@ -62,76 +65,81 @@ pub refused_as_defined : (words : List Text) (e : Error) (kind : ErrorKind) → 
 refused_as_defined words e kind is (inl memory) = inl (is ∙ memory)
 refused_as_defined words e kind is (inr among) = inr (subst (λ k. IsAmong k (fault_of program_app words)) (sym is) among, refl)
 
-abbrev is_help : Option Words → Bool
-is_help (Some (Help text)) = true
-is_help _ = false
-
--- a subcommand's words are no help, whatever its table is
-mapped_is_no_help : (f : Text → Words) → ((t : Text) → is_help (Some (f t)) ≡ false) → (table : Option Text) → is_help (option_map f table) ≡ false
-mapped_is_no_help f none None = refl
-mapped_is_no_help f none (Some t) = none t
-
-checked_is_no_help : (f : Text → Window → Words) → ((t : Text) (window : Window) → is_help (Some (f t window)) ≡ false) → (window : Option Window) (table : Option Text)
-    → is_help (option_and_then (λ t. option_map (f t) window) table) ≡ false
-checked_is_no_help f none window None = refl
-checked_is_no_help f none None (Some t) = refl
-checked_is_no_help f none (Some window) (Some t) = none t window
-
--- no subcommand is help
-named_is_no_help : (rows : Option (Text × List Row)) → is_help (named rows) ≡ false
-named_is_no_help None = refl
-named_is_no_help (Some p) = go (bytes_eq p.0 (codes "plain")) (bytes_eq p.0 (codes "decode")) (bytes_eq p.0 (codes "frames"))
-  where
-    go : (is_plain is_decode is_frames : Bool) → is_help (cond is_plain (plain_words p.1) (cond is_decode (decode_words p.1) (cond is_frames (frames_words p.1) None))) ≡ false
-    go true is_decode is_frames = refl
-    go false true is_frames = checked_is_no_help _ (λ t window. refl) (window_of p.1) (first_of (codes "table") p.1)
-    go false false true = mapped_is_no_help _ (λ t. refl) (first_of (codes "table") p.1)
-    go false false false = refl
-
--- the matches are those of the definition, so what is named in them is what the words name
-pub asked_by_matches : (shown : Shown) (words : List Text) (rows : Option (Text × List Row)) (r : Result Words Fault) → rows ≡ subcommand_of program_app words → fault_of program_app words ≡ [] → Names (named rows) r → IfOk r (IsAskedBy shown words)
-unfolding words_of
-asked_by_matches shown words rows (Ok (Help text)) same none names = absurd (true≢false (sym (ap is_help names) ∙ named_is_no_help rows))
-asked_by_matches shown words rows (Ok command) same none names = (none, sym (ap named same) ∙ names)
-asked_by_matches shown words rows (Err e) same none names = tt
-
-pub refused_by_matches : (words : List Text) (rows : Option (Text × List Row)) (r : Result Words Fault) → rows ≡ subcommand_of program_app words → fault_of program_app words ≡ [] → Names (named rows) r → IsErrOf r fault.Words → IsRefused words
-unfolding words_of
-refused_by_matches words rows r same none names is = inr (none, sym (ap named same) ∙ subst (λ x. Names (named rows) x) is names)
-
-pub named_by_matches : (words : List Text) (rows : Option (Text × List Row)) (r : Result Words Fault) → rows ≡ subcommand_of program_app words → Names (named rows) r → Names (words_of words) r
-unfolding words_of
-named_by_matches words rows r same names = subst (λ x. Names (named x) r) same names
-
--- the parse failed, by a kind among those of the definition, or for want of memory
-pub asked_by_refusal : (shown : Shown) (words : List Text) (kind : ErrorKind) (text : Option Text) (r : Result Words Fault) → IsRefusal shown words kind text → AnswersKind kind text r → IfOk r (IsAskedBy shown words)
-asked_by_refusal shown words kind text (Ok (Help help)) (inl memory) (inl is) = let bad : DisplayHelp ≡ OutOfMemory = sym is.0 ∙ memory in cc
-asked_by_refusal shown words kind text (Ok (Help help)) (inl memory) (inr is) = let bad : DisplayVersion ≡ OutOfMemory = sym is.0 ∙ memory in cc
-asked_by_refusal shown words kind text (Ok (Help help)) (inr (among, same)) (inl is) =
-    inl (subst (λ k. IsAmong k (fault_of program_app words)) is.0 among, subst (λ t. IfSome t (λ known. help ≡ known)) same is.1)
-asked_by_refusal shown words kind text (Ok (Help help)) (inr (among, same)) (inr is) = inr (subst (λ k. IsAmong k (fault_of program_app words)) is.0 among, is.1)
-asked_by_refusal shown words kind text (Ok command) fails answers = absurd answers
-asked_by_refusal shown words kind text (Err e) fails answers = tt
-
-refusal_kind : (shown : Shown) (words : List Text) (kind : ErrorKind) (text : Option Text) → IsRefusal shown words kind text → AnswersKind kind text (Err fault.Words) → IsRefused words
-refusal_kind shown words kind text (inl memory) answers = absurd (answers.2 memory)
-refusal_kind shown words kind text (inr fails) answers = inl (kind, fails.0, answers.0, answers.1)
-
-pub refused_by_refusal : (shown : Shown) (words : List Text) (kind : ErrorKind) (text : Option Text) (r : Result Words Fault) → IsRefusal shown words kind text → AnswersKind kind text r → IsErrOf r fault.Words → IsRefused words
-refused_by_refusal shown words kind text r fails answers refused = refusal_kind shown words kind text fails (subst (AnswersKind kind text) refused answers)
-
 -- ---- what is said of refused words
 
-pub said_without_fault : (shown : Shown) (words : List Text) → fault_of program_app words ≡ [] → said_of shown words ≡ Some no_window
+said_without_fault : (shown : Shown) (words : List Text) → fault_of program_app words ≡ [] → said_of shown words ≡ Some no_window
 said_without_fault shown words none = ap (λ kinds. said_at kinds (shown words)) none
 
 said_at_fault : (kinds : Kinds) (kind : ErrorKind) (text : Option Text) → IsAmong kind kinds → said_at kinds text ≡ text
 said_at_fault [] kind text among = absurd among
 said_at_fault (k ∷ kinds) kind text among = refl
 
-pub said_of_refusal : (shown : Shown) (words : List Text) (kind : ErrorKind) (text : Option Text) → IsRefusal shown words kind text → (kind ≡ OutOfMemory → ⊥) → said_of shown words ≡ text
-said_of_refusal shown words kind text (inl memory) other = absurd (other memory)
-said_of_refusal shown words kind text (inr (among, same)) other = said_at_fault (fault_of program_app words) kind (shown words) among ∙ sym same
+said_of_words : (one other : Option Text) (lines : Option (Vec ℕ Global)) → one ≡ other → IfSome lines (λ lines. AreLinesOf one lines.items)
+    → IfSome lines (λ lines. (fault.Words ≡ fault.Words) × AreLinesOf other lines.items)
+said_of_words one other None same said = tt
+said_of_words one other (Some lines) same said = (refl, subst (λ t. AreLinesOf t lines.items) same said)
+
+-- ---- what is asked for
+
+-- no other fault is asked for, and nothing is said of it
+module _ (shown : Shown) (words : List Text) where
+  abbrev IsSaidOf : Fault → Option (Vec ℕ Global) → Type 0
+  IsSaidOf f lines = IfSome lines (λ lines. (f ≡ fault.Words) × AreLinesOf (said_of shown words) lines.items)
+
+  unsaid : (f : Fault) → (f ≡ fault.Words → ⊥) → (lines : Option (Vec ℕ Global)) → IsSaidOf f lines → lines ≡ None
+  unsaid f other None said = refl
+  unsaid f other (Some lines) said = absurd (other said.0)
+
+  some_said : (lines : Option (Vec ℕ Global)) → IsSaidOf fault.Words lines → IfSome lines (λ lines. AreLinesOf None lines.items)
+  some_said None said = tt
+  some_said (Some lines) said = (said.1.0, tt, said.1.2)
+
+  pub of_words : (r : Request) → IsAsked shown r words → IsOfWords r
+  of_words (to.Help text) asked = tt
+  of_words (to.Command command) asked = tt
+  of_words (to.Refused fault.Words lines) asked = some_said lines asked.1
+  of_words (to.Refused fault.Interface lines) asked = unsaid fault.Interface (λ is. cc) lines asked.1
+  of_words (to.Refused (fault.Memory read) lines) asked = (asked.0, unsaid (fault.Memory read) (λ is. cc) lines asked.1)
+  of_words (to.Refused _ lines) asked = absurd asked.0
+
+-- the matches are those of the definition, so what is named in them is what the words name
+module _ (shown : Shown) (words : List Text) (rows : Option (Text × List Row)) (same : rows ≡ subcommand_of program_app words) (none : fault_of program_app words ≡ []) where
+  pub named_by_matches : (r : Result Command Fault) → Names (named rows) r → Names (command_of words) r
+  unfolding command_of
+  named_by_matches r names = subst (λ x. Names (named x) r) same names
+
+  pub asked_command : (c : Command) → Names (named rows) (Ok c) → IsAsked shown (to.Command c) words
+  asked_command c names = (none, named_by_matches (Ok c) names)
+
+  unasked : (f : Fault) → Names (command_of words) (Err f) → IsUnasked f words
+  unasked fault.Words names = inr (none, names)
+  unasked fault.Interface names = (none, names)
+  unasked (fault.Memory read) names = names
+  unasked _ names = absurd names
+
+  pub asked_fault : (f : Fault) → Names (named rows) (Err f) → IsAsked shown (to.Refused f None) words
+  asked_fault f names = (unasked f (named_by_matches (Err f) names), tt)
+
+  pub asked_words : (lines : Option (Vec ℕ Global)) → Names (named rows) (Err fault.Words) → IfSome lines (λ lines. AreLinesOf (Some no_window) lines.items) → IsAsked shown (to.Refused fault.Words lines) words
+  asked_words lines names said = (
+    unasked fault.Words (named_by_matches (Err fault.Words) names),
+    said_of_words (Some no_window) (said_of shown words) lines (sym (said_without_fault shown words none)) said,
+  )
+
+-- the parse failed, by a kind among those of the definition, or for want of memory
+module _ (shown : Shown) (words : List Text) (kind : ErrorKind) (text : Option Text) where
+  pub asked_by_refusal : (r : Request) → IsRefusal shown words kind text → AnswersKind kind text r → IsAsked shown r words
+  asked_by_refusal (to.Help help) (inl memory) (inl is) = let bad : DisplayHelp ≡ OutOfMemory = sym is.0 ∙ memory in cc
+  asked_by_refusal (to.Help help) (inl memory) (inr is) = let bad : DisplayVersion ≡ OutOfMemory = sym is.0 ∙ memory in cc
+  asked_by_refusal (to.Help help) (inr (among, same)) (inl is) =
+      inl (subst (λ k. IsAmong k (fault_of program_app words)) is.0 among, subst (λ t. IfSome t (λ known. help ≡ known)) same is.1)
+  asked_by_refusal (to.Help help) (inr (among, same)) (inr is) = inr (subst (λ k. IsAmong k (fault_of program_app words)) is.0 among, is.1)
+  asked_by_refusal (to.Command command) fails answers = absurd answers
+  asked_by_refusal (to.Refused fault.Words lines) (inl memory) answers = absurd (answers.2 memory)
+  asked_by_refusal (to.Refused fault.Words lines) (inr (among, same)) answers =
+      (inl (kind, among, answers.0, answers.1), said_of_words text (said_of shown words) lines (same ∙ sym (said_at_fault (fault_of program_app words) kind (shown words) among)) answers.3)
+  asked_by_refusal (to.Refused (fault.Memory read) lines) fails answers = (answers.0, subst (λ l. IfSome l (λ lines. (fault.Memory read ≡ fault.Words) × AreLinesOf (said_of shown words) lines.items)) (sym answers.1) tt)
+  asked_by_refusal (to.Refused _ lines) fails answers = absurd answers
 
 -- ---- texts, one behind the other
 

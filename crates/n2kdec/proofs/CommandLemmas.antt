@@ -1,5 +1,5 @@
 -- From what a run, the place of a state and the summary leave to what a command leaves.
-use Rattle.std.proofs.Common.{◌≡◌, ◌⊎◌, ◌≤◌, ◌+◌, length, ◌==◌, ◌++◌, Bool, true, false, cond, arith, ◌∙◌, ℕ, List, [], Option, Ok, Err, Result, IfSome, ap, sym, subst, refl, inl, inr, append_assoc, ap₂, None}
+use Rattle.std.proofs.Common.{◌≡◌, ◌⊎◌, ◌≤◌, ◌+◌, length, ◌==◌, ◌++◌, Bool, true, false, cond, arith, ◌∙◌, ℕ, List, [], Option, Some, Ok, Err, Result, IfSome, ap, sym, subst, refl, inl, inr, append_assoc, ap₂, None}
 use Rattle.std.proofs.KnownBytes.{Appends-nil, Appends-trans}
 use Rattle.std.proofs.lemmas.Bool.{false≢true}
 use Rattle.std.specs.Io.KnownBytes.{Appends}
@@ -17,13 +17,15 @@ use Rattle.n2k_run.specs.declared.fault.RunFault.{RunFault}
 use Rattle.n2k_run.specs.declared.fault.RunFault.TheVariants as run
 use Rattle.n2k_run.specs.declared.part.Part.{Part}
 use Rattle.n2k_table.specs.declared.fault.TableFault.{TableFault}
-use Rattle.n2kdec.specs.Inner.Closing.{Closes, ClosesPart, SumsUp}
-use Rattle.n2kdec.specs.Commands.{BreaksOff, CannotBeSaved, Effect, Ends, EndsByTable, FailsToKeep, HasDevice, HasTaken, HasTakenAll, IsCutOff, IsDone, IsRefusedOrStopped, IsSaved, IsStopped, IsUntouched, IsWritten, IsWrittenUnlessFailed, Kept, Replaces, Leaves, Place, SumsUpPart, Shelf, entries_for, no_saving, place, shelf}
+use Rattle.n2kdec.specs.Inner.Closing.{Closes, ClosesPart, FollowsStop, SumsUp}
+use Rattle.n2kdec.specs.Commands.{BreaksOff, Effect, Ends, EndsByTable, HasDevice, HasTaken, HasTakenAll, IsCutOff, IsDone, IsRefusal, IsRefusedOrStopped, IsSaved, IsStopped, IsUntouched, IsWritten, IsWrittenUnlessFailed, Kept, Replaces, Leaves, Place, SumsUpPart, Shelf, entries_for, no_saving, place, shelf}
 use Rattle.n2kdec.specs.Ending.{ending_of, has_other_form}
 use Rattle.n2kdec.specs.Fault.{exit_status, fault_of_run}
 use Rattle.n2kdec.specs.declared.ending.Ending.{Ending}
 use Rattle.n2kdec.specs.declared.fault.Fault.{Fault}
-use Rattle.n2kdec.specs.declared.fault.Fault.TheVariants.{Memory, Report, Table}
+use Rattle.n2kdec.specs.declared.fault.Reading.TheVariants as reading
+use Rattle.n2kdec.specs.declared.fault.Fault.TheVariants.{Memory, Read, Report, Save, Table}
+use Rattle.n2kdec.specs.declared.keeper.Unkept.{Unkept}
 use Rattle.n2kdec.specs.declared.work.Stop.{Stop}
 use Rattle.n2kdec.specs.Work.{RefusesTable, AnswersWhole}
 
@@ -46,45 +48,45 @@ pub some_written : (before after : Place) (text : List ℕ) → IsWrittenUnlessF
 some_written before after text (inl whole) = (text, whole.written)
 some_written before after text (inr cut) = (cut.front.1.front, cut.front.1.appended)
 
--- what follows a failed read: the state is kept or not, and the summary is written or cut off
-pub kept_or_not : (keeper kept : Shelf) (errors summed : Place) (text : List ℕ) (counts : Counts) (r : Result Ending Fault) → Closes keeper kept errors summed text counts r
-    → Replaces keeper kept text errors.text ⊎ FailsToKeep keeper kept text errors.text
-kept_or_not keeper kept errors summed text counts r (inl closes) = inl closes.0
-kept_or_not keeper kept errors summed text counts r (inr fails) = inr fails.1
-
-pub summed_or_cut : (keeper kept : Shelf) (errors summed : Place) (text : List ℕ) (counts : Counts) (r : Result Ending Fault) → Closes keeper kept errors summed text counts r
-    → IsWrittenUnlessFailed errors summed (summary_text counts)
-summed_or_cut keeper kept errors summed text counts (Ok status) (inl closes) = inl closes.1.0
-summed_or_cut keeper kept errors summed text counts (Err fault) (inl closes) = inr closes.1.1
-summed_or_cut keeper kept errors summed text counts r (inr fails) = fails.2
-
 -- the close of a whole log, of which no state is kept
 abbrev pub ClosesWhole : Place → Place → Result Part Stop → Result Ending Fault → Type 0
 ClosesWhole errors summed (Ok part) result = SumsUp errors summed part.counts result
 ClosesWhole errors summed (Err stop) result = (result ≡ Err stop.fault) × (summed ≡ errors)
 
 -- a command without a name for its state keeps none
-module _ (had has : Option (List Kept)) (failed fails : ℕ) (errors summed : Place) where
+module _ (had has : Option (List Kept)) (errors summed : Place) where
   abbrev pub IsUnkept : Type 0
-  IsUnkept = shelf None has fails ≡ shelf None had failed
+  IsUnkept = shelf None has ≡ shelf None had
 
-  pub unkept : (text : List ℕ) (counts : Counts) (r : Result Ending Fault) → Closes (shelf None had failed) (shelf None has fails) errors summed text counts r
+  pub unkept : (text : List ℕ) (counts : Counts) (r : Result Ending Fault) → Closes (shelf None had) (shelf None has) errors summed text counts r
       → IsUnkept × SumsUp errors summed counts r
-  unkept text counts r (inl closes) = (ap₂ (λ k n. shelf None k n) closes.0.kept closes.0.none_failed, closes.1)
-  unkept text counts r (inr unsaved) = absurd (false≢true unsaved.1.named)
+  unkept text counts r (inl closes) = (ap (λ k. shelf None k) closes.0.1, closes.1)
+  unkept text counts r (inr unsaved) = let bad : Some unsaved.0 ≡ None = unsaved.2.0 in cc
 
   pub unkept_whole : (counts : Counts) (ended : Result (Unit {0}) RunFault) (told : Result Part Stop) (r : Result Ending Fault) → AnswersWhole counts ended told
-      → ClosesPart (shelf None had failed) (shelf None has fails) errors summed told r → IsUnkept × ClosesWhole errors summed told r
+      → ClosesPart (shelf None had) (shelf None has) errors summed told r → IsUnkept × ClosesWhole errors summed told r
   unkept_whole counts (Ok x) (Ok part) r tells closes = unkept part.state.items part.counts r closes
   unkept_whole counts (Ok x) (Err stop) r tells closes = absurd tells
   unkept_whole counts (Err fault) told r tells closes =
-      let is = subst (λ t. ClosesPart (shelf None had failed) (shelf None has fails) errors summed t r) tells closes in
-      (is.1.0, subst (λ t. ClosesWhole errors summed t r) (sym tells) (is.0, is.1.1))
+      let is = subst (λ t. ClosesPart (shelf None had) (shelf None has) errors summed t r) tells closes in
+      (is.1, subst (λ t. ClosesWhole errors summed t r) (sym tells) (is.0, is.2))
 
 -- the summary is written by a command that has no state
 pub closes_unsaved : (errors summed : Place) (counts : Counts) (r : Result Ending Fault) → SumsUp errors summed counts r
     → Closes no_saving.before no_saving.after errors summed [] counts r
-closes_unsaved errors summed counts r said = inl (record { kept = refl; none_failed = refl }, said)
+closes_unsaved errors summed counts r said = inl ((refl, refl), said)
+
+-- what is told of a run's fault: behind a failed read the state was kept, or could not be for this
+abbrev pub told_so : Option Unkept → RunFault → ℕ → Fault
+told_so unkept run.Read lines = Read lines None unkept
+told_so unkept f lines = fault_of_run f lines
+
+told_as_it_is : (f : RunFault) (lines : ℕ) → told_so None f lines ≡ fault_of_run f lines
+told_as_it_is run.Read lines = refl
+told_as_it_is run.Write lines = refl
+told_as_it_is run.Report lines = refl
+told_as_it_is run.Memory lines = refl
+told_as_it_is run.TooManyLines lines = refl
 
 -- a run ended, by which the devices stood so but for the errors, which then took a summary or a front of it
 module _ (c : Effect) (stands : List Entry → Type 0) (before after : Devices) (errors : Place) where
@@ -99,12 +101,12 @@ module _ (c : Effect) (stands : List Entry → Type 0) (before after : Devices) 
   IsLeft = (summed ≡ errors) × IsUntouched c.saving
 
   -- what follows the fault of a run: the summary of the lines that it has taken, or nothing
-  abbrev pub Follows : RunFault → Type 0
-  Follows run.Read = (es : List Entry) → stands es → SumsUpPart c.sums_up_a_part errors summed (summary_text (c.counts es))
-      × (Replaces c.saving.before c.saving.after (c.saving.state es) errors.text ⊎ FailsToKeep c.saving.before c.saving.after (c.saving.state es) errors.text)
-  Follows run.TooManyLines = (es : List Entry) → stands es → SumsUpPart c.sums_up_a_part errors summed (summary_text (c.counts es))
+  abbrev pub Follows : Option Unkept → RunFault → Type 0
+  Follows unkept run.Read = (es : List Entry) → stands es → SumsUpPart c.sums_up_a_part errors summed (summary_text (c.counts es))
+      × Replaces c.saving.before c.saving.after (c.saving.state es) errors.text unkept
+  Follows unkept run.TooManyLines = (es : List Entry) → stands es → SumsUpPart c.sums_up_a_part errors summed (summary_text (c.counts es))
       × IsUntouched c.saving
-  Follows _ = IsLeft
+  Follows unkept _ = IsLeft
 
   -- no call of the errors failed in the run
   taken : (es : List Entry) (said : Place → Place → List ℕ → Type 0) → AreNumbered c.output.counted es → Gained c.output before mid es → errors.failed ≡ before.failed_reports
@@ -116,13 +118,6 @@ module _ (c : Effect) (stands : List Entry → Type 0) (before after : Devices) 
     report = gained.reported;
     summary = subst (λ n. said (place errors.text n) summed (summary_text (c.counts es))) held summary;
   }
-
-  -- what is kept before the summary is kept behind the reports
-  saved_behind : (es : List Entry) → Gained c.output before mid es
-      → Replaces c.saving.before c.saving.after (c.saving.state es) errors.text ⊎ FailsToKeep c.saving.before c.saving.after (c.saving.state es) errors.text
-      → IsSaved c before es ⊎ CannotBeSaved c before es
-  saved_behind es gained (inl keeps) = inl (errors.text, gained.reported, keeps)
-  saved_behind es gained (inr fails) = inr (errors.text, gained.reported, fails)
 
   all_numbered : (es : List Entry) → c.output.counted + length es ≡ most_lines → AreNumbered c.output.counted es
   all_numbered es full = λ some. omega (arith, full)
@@ -139,17 +134,17 @@ module _ (c : Effect) (stands : List Entry → Type 0) (before after : Devices) 
   breaks_off : IsLeft → IfSome before.left (HasFronts c.output before mid) → BreaksOff c before after
   breaks_off left ran = (left.1, fronts (same_text left.0) ran)
 
-  leaves : {T : Type 0} (f : RunFault) → Runs {T = T} c.output stands before mid (Err f) → Follows f → Leaves c before after (fault_of_run f)
-  leaves run.Read ran follows =
+  leaves : {T : Type 0} (unkept : Option Unkept) (f : RunFault) (lines : ℕ) → Runs {T = T} c.output stands before mid (Err f) → Follows unkept f → Leaves c before after (told_so unkept f lines)
+  leaves unkept run.Read lines ran follows =
       let said = follows _ ran.ends.holds in
-      record { came = ran.ends.came; given = ran.ends.given; taken = taken _ (SumsUpPart c.sums_up_a_part) ran.ends.numbered ran.ends.gained ran.device.reports said.0; saved = saved_behind _ ran.ends.gained said.1 }
-  leaves run.TooManyLines ran follows =
+      record { came = ran.ends.came; given = ran.ends.given; taken = taken _ (SumsUpPart c.sums_up_a_part) ran.ends.numbered ran.ends.gained ran.device.reports said.0; saved = (errors.text, ran.ends.gained.reported, said.1) }
+  leaves unkept run.TooManyLines lines ran follows =
       let said = follows _ ran.ends.holds in
       let numbered = all_numbered ran.ends.taken ran.ends.full in
       record { lines = ran.ends.taken; full = ran.ends.full; more = ran.ends.left; taken = taken _ (SumsUpPart c.sums_up_a_part) numbered ran.ends.gained ran.device.reports said.0; unsaved = said.1 }
-  leaves run.Write ran follows = breaks_off follows ran.fronts
-  leaves run.Report ran follows = inl (breaks_off follows ran.fronts)
-  leaves run.Memory ran follows = breaks_off follows ran.fronts
+  leaves unkept run.Write lines ran follows = breaks_off follows ran.fronts
+  leaves unkept run.Report lines ran follows = inl (breaks_off follows ran.fronts)
+  leaves unkept run.Memory lines ran follows = breaks_off follows ran.fronts
 
   same_failed : summed ≡ errors → after.failed_reports ≡ errors.failed
   same_failed same = ap (λ (p : Place). p.failed) same
@@ -157,19 +152,16 @@ module _ (c : Effect) (stands : List Entry → Type 0) (before after : Devices) 
   none_failed : summed ≡ errors → NoneFailed before mid → NoneFailed before after
   none_failed same none = record { reads = none.reads; writes = none.writes; reports = same_failed same ∙ none.reports }
 
-  device : {T : Type 0} (f : RunFault) → Runs {T = T} c.output stands before mid (Err f) → Follows f → HasDevice c before after (fault_of_run f)
-  device run.Read ran follows = (ran.device.reads, ran.device.writes)
-  device run.TooManyLines ran follows = record { reads = ran.device.reads; writes = ran.device.writes }
-  device run.Write ran follows = record { reads = ran.device.reads; writes = ran.device.writes; reports = same_failed follows.0 ∙ ran.device.reports }
-  device run.Report ran follows = (
-    record {
-      reads = ran.device.reads;
-      writes = ran.device.writes;
-      reports = subst (λ n. HasFailed before.failed_reports n) (sym (same_failed follows.0)) ran.device.reports;
-    },
-    ap (λ (p : Shelf). p.failed) follows.1,
-  )
-  device run.Memory ran follows = inl (none_failed follows.0 ran.device)
+  device : {T : Type 0} (unkept : Option Unkept) (f : RunFault) (lines : ℕ) → Runs {T = T} c.output stands before mid (Err f) → Follows unkept f → HasDevice c before after (told_so unkept f lines)
+  device unkept run.Read lines ran follows = (ran.device.reads, ran.device.writes)
+  device unkept run.TooManyLines lines ran follows = record { reads = ran.device.reads; writes = ran.device.writes }
+  device unkept run.Write lines ran follows = record { reads = ran.device.reads; writes = ran.device.writes; reports = same_failed follows.0 ∙ ran.device.reports }
+  device unkept run.Report lines ran follows = record {
+    reads = ran.device.reads;
+    writes = ran.device.writes;
+    reports = subst (λ n. HasFailed before.failed_reports n) (sym (same_failed follows.0)) ran.device.reports;
+  }
+  device unkept run.Memory lines ran follows = inl (none_failed follows.0 ran.device)
 
   still_first : (more : List ℕ) × Appends errors.text after.reported more → IfSome before.left (ReportsFirst c.output before mid) → IfSome before.left (ReportsFirst c.output before after)
   still_first then = known_more before.left _ _ (λ log first. record {
@@ -181,22 +173,23 @@ module _ (c : Effect) (stands : List Entry → Type 0) (before after : Devices) 
   })
 
   -- a run's fault stops a command
-  pub stopped_by_run : {T : Type 0} (f : RunFault) → Runs {T = T} c.output stands before mid (Err f) → Follows f → (more : List ℕ) × Appends errors.text after.reported more
-      → IsStopped c before after (fault_of_run f)
-  stopped_by_run f ran follows then = record { leaves = leaves f ran follows; device = device f ran follows; reports_first = still_first then ran.reports_first }
+  pub stopped_by_run : {T : Type 0} (unkept : Option Unkept) (f : RunFault) (lines : ℕ) → Runs {T = T} c.output stands before mid (Err f) → Follows unkept f → (more : List ℕ) × Appends errors.text after.reported more
+      → IsStopped c before after (told_so unkept f lines)
+  stopped_by_run unkept f lines ran follows then = record { leaves = leaves unkept f lines ran follows; device = device unkept f lines ran follows; reports_first = still_first then ran.reports_first }
 
   -- one after which nothing is written and nothing is saved
-  pub left_by_run : {T : Type 0} (f : RunFault) → Runs {T = T} c.output stands before mid (Err f) → Follows f → summed ≡ errors → IsStopped c before after (fault_of_run f)
-  left_by_run f ran follows same = stopped_by_run f ran follows ([], subst (λ e. Appends errors.text e []) (same_text same) (Appends-nil errors.text))
+  pub left_by_run : {T : Type 0} (f : RunFault) (lines : ℕ) → Runs {T = T} c.output stands before mid (Err f) → Follows None f → summed ≡ errors → IsStopped c before after (fault_of_run f lines)
+  left_by_run f lines ran follows same = subst (IsStopped c before after) (told_as_it_is f lines)
+      (stopped_by_run None f lines ran follows ([], subst (λ e. Appends errors.text e []) (same_text same) (Appends-nil errors.text)))
 
   -- a run stands at a line, but memory for its state was refused
-  line_device : (ran : Result (Unit {0}) RunFault) → EndsAtLine ran → c.sums_up_a_part ≡ true → summed ≡ errors → Runs c.output stands before mid ran → HasDevice c before after Memory
+  line_device : (ran : Result (Unit {0}) RunFault) → EndsAtLine ran → c.sums_up_a_part ≡ true → summed ≡ errors → Runs c.output stands before mid ran → HasDevice c before after (Memory (Some reading.Log))
   line_device (Ok x) line part same runs = inl (none_failed same runs.device)
   line_device (Err run.Read) line part same runs = inr (part, record { reads = runs.device.reads; writes = runs.device.writes; reports = same_failed same ∙ runs.device.reports })
   line_device (Err run.TooManyLines) line part same runs = inl (none_failed same runs.device)
   line_device _ line part same runs = absurd line
 
-  pub left_at_line : (ran : Result (Unit {0}) RunFault) → EndsAtLine ran → c.sums_up_a_part ≡ true → Runs c.output stands before mid ran → IsLeft → IsStopped c before after Memory
+  pub left_at_line : (ran : Result (Unit {0}) RunFault) → EndsAtLine ran → c.sums_up_a_part ≡ true → Runs c.output stands before mid ran → IsLeft → IsStopped c before after (Memory (Some reading.Log))
   left_at_line ran line part runs left = record {
     leaves = breaks_off left (line_fronts c.output before mid stands ran line runs);
     device = line_device ran line part left.0 runs;
@@ -209,13 +202,13 @@ module _ (c : Effect) (stands : List Entry → Type 0) (before after : Devices) 
     abbrev es : List Entry
     es = entries_for c ran.ends.came
 
-    saved : Replaces c.saving.before c.saving.after text errors.text → IsSaved c before es
-    saved keeps = (errors.text, ran.ends.gained.reported, subst (λ t. Replaces c.saving.before c.saving.after t errors.text) counted.1 keeps)
+    abbrev Put : Option Unkept → Type 0
+    Put unkept = Replaces c.saving.before c.saving.after text errors.text unkept
 
-    unsaved : FailsToKeep c.saving.before c.saving.after text errors.text → CannotBeSaved c before es
-    unsaved fails = (errors.text, ran.ends.gained.reported, subst (λ t. FailsToKeep c.saving.before c.saving.after t errors.text) counted.1 fails)
+    saved : (unkept : Option Unkept) → Put unkept → IsSaved c before unkept es
+    saved unkept keeps = (errors.text, ran.ends.gained.reported, subst (λ t. Replaces c.saving.before c.saving.after t errors.text unkept) counted.1 keeps)
 
-    done : (ending : Ending) → Replaces c.saving.before c.saving.after text errors.text → IsWritten errors summed (summary_text counts) → ending ≡ ending_of counts → IsDone c before after ending
+    done : (ending : Ending) → Put None → IsWritten errors summed (summary_text counts) → ending ≡ ending_of counts → IsDone c before after ending
     done ending keeps whole is = record {
       came = ran.ends.came;
       given = ran.ends.given;
@@ -228,7 +221,7 @@ module _ (c : Effect) (stands : List Entry → Type 0) (before after : Devices) 
       form = ap (λ (e : Ending). e.has_other_form) is ∙ ap has_other_form counted.0;
       at_most_one = subst (λ n. n ≤ 1) (sym (ap (λ (e : Ending). e.status) is)) (few counts);
       none_failed = record { reads = ran.device.reads; writes = ran.device.writes; reports = whole.none_failed ∙ ran.device.reports };
-      saved = saved keeps;
+      saved = saved None keeps;
     }
 
     first : IsWrittenUnlessFailed errors summed (summary_text counts) → IfSome before.left (ReportsFirst c.output before after)
@@ -243,30 +236,27 @@ module _ (c : Effect) (stands : List Entry → Type 0) (before after : Devices) 
       closing = closing;
     }
 
-    unsummed : Replaces c.saving.before c.saving.after text errors.text → IsCutOff errors summed (summary_text counts) → IsStopped c before after Report
+    unsummed : Put None → IsCutOff errors summed (summary_text counts) → IsStopped c before after Report
     unsummed keeps cut = record {
-      leaves = inr (all_taken IsCutOff (IsSaved c before) cut (saved keeps));
-      device = (
-        record {
-          reads = ran.device.reads;
-          writes = ran.device.writes;
-          reports = subst (λ n. HasFailed n after.failed_reports) ran.device.reports cut.failed;
-        },
-        keeps.none_failed,
-      );
+      leaves = inr (all_taken IsCutOff (IsSaved c before None) cut (saved None keeps));
+      device = record {
+        reads = ran.device.reads;
+        writes = ran.device.writes;
+        reports = subst (λ n. HasFailed n after.failed_reports) ran.device.reports cut.failed;
+      };
       reports_first = first (inr cut);
     }
 
-    summed_up : (r : Result Ending Fault) → Replaces c.saving.before c.saving.after text errors.text → SumsUp errors summed counts r → Ends c before after r
+    summed_up : (r : Result Ending Fault) → Put None → SumsUp errors summed counts r → Ends c before after r
     summed_up (Ok status) keeps said = done status keeps said.0 said.1
     summed_up (Err fault) keeps said = subst (IsStopped c before after) (sym said.0) (unsummed keeps said.1)
 
     pub ended_by_closing : (r : Result Ending Fault) → Closes c.saving.before c.saving.after errors summed text counts r → Ends c before after r
     ended_by_closing r (inl saved) = summed_up r saved.0 saved.1
-    ended_by_closing r (inr fails) = subst (Ends c before after) (sym fails.0) (record {
-      leaves = all_taken IsWrittenUnlessFailed (CannotBeSaved c before) fails.2 (unsaved fails.1);
-      device = (fails.1.failed, record { reads = ran.device.reads; writes = ran.device.writes });
-      reports_first = first fails.2;
+    ended_by_closing r (inr fails) = subst (Ends c before after) (sym fails.1) (record {
+      leaves = all_taken IsWrittenUnlessFailed (IsSaved c before (Some fails.0)) fails.3 (saved (Some fails.0) fails.2);
+      device = record { reads = ran.device.reads; writes = ran.device.writes };
+      reports_first = first fails.3;
     })
 
 -- the run of a whole log, of which an answer tells and which is then closed: no state is saved
@@ -277,8 +267,8 @@ module _ (output : Output) (counts_of : List Entry → Counts) (before after : D
   abbrev said : Place
   said = place after.reported after.failed_reports
 
-  nothing_follows : (stands : List Entry → Type 0) (f : RunFault) → said ≡ errors → Follows whole_effect stands before after errors f
-  nothing_follows stands run.Read same = λ es is. (same, inl (record { kept = refl; none_failed = refl }))
+  nothing_follows : (stands : List Entry → Type 0) (f : RunFault) → said ≡ errors → Follows whole_effect stands before after errors None f
+  nothing_follows stands run.Read same = λ es is. (same, (refl, refl))
   nothing_follows stands run.TooManyLines same = λ es is. (same, refl)
   nothing_follows stands _ same = (same, refl)
 
@@ -291,7 +281,7 @@ module _ (output : Output) (counts_of : List Entry → Counts) (before after : D
   ended_whole counts (Err fault) told r runs tells closes =
       let is = subst (λ t. ClosesWhole errors said t r) tells closes in
       subst (Ends whole_effect before after) (sym is.0)
-      (left_by_run whole_effect _ before after errors fault runs (nothing_follows _ fault is.1) is.1)
+      (left_by_run whole_effect _ before after errors fault counts.lines runs (nothing_follows _ fault is.1) is.1)
 
 -- a command that has begun ends by no refusal of its table
 pub past_table : (found : List TableFault) (c : Effect) (before after : Devices) (r : Result Ending Fault) → found ≡ [] → Ends c before after r → EndsByTable found c before after r
@@ -302,10 +292,17 @@ past_table found c before after (Err fault) none stopped = go fault stopped
     go (Table refused) s = absurd s.leaves
     go f s = (none, s)
 
+-- one whose table is refused, after which nothing is done
 pub refused_table : (found : List TableFault) (c : Effect) (before after : Devices) (errors : Place) (stop : Stop) (r : Result Ending Fault)
-    → RefusesTable found before (record after { reported = errors.text; failed_reports = errors.failed }) stop
-    → r ≡ Err stop.fault → place after.reported after.failed_reports ≡ errors → EndsByTable found c before after r
+    → (refuses : RefusesTable found before (record after { reported = errors.text; failed_reports = errors.failed }) stop)
+    → r ≡ Err (Table refuses.fault) → place after.reported after.failed_reports ≡ errors → EndsByTable found c before after r
 refused_table found c before after errors stop r refuses is same =
-    let told : r ≡ Err (Table refuses.fault) = is ∙ ap (λ (s : Stop). let x : Result Ending Fault = Err s.fault in x) refuses.told in
     let still : after ≡ before = subst (λ (e : Place). record after { reported = e.text; failed_reports = e.failed } ≡ before) (sym same) refuses.untouched in
-    subst (EndsByTable found c before after) (sym told) (refuses.stands, still)
+    subst (EndsByTable found c before after) (sym is) (refuses.stands, still)
+
+-- what is told after a stop: its fault, but that a failed read may be told with why its state was not kept
+pub told_of_stop : (keeper kept : Shelf) (errors summed : Place) (part : Option Part) (fault : Fault) (r : Result Ending Fault) → FollowsStop keeper kept errors summed part fault r
+    → (told : Fault) × (r ≡ Err told) × (IsRefusal told → fault ≡ told)
+told_of_stop keeper kept errors said None fault r follows = (fault, follows.0, λ refusal. refl)
+told_of_stop keeper kept errors said (Some part) (Read lines why _) r follows = (Read lines why follows.0, follows.1, λ refusal. absurd refusal)
+told_of_stop keeper kept errors said (Some part) fault r follows = (fault, follows.0, λ refusal. refl)

@@ -1,142 +1,92 @@
 -- From what a call leaves to what the program leaves.
-use Rattle.std.proofs.Common.{◌≡◌, ◌⊎◌, ◌∙◌, ◌++◌, append-nil, append_assoc, ap, arith, ℕ, List, [], ◌∷◌, Option, Some, None, Result, Ok, Err, IfOk, IfSome, Bool, true, option_map, inl, inr, refl, subst, sym}
-use Rattle.std.specs.Prelude.{IsSome}
+use Rattle.std.proofs.Common.{◌≡◌, ◌⊎◌, ◌∙◌, ◌++◌, append-nil, append_assoc, ap, ℕ, List, [], ◌∷◌, Option, Some, None, Result, Ok, Err, IfErr, IfOk, Bool, true, option_map, inl, inr, refl, subst, sym}
+use Rattle.std.specs.Prelude.{◌<◌, ◌≤◌, IfSome, IsErrAnd, IsSome, length}
+use Rattle.std.proofs.lemmas.Bool.{false≢true}
 use Rattle.std.specs.Option.{unwrap_or}
 use Rattle.std.specs.Result.{result_unwrap_or}
-use Rattle.std.proofs.lemmas.Bool.{false≢true}
+use Rattle.std.specs.declared.io.Error.{Error}
 use Rattle.clap.specs.Words.{Text}
-use Rattle.n2k_run.specs.Device.{HasFailed}
-use Rattle.n2kdec.specs.Asked.{asked, save_name}
-use Rattle.n2kdec.specs.Commands.{Kept, Performs, Place, shelf}
-use Rattle.n2kdec.specs.Machine.{AddsCalls, AddsFailures, AsksFor, DoesAsked, DoesTyped, FileUse, HasCalled, Hints, IsPerformed, IsPerformedOver, IsReadable, IsStateAdmitted, IsStateRefused, IsUnopened, IsUnread, IsUnreadFile, LogAfter, Opens, Outside, IsSentenceOf, IsTerminal, RunsCommand, RunsTyped, StandsBefore, World, WritesFault, all_files, files_before, files_before_log, files_with, if_named, table_bytes, with_log}
-use Rattle.n2kdec.specs.Fault.{status_of}
-use Rattle.n2kdec.specs.Found.{Finds, noted}
-use Rattle.n2kdec.specs.Parser.{Shown}
+use Rattle.n2kdec.specs.Asked.{save_name}
+use Rattle.n2kdec.specs.Commands.{Performs, Place, shelf}
+use Rattle.n2kdec.specs.FaultSentence.{SystemWords}
+use Rattle.n2kdec.specs.Machine.{Calls, DoesAsked, Hints, IsAdmittedSo, IsNotRead, IsPerformed, IsPerformedOver, IsRead, IsReadBefore, IsUnread, LogAfter, Makes, Outside, IsTerminal, IsToldOf, ReadsFile, RunsCommand, RunsRequest, StandsBefore, World, WritesFault, table_bytes, too_large, with_log}
+use Rattle.n2k_run.specs.Device.{IsWhy}
+use Rattle.n2kdec.specs.Fault.{longest_file, status_of, unopened, unread}
+use Rattle.n2kdec.specs.Replacement.{IsOfMemory}
+use Rattle.n2kdec.specs.Told.{Tells}
 use Rattle.n2kdec.specs.declared.asked.Request.{Request}
 use Rattle.n2kdec.specs.declared.asked.Command.{Command}
 use Rattle.n2kdec.specs.declared.asked.Files.{Files}
+use Rattle.n2kdec.specs.declared.asked.Task.{Task}
 use Rattle.n2kdec.specs.declared.ending.Ending.{Ending}
 use Rattle.n2kdec.specs.declared.fault.Fault.{Fault}
-use Rattle.n2kdec.specs.declared.fault.Fault.TheVariants.{TableSize, TableFile, StateSize, StateFile, Read, Memory, Save}
-use Rattle.n2kdec.specs.declared.found.Found.{Found}
-use Rattle.n2kdec.specs.declared.found.Reading.{Reading}
-use Rattle.n2kdec.specs.declared.found.Reading.TheVariants as reading
-use Rattle.n2kdec.specs.declared.reason.Reason.{Reason}
-use Rattle.n2kdec.specs.declared.words.Words.{Words}
+use Rattle.n2kdec.specs.declared.fault.Fault.TheVariants.{Memory, Save}
+use Rattle.n2kdec.specs.declared.fault.Reading.{Reading}
+use Rattle.n2kdec.specs.declared.fault.Reading.TheVariants as reading
+use Rattle.n2kdec.specs.declared.keeper.Unkept.{Unkept}
+use Rattle.n2kdec.specs.declared.machine.FileCall.{FileCall}
+use Rattle.n2kdec.specs.declared.machine.FileCall.TheVariants.{Opened, Closed}
 
--- what is counted of a file that is closed comes to what was counted before
-pub called_more : (had opened before after : ℕ) (calls : ℕ) → HasCalled had before 0 → opened ≡ before → AddsCalls opened after calls → HasCalled had after calls
-called_more had opened before after calls few same adds low =
-    let is = adds.0 low in
-    let least = few (omega (arith, low, is, same)) in
-    omega (arith, least, is, same)
+-- ---- which calls of files were made
 
--- what is counted in two steps is in both
-pub called_after : (had mid now : ℕ) → HasCalled had mid 0 → HasCalled mid now 0 → HasCalled had now 0
-called_after had mid now first then low =
-    let second = then low in
-    let least = first (omega (arith, low, second)) in
-    omega (arith, least, second)
+pub makes_none : (a b : Calls) → b ≡ a → Makes [] a b
+makes_none None b same = same
+makes_none (Some had) b same = subst (Makes [] (Some had)) (sym same) (sym (append-nil had))
 
--- ---- which files were opened
+pub makes_then : (a b c : Calls) (first then : List FileCall) → Makes first a b → Makes then b c → Makes (first ++ then) a c
+makes_then None b c first then made more = subst (λ m. Makes then m c) made more
+makes_then (Some had) None c first then made more = subst (Makes (first ++ then) (Some had)) (sym more) tt
+makes_then (Some had) (Some mid) None first then made more = tt
+makes_then (Some had) (Some mid) (Some all) first then made more = more ∙ ap (λ l. l ++ then) made ∙ append_assoc had first then
 
-pub still_opened : (before after : FileUse) → after.opened ≡ before.opened → Opens before after []
-still_opened before after same = go before.opened same
-  where
-    go : (had : Option (List (Option Text))) → after.opened ≡ had → IfSome had (λ had. after.opened ≡ Some (had ++ []))
-    go None same = tt
-    go (Some had) same = same ∙ ap (λ (l : List (Option Text)). Some l) (sym (append-nil had))
+-- a file is opened, and closed again
+pub opened_closed : (a b c : Calls) (name : Option Text) (reads : ℕ) (why known : Option Error) → Makes (Opened name None ∷ []) a b → Makes (Closed reads why ∷ []) b c → why ≡ known
+    → Makes (Opened name None ∷ Closed reads known ∷ []) a c
+opened_closed a b c name reads why known opened closed is =
+    subst (λ w. Makes (Opened name None ∷ Closed reads w ∷ []) a c) is (makes_then a b c (Opened name None ∷ []) (Closed reads why ∷ []) opened closed)
 
-opens_then : (a b c : FileUse) (names more : List (Option Text)) → Opens a b names → Opens b c more → Opens a c (names ++ more)
-opens_then a b c names more first then = go a.opened first
-  where
-    go : (had : Option (List (Option Text))) → IfSome had (λ had. b.opened ≡ Some (had ++ names)) → IfSome had (λ had. c.opened ≡ Some (had ++ (names ++ more)))
-    go None first = tt
-    go (Some had) first =
-        let second : c.opened ≡ Some ((had ++ names) ++ more) = subst (λ o. IfSome o (λ had. c.opened ≡ Some (had ++ more))) first then in
-        second ∙ ap (λ (l : List (Option Text)). Some l) (append_assoc had names more)
+-- a file that was opened and closed
+module _ (w : World) (name : Text) (read : Reading) (a b c : Calls) (reads failed : ℕ) (why : Option Error) (is_why : IsWhy failed why)
+    (opened : Makes (Opened (Some name) None ∷ []) a b) (closed : Makes (Closed reads why ∷ []) b c) where
+  abbrev pub Comes : (T : Type 0) → Result T Fault → Type 0
+  Comes T result = (made : List FileCall) × Makes made a c × ReadsFile w (Some name) read result made
 
-opens_no_more : (a b c : FileUse) (names : List (Option Text)) → Opens a b names → Opens b c [] → Opens a c names
-opens_no_more a b c names first then = subst (Opens a c) (append-nil names) (opens_then a b c names [] first then)
+  taken : failed ≡ 0 → Makes (Opened (Some name) None ∷ Closed reads None ∷ []) a c
+  taken none = opened_closed a b c (Some name) reads why None opened closed (is_why.0 none)
 
-named_is : (name : Option Text) → IsSome name → name ∷ [] ≡ if_named name
-named_is None some = absurd (false≢true some)
-named_is (Some name) some = refl
+  pub was_read : (T : Type 0) (bytes : T) → failed ≡ 0 → IfSome (w.file name) (λ bytes. length bytes ≤ longest_file) → Comes T (Ok bytes)
+  was_read T bytes none few = (_, taken none, (few, (reads, refl)))
 
--- ---- why a file is not read
+  pub was_too_large : (T : Type 0) (fault : Fault) → too_large read ≡ Some fault → failed ≡ 0 → IfSome (w.file name) (λ bytes. longest_file < length bytes) → Comes T (Err fault)
+  was_too_large T fault is none many = (_, taken none, inl (is, many, (reads, refl)))
 
-module _ (w : World) (files : Files) (begun mid now : FileUse) (fault : Fault) where
-  abbrev Unread : Reading → Fault → Type 0
-  Unread read f = IsUnread w files read begun now f
+  pub was_unread : (T : Type 0) (fault : Fault) → fault ≡ unread read why → 0 < failed → Comes T (Err fault)
+  was_unread T fault is some = subst (λ f. Comes T (Err f)) (sym is) (go why (is_why.1 some) closed)
+    where
+      go : (told : Option Error) → IsSome told → Makes (Closed reads told ∷ []) b c → Comes T (Err (unread read told))
+      go None is closed = absurd (false≢true is)
+      go (Some error) is closed = (_, opened_closed a b c (Some name) reads (Some error) (Some error) opened closed refl, inr (inr (inl (error, refl, (reads, refl)))))
 
-  -- some of the files were opened, and there is no memory
-  no_memory : (read : Reading) → fault ≡ Memory → now.failed ≡ begun.failed → Opens begun now (files_before files read) ⊎ Opens begun now (files_with files read) → Unread read fault
-  no_memory read is same opens = subst (Unread read) (sym is) (same, opens)
-
-  pub table_unread : IsSome files.table × IsUnreadFile w files.table TableSize TableFile begun now fault → Unread reading.Table fault
-  table_unread (some, inl large) = subst (Unread reading.Table) (sym large.0) (large.1, large.2, subst (Opens begun now) (named_is files.table some) large.3)
-  table_unread (some, inr (inl (is, same, inl none))) = no_memory reading.Table is same (inl none)
-  table_unread (some, inr (inl (is, same, inr opens))) = no_memory reading.Table is same (inr (subst (Opens begun now) (named_is files.table some) opens))
-  table_unread (some, inr (inr (is, unreadable, opens))) = subst (Unread reading.Table) (sym is) (unreadable, subst (Opens begun now) (named_is files.table some) opens)
-
-  -- what failed since then failed since the beginning
-  failed_since : mid.failed ≡ begun.failed → HasFailed mid.failed now.failed → HasFailed begun.failed now.failed
-  failed_since same = subst (λ n. HasFailed n now.failed) same
-
-  module _ (table : IsReadable w files.table × (mid.failed ≡ begun.failed) × Opens begun mid (if_named files.table)) where
-    both : IsSome files.state → Opens mid now (files.state ∷ []) → Opens begun now (files_before_log files)
-    both some opens = opens_then begun mid now (if_named files.table) (if_named files.state) table.2 (subst (Opens mid now) (named_is files.state some) opens)
-
-    pub state_unread : IsSome files.state × IsUnreadFile w files.state StateSize StateFile mid now fault → Unread reading.State fault
-    state_unread (some, inl large) = subst (Unread reading.State) (sym large.0) (table.0, large.1, large.2 ∙ table.1, both some large.3)
-    state_unread (some, inr (inl (is, same, inl none))) =
-        no_memory reading.State is (same ∙ table.1) (inl (opens_no_more begun mid now (if_named files.table) table.2 none))
-    state_unread (some, inr (inl (is, same, inr opens))) = no_memory reading.State is (same ∙ table.1) (inr (both some opens))
-    state_unread (some, inr (inr (is, unreadable, opens))) = subst (Unread reading.State) (sym is) (table.0, (unreadable.0, failed_since table.1 unreadable.1), both some opens)
-
-  pub log_unread : IsReadable w files.table → IsReadable w files.state → mid.failed ≡ begun.failed → Opens begun mid (files_before_log files)
-      → IsUnopened files.log Read mid now fault → Unread reading.Log fault
-  log_unread table state none_failed before (inl (is, same, inl none)) =
-      no_memory reading.Log is (same ∙ none_failed) (inl (opens_no_more begun mid now (files_before_log files) before none))
-  log_unread table state none_failed before (inl (is, same, inr opens)) =
-      no_memory reading.Log is (same ∙ none_failed) (inr (opens_then begun mid now (files_before_log files) (files.log ∷ []) before opens))
-  log_unread table state none_failed before (inr (is, unreadable, opens)) =
-      subst (Unread reading.Log) (sym is) (table, state, (unreadable.0, failed_since none_failed unreadable.1), opens_then begun mid now (files_before_log files) (files.log ∷ []) before opens)
-
--- the table and the state were read
-pub both_opened : (files : Files) (a b c : FileUse) → Opens a b (if_named files.table) → Opens b c (if_named files.state) → Opens a c (files_before_log files)
-both_opened files a b c table state = opens_then a b c (if_named files.table) (if_named files.state) table state
-
--- and then the log was opened, and closed
-pub all_opened : (files : Files) (a b c d : FileUse) → Opens a b (files_before_log files) → Opens b c (files.log ∷ []) → d.opened ≡ c.opened → Opens a d (all_files files)
-all_opened files a b c d before log same =
-    opens_then a b d (files_before_log files) (files.log ∷ []) before (go b.opened log)
-  where
-    go : (had : Option (List (Option Text))) → IfSome had (λ had. c.opened ≡ Some (had ++ files.log ∷ [])) → IfSome had (λ had. d.opened ≡ Some (had ++ files.log ∷ []))
-    go None log = tt
-    go (Some had) log = same ∙ log
+  pub was_refused_memory : (T : Type 0) → failed ≡ 0 → Comes T (Err (Memory (Some read)))
+  was_refused_memory T none = (_, taken none, inr (inr (inr (refl, (reads, refl)))))
 
 -- ---- a command
 
 -- over a log of which no call was made, by the bytes that were read
-module _ (command : Command) (table : List ℕ) (handed : Option (List ℕ)) (before after : Outside) (log : LogAfter) (result : Result Ending Fault) where
+module _ (task : Task) (table : List ℕ) (handed : Option (List ℕ)) (before after : Outside) (log : LogAfter) (result : Result Ending Fault) where
   abbrev pub PerformsAfter : List ℕ → Option (List ℕ) → Option (List ℕ) → ℕ → ℕ → Type 0
-  PerformsAfter held lent left calls failed = Performs command held lent (with_log left calls failed before) (with_log log.left log.calls log.failed after)
-      (shelf (save_name command) before.kept before.failed_keeps) (shelf (save_name command) after.kept after.failed_keeps) result
+  PerformsAfter held lent left calls failed = Performs task held lent (with_log left calls failed before) (with_log log.left log.calls log.failed after)
+      (shelf (save_name task) before.kept) (shelf (save_name task) after.kept) result
 
-  abbrev pub FindsAfter : List ℕ → Option (List ℕ) → Option (List ℕ) → Type 0
-  FindsAfter held lent left = Finds command held lent left log.left result after.found
+  abbrev pub TellsAfter : List ℕ → Option (List ℕ) → Option (List ℕ) → Type 0
+  TellsAfter held lent left = IfErr result (Tells task held lent left log.left)
 
-  pub performed_over : (held : List ℕ) (lent left known : Option (List ℕ)) (calls failed had : ℕ) → held ≡ table → lent ≡ handed → left ≡ known → calls ≡ 0 → failed ≡ 0
-      → had ≡ before.files.failed → AddsFailures had after.files.failed log.failed → HasCalled before.files.reads after.files.reads log.calls
-      → PerformsAfter held lent left calls failed → FindsAfter held lent left → IsPerformedOver command table handed known before after result
-  performed_over held lent left known calls failed had is_table is_state is none none_failed same counted called performs finds = record {
-    log = log;
-    counted = subst (λ n. AddsFailures n after.files.failed log.failed) same counted;
-    called = called;
+  pub performed_over : (held : List ℕ) (lent left known : Option (List ℕ)) (calls failed : ℕ) → held ≡ table → lent ≡ handed → left ≡ known → calls ≡ 0 → failed ≡ 0
+      → PerformsAfter held lent left calls failed → TellsAfter held lent left → IsPerformedOver task table handed known log before after result
+  performed_over held lent left known calls failed is_table is_state is none none_failed performs told = record {
     performs = subst (λ t. PerformsAfter t handed known 0 0) is_table (subst (λ h. PerformsAfter held h known 0 0) is_state
         (subst (λ l. PerformsAfter held lent l 0 0) is (subst (λ n. PerformsAfter held lent left 0 n) none_failed (subst (λ n. PerformsAfter held lent left n failed) none performs))));
-    finds = subst (λ t. FindsAfter t handed known) is_table (subst (λ h. FindsAfter held h known) is_state (subst (λ l. FindsAfter held lent l) is finds));
+    told = subst (λ t. TellsAfter t handed known) is_table (subst (λ h. TellsAfter held h known) is_state (subst (λ l. TellsAfter held lent l) is told));
   }
 
 -- the bytes of a table that was read, or none
@@ -145,70 +95,88 @@ table_is items None none held empty is = ap items is ∙ empty
 table_is items (Some bytes) none held empty is = ap items is
 
 -- a command that is performed is run
-pub runs : (w : World) (files : Files) (command : Command) (before after : Outside) (result : Result Ending Fault) → IsPerformed w files command before after result
-    → RunsCommand w files command before after result
-runs w files command before after (Ok status) done = done
-runs w files command before after (Err fault) done = inl done
+pub performed : (w : World) (command : Command) (before after : Outside) (result : Result Ending Fault) → IsPerformed w command before after result
+    → RunsCommand w command before after result
+performed w command before after (Ok status) done = done
+performed w command before after (Err fault) done = inl done
 
-module _ (w : World) (files : Files) (command : Command) (o : Outside) where
-  -- one whose files are not read is not begun
-  pub not_begun : (read : Reading) (used : FileUse) (found : Option Found) (fault : Fault) → found ≡ noted fault read o.found → IsStateAdmitted o.admits files command
-      → IsUnread w files read o.files used fault → RunsCommand w files command o (record o { files = used; found = found }) (Err fault)
-  not_begun read used found fault is admitted unread =
-      subst (λ n. RunsCommand w files command o (record o { files = used; found = n }) (Err fault)) (sym is)
-      (inr (inl (record { read = read; admitted = admitted; unread = unread; else_same = refl })))
+-- one whose state is not admitted
+pub not_admitted : (w : World) (command : Command) (o : Outside) (why : Unkept) → IsSome (save_name command.task) → IsAdmittedSo o.admits command (Err why)
+    → RunsCommand w command o o (Err (Save why))
+not_admitted w command o why named answer = inr (inr (why, refl, named, answer, refl))
 
-  abbrev pub having : Option (List Kept) → ℕ → ℕ → Outside
-  having kept unkept refused = record o { kept = kept; failed_keeps = unkept; failed_admissions = refused }
+-- one whose files are not read is not begun
+module _ (w : World) (command : Command) (o : Outside) (used : Calls) (fault : Fault) (result : Result Ending Fault) (is : IsErrAnd result (λ told. told ≡ fault)) where
+  abbrev IsNotBegunSo : Type 0
+  IsNotBegunSo = RunsCommand w command o (record o { calls = used }) result
 
-  -- what keeps a state refuses it
-  pub not_admitted : (kept : Option (List Kept)) (unkept refused : ℕ) (fault : Fault) → kept ≡ o.kept → unkept ≡ o.failed_keeps
-      → (fault ≡ Save) × IsStateRefused o.admits files command × HasFailed o.failed_admissions refused
-      → RunsCommand w files command o (having kept unkept refused) (Err fault)
-  not_admitted kept unkept refused fault same keeps why =
-      subst (λ k. RunsCommand w files command o (having k unkept refused) (Err fault)) (sym same)
-      (subst (λ n. RunsCommand w files command o (having o.kept n refused) (Err fault)) (sym keeps)
-      (inr (inr (record { refused = why.1; save = why.0; failed = why.2; else_same = refl }))))
+  pub not_begun : (read : Reading) (first last : List FileCall) → IsAdmittedSo o.admits command (Ok tt) → IsReadBefore w command.files read first
+      → IsNotRead w command.files read fault last → Makes (first ++ last) o.calls used → IsNotBegunSo
+  not_begun read first last admitted before_it unread calls = go result is
+    where
+      go : (r : Result Ending Fault) → IsErrAnd r (λ told. told ≡ fault) → RunsCommand w command o (record o { calls = used }) r
+      go (Ok ending) is = absurd is
+      go (Err told) is = inr (inl (record {
+        read = read;
+        admitted = admitted;
+        first = first;
+        before_it = before_it;
+        last = last;
+        unread = subst (λ f. IsNotRead w command.files read f last) (sym is) unread;
+        calls = calls;
+        else_same = refl;
+      }))
 
-  -- it has no objection
-  pub admitted : (kept : Option (List Kept)) (unkept refused : ℕ) (after : Outside) (result : Result Ending Fault) → kept ≡ o.kept → unkept ≡ o.failed_keeps
-      → refused ≡ o.failed_admissions → RunsCommand w files command (having kept unkept refused) after result → RunsCommand w files command o after result
-  admitted kept unkept refused after result same keeps none_refused runs =
-      subst (λ n. RunsCommand w files command (having o.kept o.failed_keeps n) after result) none_refused
-      (subst (λ n. RunsCommand w files command (having o.kept n refused) after result) keeps
-      (subst (λ k. RunsCommand w files command (having k unkept refused) after result) same runs))
+  pub table_unread : IsAdmittedSo o.admits command (Ok tt) → (of_table : List FileCall) × Makes of_table o.calls used × IsUnread w command.files.table reading.Table fault of_table
+      → IsNotBegunSo
+  table_unread admitted table = not_begun reading.Table [] table.0 admitted refl table.2 table.1
 
--- what the words ask for is what was typed
-pub does_typed : (shown : Shown) (w : World) (words : Words) (request : Result Request Fault) (before after : Outside) (result : Result Ending Fault) → AsksFor shown w words → request ≡ asked words
-    → DoesAsked w request before after result → DoesTyped shown w before after result
-does_typed shown w words request before after result asks is does = inl (words, asks, subst (λ r. DoesAsked w r before after result) is does)
+  pub state_unread : (mid : Calls) → IsAdmittedSo o.admits command (Ok tt) → (of_table : List FileCall) × Makes of_table o.calls mid × IsRead w command.files.table of_table
+      → (of_state : List FileCall) × Makes of_state mid used × IsUnread w command.files.state reading.State fault of_state → IsNotBegunSo
+  state_unread mid admitted table state =
+      not_begun reading.State table.0 state.0 admitted table.2 state.2 (makes_then o.calls mid used table.0 state.0 table.1 state.1)
+
+  pub log_unread : (mid then : Calls) → IsAdmittedSo o.admits command (Ok tt) → (of_table : List FileCall) × Makes of_table o.calls mid × IsRead w command.files.table of_table
+      → (of_state : List FileCall) × Makes of_state mid then × IsRead w command.files.state of_state
+      → (error : Error) → (IsSome command.files.log ⊎ IsOfMemory error) × Makes (Opened command.files.log (Some error) ∷ []) then used → fault ≡ unopened reading.Log error → IsNotBegunSo
+  log_unread mid then admitted table state error opens same =
+      not_begun reading.Log (table.0 ++ state.0) (Opened command.files.log (Some error) ∷ []) admitted (table.0, state.0, table.2, state.2, refl)
+      (error, opens.0, same, refl)
+      (makes_then o.calls then used (table.0 ++ state.0) (Opened command.files.log (Some error) ∷ []) (makes_then o.calls mid then table.0 state.0 table.1 state.1) opens.1)
+
+-- all files were read, and the log was opened and closed
+pub all_calls : (files : Files) (a b c d e : Calls) (of_table of_state : List FileCall) (reads : ℕ) (why : Option Error) → Makes of_table a b → Makes of_state b c
+    → Makes (Opened files.log None ∷ []) c d → Makes (Closed reads why ∷ []) d e → Makes (of_table ++ of_state ++ Opened files.log None ∷ Closed reads why ∷ []) a e
+all_calls files a b c d e of_table of_state reads why table state opened closed =
+    makes_then a c e (of_table ++ of_state) (Opened files.log None ∷ Closed reads why ∷ []) (makes_then a b c of_table of_state table state)
+    (opened_closed c d e files.log reads why why opened closed refl)
 
 -- a fault of what was typed is written behind what stands before its line
-pub reported : (shown : Shown) (w : World) (before done : Outside) (result : Result Ending Fault) (fault : Fault) (stood : List ℕ) (errors : Place) (status : ℕ) → DoesTyped shown w before done result
-    → result ≡ Err fault → StandsBefore shown w done.unkept done.found fault stood → WritesFault stood fault done.errors errors → status ≡ status_of fault
-    → RunsTyped shown w before (record done { errors = errors }) status
-reported shown w before done result fault stood errors status does is stands writes said = record {
+pub reported : (w : World) (words : SystemWords) (request : Request) (before done : Outside) (result : Result Ending Fault) (fault : Fault) (stood : List ℕ) (errors : Place) (status : ℕ)
+    → DoesAsked w request before done result → result ≡ Err fault → StandsBefore w words request fault stood → WritesFault stood fault done.errors errors → status ≡ status_of fault
+    → RunsRequest w words request before (record done { errors = errors }) status
+reported w words request before done result fault stood errors status does is stands writes said = record {
   result = Err fault;
   done = done;
-  does = subst (DoesTyped shown w before done) is does;
+  does = subst (DoesAsked w request before done) is does;
   concludes = (said, (stood, stands, writes), refl);
 }
 
 -- a command that came to its end, of which is said what there is to say
-pub ended : (shown : Shown) (w : World) (before done : Outside) (result : Result Ending Fault) (ending : Ending) (errors : Place) (status : ℕ) → DoesTyped shown w before done result
-    → result ≡ Ok ending → Hints w ending.has_other_form done.errors errors → status ≡ ending.status → RunsTyped shown w before (record done { errors = errors }) status
-ended shown w before done result ending errors status does is hints said = record {
+pub ended : (w : World) (words : SystemWords) (request : Request) (before done : Outside) (result : Result Ending Fault) (ending : Ending) (errors : Place) (status : ℕ)
+    → DoesAsked w request before done result → result ≡ Ok ending → Hints w ending.has_other_form done.errors errors → status ≡ ending.status → RunsRequest w words request before (record done { errors = errors }) status
+ended w words request before done result ending errors status does is hints said = record {
   result = Ok ending;
   done = done;
-  does = subst (DoesTyped shown w before done) is does;
+  does = subst (DoesAsked w request before done) is does;
   concludes = (said, hints, refl);
 }
 
--- on a terminal the sentence of a fault stands before its line, where there is memory for it
-pub spoken : {V E : Type 0} (items : V → List ℕ) (shown : Shown) (w : World) (unkept : Text → Option Reason) (found : Option Found) (fault : Fault) (is_terminal : Bool) (said : Result V E) (none text : V)
-    → IsTerminal w is_terminal → is_terminal ≡ true → items none ≡ [] → IfOk said (λ said. IsSentenceOf shown w unkept found fault (items said)) → text ≡ result_unwrap_or said none
-    → StandsBefore shown w unkept found fault (items text)
-spoken items shown w unkept found fault is_terminal (Ok said) none text terminal is empty sentence same =
-    (is_terminal, terminal, inr (is, subst (λ (v : _). IsSentenceOf shown w unkept found fault (items v)) (sym same) sentence))
-spoken items shown w unkept found fault is_terminal (Err why) none text terminal is empty sentence same =
-    (is_terminal, terminal, inl (inl (ap items same ∙ empty)))
+-- on a terminal this stands before the line of a fault, where there is memory for it
+pub spoken : {V E : Type 0} (items : V → List ℕ) (w : World) (words : SystemWords) (request : Request) (fault : Fault) (is_terminal : Bool) (said : Result V E) (none text : V)
+    → IsTerminal w is_terminal → is_terminal ≡ true → items none ≡ [] → IfOk said (λ said. IsToldOf words request fault (items said)) → text ≡ result_unwrap_or said none
+    → StandsBefore w words request fault (items text)
+spoken items w words request fault is_terminal (Ok said) none text terminal is empty told same =
+    (is_terminal, terminal, inr (is, subst (λ (v : _). IsToldOf words request fault (items v)) (sym same) told))
+spoken items w words request fault is_terminal (Err why) none text terminal is empty told same =
+    (is_terminal, terminal, inl (ap items same ∙ empty))

@@ -9,8 +9,8 @@ use Rattle.n2k_table.specs.declared.fault.TableFault.{TableFault}
 use Rattle.n2k_table.specs.declared.fault.TableFault.TheVariants as table_faults
 use Rattle.n2kdec.specs.Work.{ByTable, DoesDecode, DoesFrames, DoesPlain, RefusesTable, Works, stop_of}
 use Rattle.n2kdec.specs.declared.fault.Fault.TheVariants.{Table}
-use Rattle.n2kdec.specs.declared.asked.Command.{Command}
-use Rattle.n2kdec.specs.declared.asked.Command.TheVariants.{Plain, Decode, Frames}
+use Rattle.n2kdec.specs.declared.asked.Task.{Task}
+use Rattle.n2kdec.specs.declared.asked.Task.TheVariants.{Plain, Decode, Frames}
 use Rattle.n2kdec.specs.declared.work.Stop.{Stop}
 
 -- a table was refused
@@ -35,15 +35,15 @@ module _ (bytes : List ℕ) (before after : Devices) where
       by_table (λ t. DoesFrames t interface before after r) r read.0 (subst (λ t. DoesFrames t interface before after r) read.1 does)
 
 -- the command was this one
-module _ (command : Command) (bytes : List ℕ) (handed : Option (List ℕ)) (before after : Devices) (r : Result Part Stop) where
-  pub works_plain : command ≡ Plain → DoesPlain before after r → Works command bytes handed before after r
+module _ (task : Task) (bytes : List ℕ) (handed : Option (List ℕ)) (before after : Devices) (r : Result Part Stop) where
+  pub works_plain : task ≡ Plain → DoesPlain before after r → Works task bytes handed before after r
   works_plain is does = subst (λ c. Works c bytes handed before after r) (sym is) does
 
-  pub works_decode : (o : Options) (save : Option (List ℕ)) → command ≡ Decode o save → ByTable bytes before after r (λ t. DoesDecode t o handed before after r)
-      → Works command bytes handed before after r
+  pub works_decode : (o : Options) (save : Option (List ℕ)) → task ≡ Decode o save → ByTable bytes before after r (λ t. DoesDecode t o handed before after r)
+      → Works task bytes handed before after r
   works_decode o save is does = subst (λ c. Works c bytes handed before after r) (sym is) does
 
-  pub works_frames : (interface told : Option (List ℕ)) → command ≡ Frames interface → told ≡ interface
-      → ByTable bytes before after r (λ t. DoesFrames t told before after r) → Works command bytes handed before after r
+  pub works_frames : (interface told : Option (List ℕ)) → task ≡ Frames interface → told ≡ interface
+      → ByTable bytes before after r (λ t. DoesFrames t told before after r) → Works task bytes handed before after r
   works_frames interface told is same does =
       subst (λ c. Works c bytes handed before after r) (sym is) (subst (λ i. ByTable bytes before after r (λ t. DoesFrames t i before after r)) same does)

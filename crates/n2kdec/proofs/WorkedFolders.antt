@@ -1,15 +1,15 @@
 -- What the model of a folder says of wrong ways to replace a text.
 use Rattle.std.proofs.Common.{List, ℕ, [], ◌∷◌, Some, refl, inl, inr}
 use Rattle.std.specs.declared.io.ErrorKind.{ErrorKind}
-use Rattle.n2kdec.specs.Disk.{open_at, rename, sync, write}
-use Rattle.n2kdec.specs.Folder.{Content, MayBeLeft, MayHave, Name, Target, Temp, makes_new}
+use Rattle.n2kdec.specs.Disk.{rename, sync, write}
+use Rattle.n2kdec.specs.Folder.{Content, MayBeLeft, MayHave, Name, Target, Temp}
 use Rattle.n2kdec.specs.Replacement.{empty, make}
 use Rattle.n2kdec.proofs.Replacing.{done}
 use Rattle.n2kdec.specs.declared.destination.Destination.{Destination}
 
 module _ (first : Name → Content) (d : Destination) (text any : List ℕ) (why : ErrorKind) where
   -- an old file that is emptied first may be found empty
-  emptied : MayHave first (done (open_at Target makes_new) ∷ []) Target (Some [])
+  emptied : MayHave first (done (empty d) ∷ []) Target (Some [])
   emptied = refl
 
   -- and one that is written over may be left with any text, until its folder is synced

@@ -1,47 +1,57 @@
 -- What words ask for: a text, or a command over files.
-use Rattle.std.specs.Prelude.{Option, Some, None, Result, Ok, Err, Bool, if◌then◌else◌}
-use Rattle.clap.specs.Words.{Text}
-use Rattle.n2k_join.specs.Window.{Window}
-use Rattle.n2k_run.specs.declared.options.Options.{Options}
-use Rattle.n2k_wire.specs.Candump.{is_interface}
-use Rattle.n2k_wire.specs.declared.entry.Packing.TheVariants as packed
+use Rattle.std.specs.Prelude.{◌≡◌, ◌≢◌, ◌⊎◌, List, [], Option, None, Result, Ok, Err, IfSome}
+use Rattle.clap.specs.Words.{IsAmong, Text, fault_of}
+use Rattle.clap.specs.declared.error.kind.ErrorKind.{ErrorKind}
+use Rattle.clap.specs.declared.error.kind.ErrorKind.TheVariants.{DisplayHelp, DisplayVersion}
+use Rattle.n2kdec.specs.declared.asked.Command.{Command}
 use Rattle.n2kdec.specs.declared.asked.Request.{Request}
 use Rattle.n2kdec.specs.declared.asked.Request.TheVariants as to
-use Rattle.n2kdec.specs.declared.asked.Command.{Command}
-use Rattle.n2kdec.specs.declared.asked.Command.TheVariants.{Plain, Decode, Frames}
+use Rattle.n2kdec.specs.declared.asked.Task.{Task}
+use Rattle.n2kdec.specs.declared.asked.Task.TheVariants.{Decode}
 use Rattle.n2kdec.specs.declared.fault.Fault.{Fault}
-use Rattle.n2kdec.specs.declared.fault.Fault.TheVariants.{Interface}
-use Rattle.n2kdec.specs.declared.words.Words.{Words}
-use Rattle.n2kdec.specs.declared.words.Words.TheVariants as words
-
--- the interface of this name, where that has the form of one
-abbrev pub judged : Text → Result Text Fault
-judged name = if is_interface name then Ok name else Err Interface
-
--- the options that the words `--empty`, `--whole`, `--window` and `--in-order` stand for
-abbrev pub options_of : Bool → Bool → Window → Options
-options_of empty whole window =
-    record { packing = if whole then packed.Whole else packed.Frames; empty = empty; window = window }
-
--- a command over these files
-abbrev pub over : Option Text → Option Text → Option Text → Command → Request
-over table state log command = to.Command (record { table = table; state = state; log = log }) command
-
--- the frames of messages, at this interface
-abbrev pub at_interface : Text → Option Text → Result Text Fault → Result Request Fault
-at_interface table log (Ok name) = Ok (over (Some table) None log (Frames (Some name)))
-at_interface table log (Err fault) = Err fault
-
--- what the words ask for, or the fault of an interface that is none
-abbrev pub asked : Words → Result Request Fault
-asked (words.Help text) = Ok (to.Help text)
-asked (words.Plain log) = Ok (over None None log Plain)
-asked (words.Decode table resume save empty whole window log) =
-    Ok (over (Some table) resume log (Decode (options_of empty whole window) save))
-asked (words.Frames table None log) = Ok (over (Some table) None log (Frames None))
-asked (words.Frames table (Some name) log) = at_interface table log (judged name)
+use Rattle.n2kdec.specs.declared.fault.Fault.TheVariants.{Interface, Memory, Words}
+use Rattle.n2kdec.specs.Parser.{AreLinesOf, Shown, said_of}
+use Rattle.n2kdec.specs.Usage.{program_app}
+use Rattle.n2kdec.specs.Words.{command_of, version_text}
 
 -- the name of the file of the state after the log
-abbrev pub save_name : Command → Option Text
+abbrev pub save_name : Task → Option Text
 save_name (Decode options save) = save
 save_name _ = None
+
+-- `clap` has a fault at the words that is no request for help or for the version
+abbrev pub HasFault : List Text → Type 0
+HasFault words =
+    (kind : ErrorKind) × IsAmong kind (fault_of program_app words) × (kind ≢ DisplayHelp) × (kind ≢ DisplayVersion)
+
+-- `clap` has no fault at the words, and this comes of them
+abbrev pub Gives : List Text → Result Command Fault → Type 0
+Gives words result = (fault_of program_app words ≡ []) × (command_of words ≡ result)
+
+-- Why nothing is done: the words are not those of a command, their interface is none, or memory was refused.
+abbrev pub IsUnasked : Fault → List Text → Type 0
+IsUnasked Words words = HasFault words ⊎ Gives words (Err Words)
+IsUnasked Interface words = Gives words (Err Interface)
+IsUnasked (Memory read) words = read ≡ None
+IsUnasked _ words = ⊥
+
+-- the help that is shown of these words, or the version, where they ask for it
+abbrev pub IsHelp : Shown → Text → List Text → Type 0
+IsHelp shown text words =
+    (IsAmong DisplayHelp (fault_of program_app words) × IfSome (shown words) (λ help. text ≡ help))
+    ⊎ (IsAmong DisplayVersion (fault_of program_app words) × (text ≡ version_text))
+
+-- no other fault comes of words; of refused ones lines may be said, in which control characters are escaped
+abbrev pub IsOfWords : Request → Type 0
+IsOfWords (to.Refused Words lines) = IfSome lines (λ lines. AreLinesOf None lines.items)
+IsOfWords (to.Refused Interface lines) = lines ≡ None
+IsOfWords (to.Refused (Memory read) lines) = (read ≡ None) × (lines ≡ None)
+IsOfWords (to.Refused _ lines) = ⊥
+IsOfWords _ = Unit {0}
+
+-- What these words ask for, as a parser shows them: a text, the command that they name, or a fault.
+abbrev pub IsAsked : Shown → Request → List Text → Type 0
+IsAsked shown (to.Help text) words = IsHelp shown text words
+IsAsked shown (to.Command command) words = Gives words (Ok command)
+IsAsked shown (to.Refused fault lines) words =
+    IsUnasked fault words × IfSome lines (λ lines. (fault ≡ Words) × AreLinesOf (said_of shown words) lines.items)

@@ -31,12 +31,12 @@ use Rattle.n2k_run.specs.Writing.{AppendsFront}
 use Rattle.n2k_run.specs.declared.options.Options.{Options}
 use Rattle.n2kdec.specs.Ending.{has_other_form}
 use Rattle.n2kdec.specs.Fault.{exit_status}
-use Rattle.n2kdec.specs.declared.asked.Command.{Command}
-use Rattle.n2kdec.specs.declared.asked.Command.TheVariants.{Plain, Decode, Frames}
-use Rattle.n2kdec.specs.declared.asked.Files.{Files}
+use Rattle.n2kdec.specs.declared.asked.Task.{Task}
+use Rattle.n2kdec.specs.declared.asked.Task.TheVariants.{Plain, Decode, Frames}
 use Rattle.n2kdec.specs.declared.ending.Ending.{Ending}
 use Rattle.n2kdec.specs.declared.fault.Fault.{Fault}
 use Rattle.n2kdec.specs.declared.fault.Fault.TheVariants.{Table, State, Read, Write, Report, Memory, Lines, Save}
+use Rattle.n2kdec.specs.declared.keeper.Unkept.{Unkept}
 
 -- ---- what a command does
 
@@ -63,42 +63,32 @@ pub record IsCutOff (before after : Place) (text : List ℕ) : Type 0 where
 abbrev pub IsWrittenUnlessFailed : Place → Place → List ℕ → Type 0
 IsWrittenUnlessFailed before after text = IsWritten before after text ⊎ IsCutOff before after text
 
--- a text that was kept: its name, and what the errors held then, where the keeper notes it
+-- A text that was to be kept: its name, what the errors held then, where the keeper notes it, and why it could not be
+-- kept, or not for sure, if so.
 pub record Kept : Type 0 where
   pub name : List ℕ
   pub text : List ℕ
   pub said : Option (List ℕ)
+  pub unkept : Option Unkept
 
--- a state of this name may be kept by a run of these files, as far as is known which ones may be
-abbrev pub IsAdmitted : (Text → Files → Option Bool) → Text → Files → Type 0
-IsAdmitted admits name files = IfSome (admits name files) (λ known. known ≡ true)
+-- This text was to be kept under the name, once, and no other was, while the errors held so much, and it could not for
+-- this, or could; without a name none was. What a keeper can't keep it may be unable to note.
+abbrev pub Keeps : Option (List ℕ) → Option (List Kept) → Option (List Kept) → List ℕ → Option (List ℕ) → Option Unkept → Type 0
+Keeps None before after text held unkept = (unkept ≡ None) × (after ≡ before)
+Keeps (Some name) None after text held unkept = Unit {0}
+Keeps (Some name) (Some had) None text held unkept = IsSome unkept
+Keeps (Some name) (Some had) (Some all) text held unkept =
+    (said : Option (List ℕ)) × IfSome said (λ noted. held ≡ Some noted)
+    × (all ≡ had ++ record { name = name; text = text; said = said; unkept = unkept } ∷ [])
 
--- and it may be refused, as far as that is known
-abbrev pub MayBeRefused : (Text → Files → Option Bool) → Text → Files → Type 0
-MayBeRefused admits name files = IfSome (admits name files) (λ known. known ≡ false)
-
--- What keeps a state: the name that the state is to have, if any; the texts that were kept, the first one first, where
--- they are known; and how many times it could not keep one.
+-- What keeps a state: the name that the state is to have, if any; and the texts that were to be kept, the first one
+-- first, where they are known.
 pub record Shelf : Type 0 where
   pub name : Option (List ℕ)
   pub kept : Option (List Kept)
-  pub failed : ℕ
 
-abbrev pub shelf : Option (List ℕ) → Option (List Kept) → ℕ → Shelf
-shelf name kept failed = record { name = name; kept = kept; failed = failed }
-
--- this text was kept under the name, once, and no other was, while the errors held so much; without a name none was
-abbrev pub KeepsUnder : Option (List ℕ) → Option (List Kept) → Option (List Kept) → List ℕ → Option (List ℕ) → Type 0
-KeepsUnder None before after text held = after ≡ before
-KeepsUnder (Some name) None after text held = Unit {0}
-KeepsUnder (Some name) (Some had) None text held = ⊥
-KeepsUnder (Some name) (Some had) (Some all) text held =
-    (said : Option (List ℕ)) × IfSome said (λ noted. held ≡ Some noted)
-    × (all ≡ had ++ record { name = name; text = text; said = said } ∷ [])
-
--- nothing was kept, or this text under the name
-abbrev pub MayKeepUnder : Option (List ℕ) → Option (List Kept) → Option (List Kept) → List ℕ → Option (List ℕ) → Type 0
-MayKeepUnder name before after text held = (after ≡ before) ⊎ KeepsUnder name before after text held
+abbrev pub shelf : Option (List ℕ) → Option (List Kept) → Shelf
+shelf name kept = record { name = name; kept = kept }
 
 -- the state that is saved after entries, and what keeps it, before the command and after it
 pub record Saving : Type 0 where
@@ -108,32 +98,16 @@ pub record Saving : Type 0 where
 
 -- of a command that has no state
 abbrev pub no_saving : Saving
-no_saving = record { state = λ es. []; before = shelf None None 0; after = shelf None None 0 }
+no_saving = record { state = λ es. []; before = shelf None None; after = shelf None None }
 
--- this text alone is kept, under the name, while the errors hold so much
-pub record Replaces (before after : Shelf) (text : List ℕ) (held : Option (List ℕ)) : Type 0 where
-  pub kept : KeepsUnder before.name before.kept after.kept text held
-  pub none_failed : after.failed ≡ before.failed
+-- this text alone is kept, under the name, while the errors hold so much, or can't be for this
+abbrev pub Replaces : Shelf → Shelf → List ℕ → Option (List ℕ) → Option Unkept → Type 0
+Replaces before after text held unkept = Keeps before.name before.kept after.kept text held unkept
 
--- it is kept when the errors have gained this report, and no more: the summary comes behind it
-abbrev pub ReplacesBehind : Shelf → Shelf → List ℕ → Option (List ℕ) → List ℕ → Type 0
-ReplacesBehind before after text had report =
-    (held : Option (List ℕ)) × Appends had held report × Replaces before after text held
-
--- What keeps this text failed while the errors held so much: no other text was kept, and none under another name.
-pub record FailsToKeep (before after : Shelf) (text : List ℕ) (held : Option (List ℕ)) : Type 0 where
-  pub named : IsSome before.name
-  pub kept : MayKeepUnder before.name before.kept after.kept text held
-  pub failed : HasFailed before.failed after.failed
-
--- it failed when the errors had gained this report, and no more
-abbrev pub FailsBehind : Shelf → Shelf → List ℕ → Option (List ℕ) → List ℕ → Type 0
-FailsBehind before after text had report =
-    (held : Option (List ℕ)) × Appends had held report × FailsToKeep before after text held
-
--- the place of the state failed
-abbrev pub HasSaveFailed : Saving → Type 0
-HasSaveFailed s = HasFailed s.before.failed s.after.failed
+-- when the errors have gained this report, and no more: the summary comes behind it
+abbrev pub ReplacesBehind : Shelf → Shelf → List ℕ → Option (List ℕ) → List ℕ → Option Unkept → Type 0
+ReplacesBehind before after text had report unkept =
+    (held : Option (List ℕ)) × Appends had held report × Replaces before after text held unkept
 
 -- the place is as it was
 abbrev pub IsUntouched : Saving → Type 0
@@ -182,15 +156,10 @@ decode_from t options s before after =
 abbrev pub entries_for : Effect → List ℕ → List Entry
 entries_for c log = entries c.output.packing log
 
--- the state after these entries is kept, behind their reports and before their summary
-abbrev pub IsSaved : Effect → Devices → List Entry → Type 0
-IsSaved c before es =
-    ReplacesBehind c.saving.before c.saving.after (c.saving.state es) before.reported (c.output.reports es)
-
--- it can't be kept, and nothing else is
-abbrev pub CannotBeSaved : Effect → Devices → List Entry → Type 0
-CannotBeSaved c before es =
-    FailsBehind c.saving.before c.saving.after (c.saving.state es) before.reported (c.output.reports es)
+-- the state after these entries is kept, behind their reports and before their summary; or can't be for this
+abbrev pub IsSaved : Effect → Devices → Option Unkept → List Entry → Type 0
+IsSaved c before unkept es =
+    ReplacesBehind c.saving.before c.saving.after (c.saving.state es) before.reported (c.output.reports es) unkept
 
 -- the reports of entries, and then their summary
 abbrev pub summed_up : Effect → List Entry → List ℕ
@@ -211,7 +180,7 @@ pub record IsDone (c : Effect) (before after : Devices) (ending : Ending) : Type
   pub form : ending.has_other_form ≡ has_other_form (c.counts (entries_for c came))
   pub at_most_one : ending.status ≤ 1
   pub none_failed : NoneFailed before after
-  pub saved : IsSaved c before (entries_for c came)
+  pub saved : IsSaved c before None (entries_for c came)
 
 -- A command has printed and reported these entries, which have numbers that are counted. No call of the errors failed
 -- until then, and then they have of the summary what `summed` says.
@@ -240,14 +209,13 @@ abbrev pub SumsUpPart : Bool → Place → Place → List ℕ → Type 0
 SumsUpPart true before after summary = IsWrittenUnlessFailed before after summary
 SumsUpPart false before after summary = after ≡ before
 
--- Bytes came of the log, and the lines among them whose line feed came are taken. The state after them is saved, where
--- that can be.
-pub record HasRead (c : Effect) (before after : Devices) : Type 0 where
+-- Bytes came of the log, and the lines among them whose line feed came are taken. The state after them is saved, or
+-- can't be for this.
+pub record HasRead (c : Effect) (unkept : Option Unkept) (before after : Devices) : Type 0 where
   pub came : List ℕ
   pub given : Consumes before.left after.left came
   pub taken : HasTaken c before after (entries_for c (whole_lines came)) (SumsUpPart c.sums_up_a_part)
-  pub saved : IsSaved c before (entries_for c (whole_lines came))
-      ⊎ CannotBeSaved c before (entries_for c (whole_lines came))
+  pub saved : IsSaved c before unkept (entries_for c (whole_lines came))
 
 -- As many lines are taken as are counted, and the log, where its bytes are known, has more. Nothing is saved.
 pub record IsFull (c : Effect) (before after : Devices) : Type 0 where
@@ -264,23 +232,23 @@ BreaksOff c before after = IsUntouched c.saving × IfSome before.left (HasFronts
 
 -- the log is printed and reported and the state after it saved, and only its summary is cut off
 abbrev pub LacksSummary : Effect → Devices → Devices → Type 0
-LacksSummary c before after = HasTakenAll c before after IsCutOff (IsSaved c before)
+LacksSummary c before after = HasTakenAll c before after IsCutOff (IsSaved c before None)
 
--- the log is printed and reported, and the state after it can't be saved
-abbrev pub LacksState : Effect → Devices → Devices → Type 0
-LacksState c before after = HasTakenAll c before after IsWrittenUnlessFailed (CannotBeSaved c before)
+-- the log is printed and reported, and the state after it can't be saved for this
+abbrev pub LacksState : Effect → Unkept → Devices → Devices → Type 0
+LacksState c why before after = HasTakenAll c before after IsWrittenUnlessFailed (IsSaved c before (Some why))
 
 -- What each fault leaves. Read: the lines that came are taken. Lines: as many as are counted are. Save: the log is
 -- taken. In these three the summary, where one is written, is cut off only where the errors failed. After Write and
 -- Memory the run breaks off; after Report too, or all but the summary is done. So memory is not refused once something
 -- is saved or summed up. No other fault stops a run.
 abbrev pub Leaves : Effect → Devices → Devices → Fault → Type 0
-Leaves c before after Read = HasRead c before after
+Leaves c before after (Read lines why unkept) = HasRead c unkept before after
 Leaves c before after Lines = IsFull c before after
-Leaves c before after Save = LacksState c before after
-Leaves c before after Write = BreaksOff c before after
+Leaves c before after (Save why) = LacksState c why before after
+Leaves c before after (Write why) = BreaksOff c before after
 Leaves c before after Report = BreaksOff c before after ⊎ LacksSummary c before after
-Leaves c before after Memory = BreaksOff c before after
+Leaves c before after (Memory read) = BreaksOff c before after
 Leaves c before after _ = ⊥
 
 -- no call of the log's device failed, and none of the output
@@ -288,20 +256,20 @@ pub record LogAndOutputHold (before after : Devices) : Type 0 where
   pub reads : after.failed_reads ≡ before.failed_reads
   pub writes : after.failed_writes ≡ before.failed_writes
 
--- Which device failed. Read: the log's, or none and 10^12 reads found no end. Write, Report: that one alone, and not
--- the place of the state. Save: that place. Lines: none. Memory: none; or, where parts are summed up, as for Read, and
+-- Which device failed. Read: the log's, or none and 10^12 reads found no end. Write, Report: that one alone. Lines and
+-- Save: none. Memory: none; or, where parts are summed up, as for Read, and
 -- memory was refused for the state of what had been read. After Read, Lines and Save the errors may have failed too, in
 -- the summary.
 abbrev pub HasDevice : Effect → Devices → Devices → Fault → Type 0
-HasDevice c before after Read =
+HasDevice c before after (Read lines why unkept) =
     (HasFailed before.failed_reads after.failed_reads
     ⊎ (OutlastsReads before.calls after.calls × (after.failed_reads ≡ before.failed_reads)))
     × (after.failed_writes ≡ before.failed_writes)
 HasDevice c before after Lines = LogAndOutputHold before after
-HasDevice c before after Save = HasSaveFailed c.saving × LogAndOutputHold before after
-HasDevice c before after Write = WriteFails before after
-HasDevice c before after Report = ReportFails before after × (c.saving.after.failed ≡ c.saving.before.failed)
-HasDevice c before after Memory = NoneFailed before after ⊎ ((c.sums_up_a_part ≡ true) × ReadFails before after)
+HasDevice c before after (Save why) = LogAndOutputHold before after
+HasDevice c before after (Write why) = WriteFails before after
+HasDevice c before after Report = ReportFails before after
+HasDevice c before after (Memory read) = NoneFailed before after ⊎ ((c.sums_up_a_part ≡ true) × ReadFails before after)
 HasDevice c before after _ = ⊥
 
 -- A fault stopped the command. No text stands before the report of its own line or of an earlier one.
@@ -319,14 +287,14 @@ Ends c before after result = MatchResult result (IsDone c before after) (IsStopp
 -- the table or the state is refused
 abbrev pub IsRefusal : Fault → Type 0
 IsRefusal (Table fault) = Unit {0}
-IsRefusal (State fault) = Unit {0}
+IsRefusal (State fault of) = Unit {0}
 IsRefusal _ = ⊥
 
 -- A refused table has the fault, or memory was wanted; a refused state is handed in with a table that has none, and its
 -- first fault is answered, or memory was wanted. Where another fault is, both are taken.
 abbrev pub IsJudged : List TableFault → Option (List ℕ) → Result StateOf StateFault → Fault → Type 0
 IsJudged found handed begun (Table fault) = fault ≢ table.Memory → Contains found fault
-IsJudged found handed begun (State fault) =
+IsJudged found handed begun (State fault of) =
     (found ≡ []) × IsSome handed × (fault ≢ state_faults.Memory → begun ≡ Err fault)
 IsJudged found handed begun fault = (found ≡ []) × IsOk begun
 
@@ -339,7 +307,7 @@ IsRefusedOrStopped found c before after fault = (found ≡ []) × IsStopped c be
 -- how a command ends whose state is taken, if its table is
 abbrev pub EndsUnlessRefused : Effect → Devices → Devices → Result Ending Fault → Type 0
 EndsUnlessRefused c before after (Err (Table fault)) = Unit {0}
-EndsUnlessRefused c before after (Err (State fault)) = fault ≡ state_faults.Memory
+EndsUnlessRefused c before after (Err (State fault of)) = fault ≡ state_faults.Memory
 EndsUnlessRefused c before after (Err fault) = IsStopped c before after fault
 EndsUnlessRefused c before after (Ok ending) = IsDone c before after ending
 
@@ -358,7 +326,7 @@ pub record PrintsRest (t : TableParts) (o : Options) (front more : List ℕ) (be
       (report ++ summary_text (counts o.window (kind t) (entries o.packing (front ++ more))))
   pub told : reports t o (front ++ more) ≡ reports t o front ++ report
   pub answered : status ≡ exit_status (counts o.window (kind t) (entries o.packing (front ++ more)))
-  pub saved : ReplacesBehind keeper kept (save t o (front ++ more)) before.reported report
+  pub saved : ReplacesBehind keeper kept (save t o (front ++ more)) before.reported report None
   pub reads_back : begun t o (Some (save t o (front ++ more))) ≡ Ok (state_after t o (front ++ more))
 
 -- ---- by the command
@@ -389,7 +357,7 @@ pub record Decodes (bytes : List ℕ) (o : Options) (handed : Option (List ℕ))
       (λ more. PrintsRest (table_of bytes) o front more before after keeper kept ending.status))
 
 -- How a command ends, with the place of its state. Where it has none that place is left as it was.
-abbrev pub Performs : Command → List ℕ → Option (List ℕ) → Devices → Devices → Shelf → Shelf → Result Ending Fault → Type 0
+abbrev pub Performs : Task → List ℕ → Option (List ℕ) → Devices → Devices → Shelf → Shelf → Result Ending Fault → Type 0
 Performs Plain bytes handed before after keeper kept result =
     (kept ≡ keeper) × Ends plain_effect before after result
 Performs (Decode o save) bytes handed before after keeper kept result =
@@ -398,7 +366,7 @@ Performs (Frames interface) bytes handed before after keeper kept result =
     (kept ≡ keeper) × EndsByTable (faults bytes) (frames_effect (table_of bytes) interface) before after result
 
 -- the status with which it comes to its end, where all bytes of its log are known
-abbrev pub HasStatus : Command → List ℕ → Option (List ℕ) → List ℕ → ℕ → Type 0
+abbrev pub HasStatus : Task → List ℕ → Option (List ℕ) → List ℕ → ℕ → Type 0
 HasStatus Plain bytes handed all status = status ≡ exit_status (plain_counts all)
 HasStatus (Decode o save) bytes handed all status =
     (front : List Entry)

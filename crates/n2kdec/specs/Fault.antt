@@ -1,6 +1,7 @@
 -- The line that a fault prints, and the status that the program ends with.
-use Rattle.std.specs.Prelude.{◌≡◌, ◌⊎◌, ◌++◌, ℕ, List, [], Bool, true, Option, codes, ◌==◌, if◌then◌else◌}
-use Rattle.clap.specs.Words.{Text}
+use Rattle.std.specs.Prelude.{◌≡◌, ◌⊎◌, ◌++◌, ℕ, List, Option, Some, None, codes, ◌==◌, if◌then◌else◌}
+use Rattle.std.specs.IoError.{error_kind}
+use Rattle.std.specs.declared.io.Error.{Error}
 use Rattle.n2k_join.specs.declared.counts.Counts.{Counts}
 use Rattle.n2k_join.specs.declared.fault.StateFault.{StateFault}
 use Rattle.n2k_join.specs.declared.fault.StateFault.TheVariants as state
@@ -8,8 +9,10 @@ use Rattle.n2k_run.specs.declared.fault.RunFault.{RunFault}
 use Rattle.n2k_run.specs.declared.fault.RunFault.TheVariants as run
 use Rattle.n2k_table.specs.declared.fault.TableFault.{TableFault}
 use Rattle.n2k_table.specs.declared.fault.TableFault.TheVariants as table
-use Rattle.n2kdec.specs.Parser.{AreLinesOf}
+use Rattle.n2kdec.specs.Replacement.{is_memory}
 use Rattle.n2kdec.specs.declared.fault.Fault.{Fault}
+use Rattle.n2kdec.specs.declared.fault.Reading.{Reading}
+use Rattle.n2kdec.specs.declared.fault.Reading.TheVariants as reading
 use Rattle.n2kdec.specs.declared.fault.Fault.TheVariants.{Words, Interface, TableSize, StateSize, Table, State}
 use Rattle.n2kdec.specs.declared.fault.Fault.TheVariants.{TableFile, StateFile, Read, Write, Report, Memory, Lines}
 use Rattle.n2kdec.specs.declared.fault.Fault.TheVariants.{Save}
@@ -48,21 +51,15 @@ fault_line Interface = codes "n2kdec: interface\n"
 fault_line TableSize = codes "n2kdec: table size\n"
 fault_line StateSize = codes "n2kdec: state size\n"
 fault_line (Table fault) = table_line fault
-fault_line (State fault) = state_line fault
-fault_line TableFile = codes "n2kdec: table file\n"
-fault_line StateFile = codes "n2kdec: state file\n"
-fault_line Read = codes "n2kdec: read\n"
-fault_line Write = codes "n2kdec: write\n"
+fault_line (State fault of) = state_line fault
+fault_line (TableFile why) = codes "n2kdec: table file\n"
+fault_line (StateFile why) = codes "n2kdec: state file\n"
+fault_line (Read lines why unkept) = codes "n2kdec: read\n"
+fault_line (Write why) = codes "n2kdec: write\n"
 fault_line Report = codes "n2kdec: report\n"
-fault_line Memory = codes "n2kdec: memory\n"
+fault_line (Memory read) = codes "n2kdec: memory\n"
 fault_line Lines = codes "n2kdec: lines\n"
-fault_line Save = codes "n2kdec: save\n"
-
--- What may stand before the line of a fault: nothing; or, on a terminal, the lines of what is said of refused words,
--- where that is known.
-abbrev pub IsBeforeLine : Option Text → Bool → Fault → List ℕ → Type 0
-IsBeforeLine said is_terminal fault text =
-    (text ≡ []) ⊎ ((is_terminal ≡ true) × (fault ≡ Words) × AreLinesOf said text)
+fault_line (Save why) = codes "n2kdec: save\n"
 
 -- What is written on standard error at a fault: its line, behind this text or, where memory is refused, alone.
 abbrev pub IsFaultMessage : List ℕ → Fault → List ℕ → Type 0
@@ -84,23 +81,33 @@ status_of Interface = 2
 status_of TableSize = 2
 status_of StateSize = 2
 status_of (Table fault) = table_status fault
-status_of (State fault) = state_status fault
-status_of TableFile = 3
-status_of StateFile = 3
-status_of Read = 3
-status_of Write = 3
+status_of (State fault of) = state_status fault
+status_of (TableFile why) = 3
+status_of (StateFile why) = 3
+status_of (Read lines why unkept) = 3
+status_of (Write why) = 3
 status_of Report = 3
-status_of Memory = 3
+status_of (Memory read) = 3
 status_of Lines = 3
-status_of Save = 3
+status_of (Save why) = 3
 
--- what the program says of a run's fault
-abbrev pub fault_of_run : RunFault → Fault
-fault_of_run run.Read = Read
-fault_of_run run.Write = Write
-fault_of_run run.Report = Report
-fault_of_run run.Memory = Memory
-fault_of_run run.TooManyLines = Lines
+-- what the program says of the fault of a run that took so many lines
+abbrev pub fault_of_run : RunFault → ℕ → Fault
+fault_of_run run.Read lines = Read lines None None
+fault_of_run run.Write lines = Write None
+fault_of_run run.Report lines = Report
+fault_of_run run.Memory lines = Memory (Some reading.Log)
+fault_of_run run.TooManyLines lines = Lines
+
+-- and of a file that can't be read, for this
+abbrev pub unread : Reading → Option Error → Fault
+unread reading.Table why = TableFile why
+unread reading.State why = StateFile why
+unread reading.Log why = Read 0 why None
+
+-- or can't be opened, by this error
+abbrev pub unopened : Reading → Error → Fault
+unopened read error = if is_memory (error_kind error) then Memory (Some read) else unread read (Some error)
 
 -- 0 where no line was bad
 abbrev pub exit_status : Counts → ℕ

@@ -1,141 +1,75 @@
 -- What is said of a fault on a terminal, in one line: the file or the stream that it is of, what is wrong, and what to do.
-use Rattle.std.specs.Prelude.{◌≡◌, ◌==◌, ◌++◌, ◌∷◌, ℕ, Bool, true, false, List, [], Option, Some, None}
-use Rattle.std.specs.Prelude.{codes, decimal, if◌then◌else◌, IfSome, option_map}
+use Rattle.std.specs.Prelude.{◌≡◌, ◌==◌, ◌++◌, ◌∷◌, ℕ, false, List, [], Option, Some, None}
+use Rattle.std.specs.Prelude.{codes, decimal, if◌then◌else◌, IfSome, option_and_then, option_map}
 use Rattle.std.specs.Option.{unwrap_or}
+use Rattle.std.specs.declared.io.Error.{Error}
 use Rattle.clap.specs.Words.{Text}
-use Rattle.n2k_join.specs.declared.fault.StateFault.{StateFault}
-use Rattle.n2k_join.specs.declared.fault.StateFault.TheVariants as state
-use Rattle.n2k_table.specs.declared.fault.TableFault.{TableFault}
-use Rattle.n2k_table.specs.declared.fault.TableFault.TheVariants as table
 use Rattle.n2kdec.specs.Asked.{save_name}
 use Rattle.n2kdec.specs.Escape.{escaped}
 use Rattle.n2kdec.specs.declared.asked.Command.{Command}
-use Rattle.n2kdec.specs.declared.asked.Files.{Files}
 use Rattle.n2kdec.specs.declared.fault.Fault.{Fault}
 use Rattle.n2kdec.specs.declared.fault.Fault.TheVariants.{Words, Interface, TableSize, StateSize, Table, State}
 use Rattle.n2kdec.specs.declared.fault.Fault.TheVariants.{TableFile, StateFile, Read, Write, Report, Memory, Lines}
 use Rattle.n2kdec.specs.declared.fault.Fault.TheVariants.{Save}
-use Rattle.n2kdec.specs.declared.found.Found.{Found}
-use Rattle.n2kdec.specs.declared.found.Found.TheVariants.{Tables, Windows, Lines as LinesTaken, Memory as NoMemory}
-use Rattle.n2kdec.specs.declared.found.Reading.TheVariants as reading
-use Rattle.n2kdec.specs.declared.reason.Reason.{Reason}
-use Rattle.n2kdec.specs.declared.reason.Reason.TheVariants.{System, Unfound, Harm}
+use Rattle.n2kdec.specs.declared.difference.Difference.TheVariants.{Tables, Windows}
+use Rattle.n2kdec.specs.declared.fault.Reading.TheVariants as reading
+use Rattle.n2kdec.specs.declared.keeper.Unkept.{Unkept}
+use Rattle.n2kdec.specs.declared.keeper.Unkept.TheVariants.{Unfound, Failed}
 
 -- ---- what is wrong
 
--- what a fault of a table means
-abbrev pub table_words : TableFault → Text
-table_words table.NotToml = codes "it is no TOML, and so no table"
-table_words table.Format = codes "its format is missing, or none of 1, 2 and 3"
-table_words table.Key = codes "a key is missing, unknown or may not stand there, or its value is of another kind"
-table_words table.Range = codes "a number is out of range, or a field stands where it can't"
-table_words table.Text = codes "a text is empty, too long, or none of those that its key takes"
-table_words table.Twice = codes "a name or a value stands twice, or a field beside a repeat is named list"
-table_words table.Lookup = codes "a field names a lookup or a string that is not there"
-table_words table.Mixed = codes "two definitions of one PGN have different kinds"
-table_words table.TooMany = codes "it has too many definitions, fields, lookups or entries"
-table_words table.Memory = codes "there is no memory for it"
+-- the words that the system has for an error, where they are known
+abbrev pub SystemWords : Type 0
+SystemWords = Error → Option Text
 
--- what a fault of a state means
-abbrev pub state_words : StateFault → Text
-state_words state.NotJson = codes "it is no JSON, and so no state"
-state_words state.Format = codes "it is no state that this program saved"
-state_words state.Shape = codes "a member is missing or unknown, or its value is of another kind"
-state_words state.TableDiffers = codes "it was saved under another table"
-state_words state.Invalid = codes "no state has such numbers or groups"
-state_words state.Memory = codes "there is no memory for it"
-state_words state.WindowDiffers = codes "it was saved under another --window"
+-- the error that a fault has, of the call that failed
+abbrev pub error_of : Fault → Option Error
+error_of (TableFile why) = why
+error_of (StateFile why) = why
+error_of (Read lines why unkept) = why
+error_of (Write why) = why
+error_of (Save (Unfound error)) = Some error
+error_of (Save (Failed error)) = Some error
+error_of _ = None
 
--- what a fault means, where the system has no words for it
-abbrev pub fault_words : Fault → Text
-fault_words Words = codes "the words are refused"
-fault_words Interface = codes "an interface has a name of 1 to 15 of the characters from ! to ~"
-fault_words TableSize = codes "it has more than the 16777216 bytes of the longest table"
-fault_words StateSize = codes "it has more than the 16777216 bytes of the longest state"
-fault_words (Table fault) = table_words fault
-fault_words (State fault) = state_words fault
-fault_words TableFile = codes "it can't be read"
-fault_words StateFile = codes "it can't be read"
-fault_words Read = codes "it can't be read"
-fault_words Write = codes "it can't be written"
-fault_words Report = codes "it can't be written"
-fault_words Memory = codes "there is no memory for it"
-fault_words Lines = codes "it has more lines than are counted"
-fault_words Save = codes "the state can't be saved"
-
--- the words of the system for why a file fails, where it has any, else what the fault means
-abbrev pub words_of : Fault → Option Reason → Text
-words_of fault None = fault_words fault
-words_of fault (Some (System words)) = words
-words_of fault (Some (Unfound words)) = words
-words_of fault (Some Harm) = codes "this run reads it or prints to it, or to the new file beside it"
-
--- whether the system, or what keeps a state, may have a reason for a fault
-abbrev pub has_reason : Fault → Bool
-has_reason TableFile = true
-has_reason StateFile = true
-has_reason Read = true
-has_reason Write = true
-has_reason Save = true
-has_reason _ = false
-
--- ---- what to do
-
-abbrev pub table_advice : TableFault → Text
-table_advice table.Memory = []
-table_advice _ = codes "; n2kdec-table-check says in which line"
-
-abbrev pub state_advice : StateFault → Text
-state_advice state.Memory = []
-state_advice state.TableDiffers = codes "; decode with that one, or begin without --resume"
-state_advice state.WindowDiffers = codes "; decode with that one, or begin without --resume"
-state_advice _ = codes "; begin without --resume"
-
--- of a state that can't be saved
-abbrev pub save_advice : Option Reason → Text
-save_advice None = []
-save_advice (Some (System words)) = codes "; the log was decoded; the file has what it had, or the new state, unless it is written over in place"
-save_advice (Some (Unfound words)) = codes "; nothing was decoded"
-save_advice (Some Harm) = codes "; nothing was decoded: name another file for --save"
-
-abbrev pub advice_of : Fault → Option Reason → Text
-advice_of (Table fault) reason = table_advice fault
-advice_of (State fault) reason = state_advice fault
-advice_of Save reason = save_advice reason
-advice_of Write reason = codes "; the rest is not printed"
-advice_of Memory reason = codes "; nothing was saved"
-advice_of _ reason = []
+-- The words of the system for the error that a fault has. Which ones a fault without one has, no clause says.
+abbrev pub AreWords : SystemWords → Fault → Text → Type 0
+AreWords words fault text = IfSome (option_and_then words (error_of fault)) (λ known. text ≡ known)
 
 -- ---- what it is of
 
--- the log as it is called
-abbrev pub log_name : Option Text → Text
-log_name None = codes "standard input"
-log_name (Some name) = name
+-- the files of a command: the table, the state that it goes on from, its log as it is called, the state after it
+abbrev pub table_of : Option Command → Option Text
+table_of command = option_and_then (λ c. c.files.table) command
 
--- what was read when memory was refused, and else the words that were typed
-abbrev pub wanting : Files → Option Found → Option Text
-wanting files (Some (NoMemory reading.Table)) = files.table
-wanting files (Some (NoMemory reading.State)) = files.state
-wanting files (Some (NoMemory reading.Log)) = Some (log_name files.log)
-wanting files _ = Some (codes "the command line")
+abbrev pub state_of : Option Command → Option Text
+state_of command = option_and_then (λ c. c.files.state) command
+
+abbrev pub log_of : Option Command → Option Text
+log_of command = option_map (λ c. unwrap_or c.files.log (codes "standard input")) command
+
+abbrev pub save_of : Option Command → Option Text
+save_of command = option_and_then (λ c. save_name c.task) command
 
 -- The name that was typed, or that of a stream; none where nothing is said.
-abbrev pub subject_of : Files → Command → Fault → Option Found → Option Text
-subject_of files command Words found = None
-subject_of files command Interface found = Some (codes "--candump")
-subject_of files command TableSize found = files.table
-subject_of files command StateSize found = files.state
-subject_of files command (Table fault) found = files.table
-subject_of files command (State fault) found = files.state
-subject_of files command TableFile found = files.table
-subject_of files command StateFile found = files.state
-subject_of files command Read found = Some (log_name files.log)
-subject_of files command Write found = Some (codes "standard output")
-subject_of files command Report found = None
-subject_of files command Memory found = wanting files found
-subject_of files command Lines found = Some (log_name files.log)
-subject_of files command Save found = save_name command
+abbrev pub subject_of : Option Command → Fault → Option Text
+subject_of command Words = None
+subject_of command Interface = Some (codes "--candump")
+subject_of command TableSize = table_of command
+subject_of command StateSize = state_of command
+subject_of command (Table fault) = table_of command
+subject_of command (State fault of) = state_of command
+subject_of command (TableFile why) = table_of command
+subject_of command (StateFile why) = state_of command
+subject_of command (Read lines why unkept) = log_of command
+subject_of command (Write why) = Some (codes "standard output")
+subject_of command Report = None
+subject_of command (Memory None) = Some (codes "the command line")
+subject_of command (Memory (Some reading.Table)) = table_of command
+subject_of command (Memory (Some reading.State)) = state_of command
+subject_of command (Memory (Some reading.Log)) = log_of command
+subject_of command Lines = log_of command
+subject_of command (Save why) = save_of command
 
 -- ---- the line
 
@@ -158,26 +92,40 @@ some_lines_text lines = codes " (after line " ++ decimal lines ++ codes ")"
 abbrev pub lines_text : ℕ → Text
 lines_text lines = if lines == 0 then [] else some_lines_text lines
 
-abbrev pub found_text : Files → Option Found → Text
-found_text files None = []
-found_text files (Some (Tables saved table)) = tables_text saved (unwrap_or files.table []) table
-found_text files (Some (Windows saved window)) = windows_text saved window
-found_text files (Some (LinesTaken lines)) = lines_text lines
-found_text files (Some (NoMemory read)) = []
+abbrev pub cause_text : Option Command → Fault → Text
+cause_text command (State fault (Some (Tables saved id))) = tables_text saved (unwrap_or (table_of command) []) id
+cause_text command (State fault (Some (Windows saved window))) = windows_text saved window
+cause_text command (Read lines why unkept) = lines_text lines
+cause_text command _ = []
 
--- what is wrong with a subject, what was found out about it, and what to do
-abbrev pub told_of : Files → Text → Fault → Option Reason → Option Found → Text
-told_of files subject fault reason found =
-    named subject ++ codes ": " ++ words_of fault reason ++ found_text files found ++ advice_of fault reason
+-- what is wrong with a subject, what is known of that, and what to do
+abbrev pub told_of : Option Command → Text → Text → Fault → Text → Text
+told_of command subject words fault advice =
+    named subject ++ codes ": " ++ words ++ cause_text command fault ++ advice
 
 abbrev pub line_of : Text → List ℕ
 line_of text = codes "n2kdec: " ++ escaped false text ++ codes "\n"
 
--- what is said of a fault, for this reason and with what was found out; nothing where it is of no file
-abbrev pub fault_sentence : Files → Command → Fault → Option Reason → Option Found → List ℕ
-fault_sentence files command fault reason found =
-    unwrap_or (option_map (λ subject. line_of (told_of files subject fault reason found)) (subject_of files command fault found)) []
+-- this is said of a subject of a fault; of none nothing
+abbrev pub IsSaidOf : SystemWords → Option Text → Option Command → Fault → List ℕ → Type 0
+IsSaidOf system None command fault text = text ≡ []
+IsSaidOf system (Some subject) command fault text =
+    (words : Text) × (advice : Text) × AreWords system fault words × (text ≡ line_of (told_of command subject words fault advice))
 
--- this is the known reason, where both are there
-abbrev pub IsAsKnown : Option Reason → Option Reason → Type 0
-IsAsKnown known told = IfSome told (λ reason. IfSome known (λ is. reason ≡ is))
+-- the line of a fault; and of a failed read, behind which the state could not be kept, that of this
+abbrev pub IsLine : SystemWords → Option Command → Fault → List ℕ → Type 0
+IsLine system command fault text = IsSaidOf system (subject_of command fault) command fault text
+
+abbrev pub unkept_of : Fault → Option Unkept
+unkept_of (Read lines why unkept) = unkept
+unkept_of _ = None
+
+abbrev pub IsNextLine : SystemWords → Option Command → Option Unkept → List ℕ → Type 0
+IsNextLine system command None text = text ≡ []
+IsNextLine system command (Some why) text = IsLine system command (Save why) text
+
+-- the sentence of a fault
+abbrev pub IsSentence : SystemWords → Option Command → Fault → List ℕ → Type 0
+IsSentence system command fault text =
+    (line next : List ℕ) × IsLine system command fault line × IsNextLine system command (unkept_of fault) next
+    × (text ≡ line ++ next)

@@ -1,5 +1,5 @@
 -- Which states are kept, and why others are not.
-use Rattle.std.specs.Prelude.{◌≡◌, ◌&&◌, ◌||◌, List, ℕ, Bool, true, false, Option, Some, None, IfSome, codes, Result, Ok, Err}
+use Rattle.std.specs.Prelude.{◌≡◌, ◌⊎◌, ◌&&◌, ◌||◌, List, ℕ, Bool, true, false, Option, Some, None, IfSome, codes, Result, Ok, Err}
 use Rattle.std.specs.IoError.{error_kind}
 use Rattle.std.specs.declared.io.ErrorKind.{ErrorKind}
 use Rattle.clap.specs.Words.{Text}
@@ -12,9 +12,7 @@ use Rattle.n2kdec.specs.declared.destination.Destination.{Destination}
 use Rattle.n2kdec.specs.declared.destination.Kind.{Kind}
 use Rattle.n2kdec.specs.declared.destination.Kind.TheVariants.{Special}
 use Rattle.n2kdec.specs.declared.keeper.Unkept.{Unkept}
-use Rattle.n2kdec.specs.declared.keeper.Unkept.TheVariants.{Harm, Unfound, Memory, Failed}
-use Rattle.n2kdec.specs.declared.reason.Reason.{Reason}
-use Rattle.n2kdec.specs.declared.reason.Reason.TheVariants as told
+use Rattle.n2kdec.specs.declared.keeper.Unkept.TheVariants.{Harm, Unfound, Failed}
 
 -- ---- what would be harmed
 
@@ -51,39 +49,22 @@ harms a name files = do
   to ← destination a name
   Ok (harms_target a to files || harms_temp a to.temp files)
 
--- A run is admitted only where its state's place is found and nothing would be harmed there. It is refused as Harm only
--- where something would be harmed there, as Unfound only where the place can't be found out, by this error, and as Memory
--- only by an error of that kind.
+-- A state is admitted only where its place is found and nothing would be harmed there. It is refused as Harm only where
+-- something would be harmed there, and as Unfound only where the place can't be found out, by this error, or memory is
+-- refused.
 abbrev pub Admits : {T : Type 0} → Option Answers → Text → Files → Result T Unkept → Type 0
 Admits answers name files (Ok done) = IfSome answers (λ a. harms a name files ≡ Ok false)
 Admits answers name files (Err Harm) = IfSome answers (λ a. harms a name files ≡ Ok true)
-Admits answers name files (Err (Unfound error)) = IfSome answers (λ a. harms a name files ≡ Err (error_kind error))
-Admits answers name files (Err (Memory error)) = IsOfMemory error
+Admits answers name files (Err (Unfound error)) =
+    IfSome answers (λ a. harms a name files ≡ Err (error_kind error)) ⊎ IsOfMemory error
 Admits answers name files (Err (Failed error)) = ⊥
+
+-- what is answered whether a state of a name may be kept by a run of these files, where that is known
+abbrev pub Admission : Type 0
+Admission = Text → Files → Option (Result (Unit {0}) Unkept)
 
 -- a state is kept as a text is, and a failure is the error of that
 abbrev pub KeepsState : Option Answers → Acts → Acts → Text → List ℕ → Result (Unit {0}) Unkept → Type 0
 KeepsState answers old new name state (Ok kept) = KeepsText answers old new name state (Ok kept)
 KeepsState answers old new name state (Err (Failed error)) = KeepsText answers old new name state (Err error)
 KeepsState answers old new name state (Err _) = ⊥
-
--- ---- what is told
-
--- where a call failed, it is noted why
-abbrev pub IsNoted : {T E : Type 0} → Result T Unkept → Option Unkept → Result T E → Type 0
-IsNoted (Ok value) noted (Ok other) = other ≡ value
-IsNoted (Err why) noted (Err failed) = noted ≡ Some why
-IsNoted _ noted _ = ⊥
-
--- P holds of what a call answered, if that was an error of the one that is noted
-abbrev pub HoldsAsNoted : {T E : Type 0} → (Result T Unkept → Type 0) → Option Unkept → Result T E → Type 0
-HoldsAsNoted P noted (Ok value) = P (Ok value)
-HoldsAsNoted P noted (Err failed) = (why : Unkept) × (noted ≡ Some why) × P (Err why)
-
--- the reason that is told of each
-abbrev pub TellsOf : Unkept → Reason → Type 0
-TellsOf Harm told.Harm = Unit {0}
-TellsOf (Unfound error) (told.Unfound words) = Unit {0}
-TellsOf (Memory error) (told.Unfound words) = Unit {0}
-TellsOf (Failed error) (told.System words) = Unit {0}
-TellsOf _ _ = ⊥

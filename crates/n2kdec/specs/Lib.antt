@@ -6,7 +6,6 @@ pub mod Ending
 pub mod Escape
 pub mod Fault
 pub mod FaultSentence
-pub mod Found
 pub mod Folder
 pub mod Inner
 pub mod Keeper
@@ -14,7 +13,9 @@ pub mod Machine
 pub mod MemoryMachine
 pub mod Parser
 pub mod Reader
+pub mod Reason
 pub mod Replacement
+pub mod Told
 pub mod Usage
 pub mod Words
 pub mod Work

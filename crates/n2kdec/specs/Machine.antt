@@ -1,140 +1,89 @@
 -- What the program meets, and what comes of the words that were typed: the files that they name are read, their command
 -- is performed, its state is kept under the name that they have for it, and a fault is reported.
-use Rattle.std.specs.Prelude.{◌≡◌, ◌⊎◌, ◌<◌, ◌≤◌, ◌+◌, ◌++◌, ◌-◌, ◌^◌, ℕ, Bool, List, [], ◌∷◌, Option, Some, None}
-use Rattle.std.specs.Prelude.{IfSome, IsSome, MatchResult, Result, Ok, Err, length, option_and_then, true, false}
+use Rattle.std.specs.Prelude.{◌≡◌, ◌⊎◌, ◌<◌, ◌≤◌, ◌++◌, ℕ, Bool, List, [], ◌∷◌, Option, Some, None}
+use Rattle.std.specs.Prelude.{IfErr, IfSome, IsSome, MatchResult, Result, Ok, Err, length, true, false}
+use Rattle.std.specs.declared.io.Error.{Error}
 use Rattle.clap.specs.Words.{Text}
 use Rattle.n2k_run.specs.declared.device.Sink.{Ghosts as OfSink}
-use Rattle.n2k_run.specs.Device.{HasFailed}
+use Rattle.n2k_run.specs.Device.{IsWhy}
 use Rattle.n2k_run.specs.Runs.{Devices, devices}
-use Rattle.n2kdec.specs.Asked.{asked, save_name}
-use Rattle.n2kdec.specs.Commands.{IsCutOff, IsWritten, IsWrittenUnlessFailed, IsAdmitted, Kept, MayBeRefused}
-use Rattle.n2kdec.specs.Commands.{Performs, Place, place, shelf}
+use Rattle.n2kdec.specs.Asked.{IsAsked, IsOfWords, save_name}
+use Rattle.n2kdec.specs.Commands.{IsCutOff, IsWritten, IsWrittenUnlessFailed, Kept, Performs, Place, place, shelf}
 use Rattle.n2kdec.specs.Ending.{hint}
-use Rattle.n2kdec.specs.Fault.{IsBeforeLine, IsFaultMessage, longest_file, status_of}
-use Rattle.n2kdec.specs.FaultSentence.{IsAsKnown, fault_sentence, has_reason}
-use Rattle.n2kdec.specs.Found.{Finds, noted}
-use Rattle.n2kdec.specs.Parser.{Shown, said_of}
-use Rattle.n2kdec.specs.Words.{IsAskedBy, IsRefused}
+use Rattle.n2kdec.specs.Fault.{IsFaultMessage, longest_file, status_of, unopened, unread}
+use Rattle.n2kdec.specs.FaultSentence.{IsSentence, SystemWords}
+use Rattle.n2kdec.specs.Keeper.{Admission}
+use Rattle.n2kdec.specs.Replacement.{IsOfMemory}
+use Rattle.n2kdec.specs.Told.{Tells}
+use Rattle.n2kdec.specs.Parser.{Shown}
 use Rattle.n2kdec.specs.declared.asked.Request.{Request}
 use Rattle.n2kdec.specs.declared.asked.Request.TheVariants as to
 use Rattle.n2kdec.specs.declared.asked.Command.{Command}
-use Rattle.n2kdec.specs.declared.asked.Command.TheVariants.{Plain}
+use Rattle.n2kdec.specs.declared.asked.Task.{Task}
 use Rattle.n2kdec.specs.declared.asked.Files.{Files}
 use Rattle.n2kdec.specs.declared.ending.Ending.{Ending}
 use Rattle.n2kdec.specs.declared.fault.Fault.{Fault}
-use Rattle.n2kdec.specs.declared.fault.Fault.TheVariants.{Words as WordsFault, TableSize, TableFile, StateSize}
-use Rattle.n2kdec.specs.declared.fault.Fault.TheVariants.{StateFile, Read, Memory, Save, Write}
-use Rattle.n2kdec.specs.declared.found.Found.{Found}
-use Rattle.n2kdec.specs.declared.found.Reading.{Reading}
-use Rattle.n2kdec.specs.declared.found.Reading.TheVariants as reading
+use Rattle.n2kdec.specs.declared.fault.Fault.TheVariants.{TableSize, StateSize, Read, Memory, Save, Write}
+use Rattle.n2kdec.specs.declared.fault.Reading.{Reading}
+use Rattle.n2kdec.specs.declared.fault.Reading.TheVariants as reading
 use Rattle.n2kdec.specs.declared.keeper.Keeper.{Ghosts as OfKeeper}
+use Rattle.n2kdec.specs.declared.keeper.Unkept.{Unkept}
+use Rattle.n2kdec.specs.declared.machine.FileCall.{FileCall}
+use Rattle.n2kdec.specs.declared.machine.FileCall.TheVariants.{Opened, Closed}
 use Rattle.n2kdec.specs.declared.machine.Outlets.{Outlets}
-use Rattle.n2kdec.specs.declared.reason.Reason.{Reason}
-use Rattle.n2kdec.specs.declared.words.Words.{Words}
 
 -- ---- what the program meets
 
--- The words that were typed, the program's name first; the bytes of a file by its name; those of standard input;
--- whether standard error is a terminal; why the file of a name, or standard input, fails, and why the output does: each
--- where it is known.
+-- The words that were typed, the program's name first; the bytes of a file by its name; those of standard input; and
+-- whether standard error is a terminal: each where it is known.
 pub record World : Type 0 where
   pub typed : Option (List Text)
   pub file : Text → Option (List ℕ)
   pub input : Option (List ℕ)
   pub terminal : Option Bool
-  pub unread : Option Text → Option Reason
-  pub unwritten : Option Reason
 
 -- one of which nothing is known
 abbrev pub unknown_world : World
-unknown_world = record {
-  typed = None;
-  file = λ name. None;
-  input = None;
-  terminal = None;
-  unread = λ name. None;
-  unwritten = None;
-}
+unknown_world = record { typed = None; file = λ name. None; input = None; terminal = None }
 
 -- the bytes of the file that is named, or those of standard input
 abbrev pub bytes_named : World → Option Text → Option (List ℕ)
 bytes_named w None = w.input
 bytes_named w (Some name) = w.file name
 
--- How files were used: how many openings and reads failed; how many reads were made of the files that were closed; and
--- which were opened, or refused in it, the first one first and standard input without a name, where that is known. At
--- 2^64 - 1 a number stays.
-pub record FileUse : Type 0 where
-  pub failed : ℕ
-  pub reads : ℕ
-  pub opened : Option (List (Option Text))
+-- The calls by which files were opened and closed, the first one first, where they are known.
+abbrev pub Calls : Type 0
+Calls = Option (List FileCall)
 
--- these files more were opened, in this order
-abbrev pub Opens : FileUse → FileUse → List (Option Text) → Type 0
-Opens before after names = IfSome before.opened (λ had. after.opened ≡ Some (had ++ names))
+-- These more were made. What can't be noted leaves them unknown.
+abbrev pub Makes : List FileCall → Calls → Calls → Type 0
+Makes made None after = after ≡ None
+Makes made (Some had) None = Unit {0}
+Makes made (Some had) (Some all) = all ≡ had ++ made
 
--- one of this name can't be opened, or a read of it failed; standard input is not refused
-abbrev pub IsUnreadable : Option Text → FileUse → FileUse → Type 0
-IsUnreadable name before after = IsSome name × HasFailed before.failed after.failed
+-- a file of this name is opened, or is not, by this error: standard input for want of memory alone
+abbrev pub Opens : {T : Type 0} → Option Text → Calls → Calls → Result T Error → Type 0
+Opens name before after (Ok file) = Makes (Opened name None ∷ []) before after
+Opens name before after (Err error) = (IsSome name ⊎ IsOfMemory error) × Makes (Opened name (Some error) ∷ []) before after
 
--- Why none of this name is opened: memory, which may be refused before it is looked for; or the fault of one that
--- can't be.
-abbrev pub IsUnopened : Option Text → Fault → FileUse → FileUse → Fault → Type 0
-IsUnopened name refused before after fault =
-    ((fault ≡ Memory) × (after.failed ≡ before.failed) × (Opens before after [] ⊎ Opens before after (name ∷ [])))
-    ⊎ ((fault ≡ refused) × IsUnreadable name before after × Opens before after (name ∷ []))
-
--- an opening, which is counted as failed where the file can't be had, and then alone
-pub record OpensFile {T : Type 0} (name : Option Text) (refused : Fault) (before after : FileUse)
-    (result : Result T Fault) : Type 0 where
-  pub no_read : after.reads ≡ before.reads
-  pub answer : MatchResult result (λ file. (after.failed ≡ before.failed) × Opens before after (name ∷ []))
-      (IsUnopened name refused before after)
-
--- so many failed calls more are counted
-abbrev pub AddsFailures : ℕ → ℕ → ℕ → Type 0
-AddsFailures before after more = (more ≡ 0 → after ≡ before) × (0 < more → HasFailed before after)
-
--- so many calls more are counted; at 2^64 - 1 the number stays
-abbrev pub AddsCalls : ℕ → ℕ → ℕ → Type 0
-AddsCalls before after more =
-    (after < 2 ^ 64 - 1 → after ≡ before + more) × (before + more < 2 ^ 64 - 1 → after < 2 ^ 64 - 1)
-
--- a file is closed, of which so many calls were made, and so many failed
-pub record ClosesFile (calls failed : ℕ) (before after : FileUse) : Type 0 where
-  pub counted : AddsFailures before.failed after.failed failed
-  pub called : AddsCalls before.reads after.reads calls
-  pub none_opened : after.opened ≡ before.opened
-
--- at least so many more are, unless the number stands at 2^64 - 1
-abbrev pub HasCalled : ℕ → ℕ → ℕ → Type 0
-HasCalled before after calls = after < 2 ^ 64 - 1 → before + calls ≤ after
-
--- What the program changes: the output, the errors, and what was kept under which name, with how many times a text could
--- not be kept and how many times a state was not admitted; how files were used; and what is found out about a fault.
--- Which states may be kept, and why one is not, where that is known, it does not change.
+-- What the program changes: the output, and why its last call that failed did; the errors; what was to be kept; and the
+-- calls of files. Which states may be kept, where that is known, it does not change.
 pub record Outside : Type 0 where
   pub output : Place
+  pub unwritten : Option Error
   pub errors : Place
   pub kept : Option (List Kept)
-  pub failed_keeps : ℕ
-  pub failed_admissions : ℕ
-  pub files : FileUse
-  pub admits : Text → Files → Option Bool
-  pub unkept : Text → Option Reason
-  pub found : Option Found
+  pub calls : Calls
+  pub admits : Admission
 
-abbrev pub outside : {W E K : Type 0} → OfSink W → OfSink E → OfKeeper K → FileUse → Outlets W E K → Outside
-outside w e k files outlets = record {
+abbrev pub outside : {W E K : Type 0} → OfSink W → (W → Option Error) → OfSink E → OfKeeper K → Calls → Outlets W E K → Outside
+outside w why e k calls outlets = record {
   output = place (w.contents outlets.output) (w.failed_calls outlets.output);
+  unwritten = why outlets.output;
   errors = place (e.contents outlets.errors) (e.failed_calls outlets.errors);
   kept = k.kept outlets.keeper;
-  failed_keeps = k.failed_keeps outlets.keeper;
-  failed_admissions = k.failed_admissions outlets.keeper;
-  files = files;
+  calls = calls;
   admits = k.admits;
-  unkept = k.unkept;
-  found = outlets.found;
 }
 
 -- ---- the files of a command
@@ -150,73 +99,35 @@ abbrev pub table_bytes : Option (List ℕ) → List ℕ
 table_bytes None = []
 table_bytes (Some bytes) = bytes
 
--- a file, where one is named
-abbrev pub if_named : Option Text → List (Option Text)
-if_named None = []
-if_named (Some name) = Some name ∷ []
+-- a file was opened and closed again, and no call of it failed
+abbrev pub IsTaken : Text → List FileCall → Type 0
+IsTaken name made = (reads : ℕ) × (made ≡ Opened (Some name) None ∷ Closed reads None ∷ [])
 
--- The files that are opened before the log, and all that are: the table's, the state's, and then the log's or standard
--- input, each once.
-abbrev pub files_before_log : Files → List (Option Text)
-files_before_log files = if_named files.table ++ if_named files.state
+-- so it was whole, where one is named, and it has not too many bytes, where they are known
+abbrev pub IsRead : World → Option Text → List FileCall → Type 0
+IsRead w None made = made ≡ []
+IsRead w (Some name) made = IfSome (w.file name) (λ bytes. length bytes ≤ longest_file) × IsTaken name made
 
-abbrev pub all_files : Files → List (Option Text)
-all_files files = files_before_log files ++ files.log ∷ []
+-- what is told of a file that has too many
+abbrev pub too_large : Reading → Option Fault
+too_large reading.Table = Some TableSize
+too_large reading.State = Some StateSize
+too_large reading.Log = None
 
--- a file is named, which has too many bytes where they are known
-abbrev pub IsTooLarge : World → Option Text → Type 0
-IsTooLarge w None = ⊥
-IsTooLarge w (Some name) = IfSome (w.file name) (λ bytes. longest_file < length bytes)
+-- Why a file that is named is not read whole: it has too many bytes, where they are known; it is not opened, or the last
+-- read of it that failed did, by this error; or memory was refused.
+abbrev pub IsUnread : World → Option Text → Reading → Fault → List FileCall → Type 0
+IsUnread w None read fault made = ⊥
+IsUnread w (Some name) read fault made =
+    ((too_large read ≡ Some fault) × IfSome (w.file name) (λ bytes. longest_file < length bytes) × IsTaken name made)
+    ⊎ ((error : Error) × (fault ≡ unopened read error) × (made ≡ Opened (Some name) (Some error) ∷ []))
+    ⊎ ((error : Error) × (fault ≡ unread read (Some error)) × ((reads : ℕ) × (made ≡ Opened (Some name) None ∷ Closed reads (Some error) ∷ [])))
+    ⊎ ((fault ≡ Memory (Some read)) × IsTaken name made)
 
--- the bytes of a file that is named and known are not more than a file that is read whole may have
-abbrev pub IsReadable : World → Option Text → Type 0
-IsReadable w None = Unit {0}
-IsReadable w (Some name) = IfSome (w.file name) (λ bytes. length bytes ≤ longest_file)
-
--- why a file is not read whole: it is too large, it is not opened, or a read of it failed
-abbrev pub IsUnreadFile : World → Option Text → Fault → Fault → FileUse → FileUse → Fault → Type 0
-IsUnreadFile w name too_large unread before after fault =
-    ((fault ≡ too_large) × IsTooLarge w name × (after.failed ≡ before.failed) × Opens before after (name ∷ []))
-    ⊎ IsUnopened name unread before after fault
-
--- it is read whole and closed, where one is named, or not, for these faults
-pub record ReadsFile {T : Type 0} (w : World) (name : Option Text) (too_large unread : Fault) (before after : FileUse)
-    (result : Result T Fault) : Type 0 where
-  pub called : HasCalled before.reads after.reads 0
-  pub answer : MatchResult result
-      (λ read. IsReadable w name × (after.failed ≡ before.failed) × Opens before after (if_named name))
-      (λ fault. IsSome name × IsUnreadFile w name too_large unread before after fault)
-
--- the files that are opened before one is read, and with it
-abbrev pub files_before : Files → Reading → List (Option Text)
-files_before files reading.Table = []
-files_before files reading.State = if_named files.table
-files_before files reading.Log = files_before_log files
-
-abbrev pub files_with : Files → Reading → List (Option Text)
-files_with files reading.Table = if_named files.table
-files_with files reading.State = files_before_log files
-files_with files reading.Log = all_files files
-
--- The fault of a file that is read, and the files that were opened until then: the table's, the state's, the log's.
--- Memory may be refused before it is looked for.
-abbrev pub IsUnread : World → Files → Reading → FileUse → FileUse → Fault → Type 0
-IsUnread w files read before after TableSize =
-    IsTooLarge w files.table × (after.failed ≡ before.failed) × Opens before after (if_named files.table)
-IsUnread w files read before after TableFile =
-    IsUnreadable files.table before after × Opens before after (if_named files.table)
-IsUnread w files read before after StateSize =
-    IsReadable w files.table × IsTooLarge w files.state × (after.failed ≡ before.failed)
-    × Opens before after (files_before_log files)
-IsUnread w files read before after StateFile =
-    IsReadable w files.table × IsUnreadable files.state before after × Opens before after (files_before_log files)
-IsUnread w files read before after Read =
-    IsReadable w files.table × IsReadable w files.state × IsUnreadable files.log before after
-    × Opens before after (all_files files)
-IsUnread w files read before after Memory =
-    (after.failed ≡ before.failed)
-    × (Opens before after (files_before files read) ⊎ Opens before after (files_with files read))
-IsUnread w files read before after _ = ⊥
+-- the one or the other
+abbrev pub ReadsFile : {T : Type 0} → World → Option Text → Reading → Result T Fault → List FileCall → Type 0
+ReadsFile w name read (Ok bytes) made = IsRead w name made
+ReadsFile w name read (Err fault) made = IsUnread w name read fault made
 
 -- ---- a command
 
@@ -230,66 +141,88 @@ pub record LogAfter : Type 0 where
 abbrev pub with_log : Option (List ℕ) → ℕ → ℕ → Outside → Devices
 with_log left calls failed o = devices left calls failed o.output.text o.output.failed o.errors.text o.errors.failed
 
--- The command is performed by these bytes of a table and of a state, over a log with these bytes. The calls of the log
--- are counted, and the failed ones, so that Read is reported of no log of which neither a read failed nor as many reads
--- were made as a run makes at most.
-pub record IsPerformedOver (command : Command) (table : List ℕ) (handed left : Option (List ℕ)) (before after : Outside)
-    (result : Result Ending Fault) : Type 0 where
-  pub log : LogAfter
-  pub counted : AddsFailures before.files.failed after.files.failed log.failed
-  pub called : HasCalled before.files.reads after.files.reads log.calls
-  pub performs : Performs command table handed (with_log left 0 0 before)
-      (with_log log.left log.calls log.failed after)
-      (shelf (save_name command) before.kept before.failed_keeps)
-      (shelf (save_name command) after.kept after.failed_keeps) result
-  pub finds : Finds command table handed left log.left result after.found
+-- The command is performed by these bytes of a table and of a state, over a log with these bytes.
+pub record IsPerformedOver (task : Task) (table : List ℕ) (handed left : Option (List ℕ)) (log : LogAfter)
+    (before after : Outside) (result : Result Ending Fault) : Type 0 where
+  pub performs : Performs task table handed (with_log left 0 0 before) (with_log log.left log.calls log.failed after)
+      (shelf (save_name task) before.kept) (shelf (save_name task) after.kept) result
+  pub told : IfErr result (Tells task table handed left log.left)
 
--- the state may be kept under the name that the command has for it, if any, by a run of these files
-abbrev pub IsStateAdmitted : (Text → Files → Option Bool) → Files → Command → Type 0
-IsStateAdmitted admits files command = IfSome (save_name command) (λ name. IsAdmitted admits name files)
+-- A command's answer, where the fault of its log has why the last read of that failed, and the fault of its output why
+-- the last write did.
+abbrev pub explained : Option Error → Option Error → Result Ending Fault → Result Ending Fault
+explained unread unwritten (Err (Read lines why unkept)) = Err (Read lines unread unkept)
+explained unread unwritten (Err (Write why)) = Err (Write unwritten)
+explained unread unwritten answer = answer
 
--- the command has a name for its state, under which it may be refused
-abbrev pub IsStateRefused : (Text → Files → Option Bool) → Files → Command → Type 0
-IsStateRefused admits files command =
-    IsSome (save_name command) × IfSome (save_name command) (λ name. MayBeRefused admits name files)
+-- what is answered of the state of a command by a run of its files, if it has a name for one, where that is known
+abbrev pub IsAdmittedSo : Admission → Command → Result (Unit {0}) Unkept → Type 0
+IsAdmittedSo admits command answer =
+    IfSome (save_name command.task) (λ name. IfSome (admits name command.files) (λ known. answer ≡ known))
 
--- The command is performed by the bytes of its files, over its log, and its state is kept under the name that it has
--- for it, which was admitted; none other was refused.
-pub record IsPerformed (w : World) (files : Files) (command : Command) (before after : Outside)
-    (result : Result Ending Fault) : Type 0 where
-  pub admitted : IsStateAdmitted before.admits files command
-  pub opened : Opens before.files after.files (all_files files)
-  pub table : Option (List ℕ)
-  pub is_table : IsOfFile w files.table table
-  pub handed : Option (List ℕ)
-  pub is_state : IsOfFile w files.state handed
-  pub over : IsPerformedOver command (table_bytes table) handed (bytes_named w files.log) before after result
-  pub none_refused : after.failed_admissions ≡ before.failed_admissions
-
--- The state can't be kept under the name that the command has for it, since that would harm a file that is read: what
--- keeps a state counts that it has not admitted one, and all else is as it was.
-pub record IsNotAdmitted (files : Files) (command : Command) (before after : Outside) (fault : Fault) : Type 0 where
-  pub refused : IsStateRefused before.admits files command
-  pub save : fault ≡ Save
-  pub failed : HasFailed before.failed_admissions after.failed_admissions
-  pub else_same : after ≡ record before { failed_admissions = after.failed_admissions }
-
--- It is not begun, though its state is admitted, since a file is not read, which is noted where memory was refused; and
--- nothing is printed or kept.
-pub record IsNotBegun (w : World) (files : Files) (command : Command) (before after : Outside) (fault : Fault)
+-- The command is performed by the bytes of its files, each of which was read and closed before the next was opened, over
+-- its log, and its state is kept under the name that it has for it, which was admitted. Of its log and of its output the
+-- fault has the error of the last call that failed.
+pub record IsPerformed (w : World) (command : Command) (before after : Outside) (result : Result Ending Fault)
     : Type 0 where
+  pub admitted : IsAdmittedSo before.admits command (Ok tt)
+  pub table : Option (List ℕ)
+  pub is_table : IsOfFile w command.files.table table
+  pub of_table : List FileCall
+  pub table_read : IsRead w command.files.table of_table
+  pub handed : Option (List ℕ)
+  pub is_state : IsOfFile w command.files.state handed
+  pub of_state : List FileCall
+  pub state_read : IsRead w command.files.state of_state
+  pub log : LogAfter
+  pub why : Option Error
+  pub is_why : IsWhy log.failed why
+  pub calls : Makes (of_table ++ of_state ++ Opened command.files.log None ∷ Closed log.calls why ∷ []) before.calls after.calls
+  pub ended : Result Ending Fault
+  pub over : IsPerformedOver command.task (table_bytes table) handed (bytes_named w command.files.log) log before after ended
+  pub told : result ≡ explained why after.unwritten ended
+
+-- The state may not be kept under the name that the command has for it, for this, and all is as it was.
+abbrev pub IsNotAdmitted : Command → Outside → Outside → Fault → Type 0
+IsNotAdmitted command before after fault =
+    (why : Unkept) × (fault ≡ Save why) × IsSome (save_name command.task)
+    × IsAdmittedSo before.admits command (Err why) × (after ≡ before)
+
+-- the files that are read before one, with these calls
+abbrev pub IsReadBefore : World → Files → Reading → List FileCall → Type 0
+IsReadBefore w files reading.Table made = made ≡ []
+IsReadBefore w files reading.State made = IsRead w files.table made
+IsReadBefore w files reading.Log made =
+    (of_table of_state : List FileCall) × IsRead w files.table of_table × IsRead w files.state of_state
+    × (made ≡ of_table ++ of_state)
+
+-- why one is not, and with which calls: the log is only to be opened
+abbrev pub IsNotRead : World → Files → Reading → Fault → List FileCall → Type 0
+IsNotRead w files reading.Table fault made = IsUnread w files.table reading.Table fault made
+IsNotRead w files reading.State fault made = IsUnread w files.state reading.State fault made
+IsNotRead w files reading.Log fault made =
+    (error : Error) × (IsSome files.log ⊎ IsOfMemory error) × (fault ≡ unopened reading.Log error)
+    × (made ≡ Opened files.log (Some error) ∷ [])
+
+-- It is not begun, though its state is admitted, since a file is not read, and those before it are; and nothing is
+-- printed or kept.
+pub record IsNotBegun (w : World) (command : Command) (before after : Outside) (fault : Fault) : Type 0 where
   pub read : Reading
-  pub admitted : IsStateAdmitted before.admits files command
-  pub unread : IsUnread w files read before.files after.files fault
-  pub else_same : after ≡ record before { files = after.files; found = noted fault read before.found }
+  pub admitted : IsAdmittedSo before.admits command (Ok tt)
+  pub first : List FileCall
+  pub before_it : IsReadBefore w command.files read first
+  pub last : List FileCall
+  pub unread : IsNotRead w command.files read fault last
+  pub calls : Makes (first ++ last) before.calls after.calls
+  pub else_same : after ≡ record before { calls = after.calls }
 
 -- it is performed; or not begun; or its state is not admitted
-abbrev pub RunsCommand : World → Files → Command → Outside → Outside → Result Ending Fault → Type 0
-RunsCommand w files command before after (Ok ending) = IsPerformed w files command before after (Ok ending)
-RunsCommand w files command before after (Err fault) =
-    IsPerformed w files command before after (Err fault)
-    ⊎ IsNotBegun w files command before after fault
-    ⊎ IsNotAdmitted files command before after fault
+abbrev pub RunsCommand : World → Command → Outside → Outside → Result Ending Fault → Type 0
+RunsCommand w command before after (Ok ending) = IsPerformed w command before after (Ok ending)
+RunsCommand w command before after (Err fault) =
+    IsPerformed w command before after (Err fault)
+    ⊎ IsNotBegun w command before after fault
+    ⊎ IsNotAdmitted command before after fault
 
 -- ---- from the words that were typed to the status
 
@@ -297,89 +230,52 @@ RunsCommand w files command before after (Err fault) =
 abbrev pub ending_of_text : Ending
 ending_of_text = record { status = 0; has_other_form = false }
 
--- the text of the help or of the version is printed
-abbrev pub Shows : Text → Place → Place → Result Ending Fault → Type 0
-Shows text before after result = MatchResult result
+-- the text of the help or of the version is printed, or can't be for this
+abbrev pub Shows : Text → Place → Place → Option Error → Result Ending Fault → Type 0
+Shows text before after why result = MatchResult result
     (λ ending. (ending ≡ ending_of_text) × IsWritten before after text)
-    (λ fault. (fault ≡ Write) × IsCutOff before after text)
+    (λ fault. (fault ≡ Write why) × IsCutOff before after text)
 
--- What words ask for is done. An interface that is none is told before any file is opened.
-abbrev pub DoesAsked : World → Result Request Fault → Outside → Outside → Result Ending Fault → Type 0
-DoesAsked w (Ok (to.Help text)) before after result =
-    Shows text before.output after.output result × (after ≡ record before { output = after.output })
-DoesAsked w (Ok (to.Command files command)) before after result = RunsCommand w files command before after result
-DoesAsked w (Err fault) before after result = (result ≡ Err fault) × (after ≡ before)
+-- What is asked for is done. Where that is refused, as an interface that is none is, all is as it was.
+abbrev pub DoesAsked : World → Request → Outside → Outside → Result Ending Fault → Type 0
+DoesAsked w (to.Help text) before after result =
+    Shows text before.output after.output after.unwritten result
+    × (after ≡ record before { output = after.output; unwritten = after.unwritten })
+DoesAsked w (to.Command command) before after result = RunsCommand w command before after result
+DoesAsked w (to.Refused fault lines) before after result = (result ≡ Err fault) × (after ≡ before)
 
--- what was typed asks for these words
-abbrev pub AsksFor : Shown → World → Words → Type 0
-AsksFor shown w words = IfSome w.typed (λ typed. IsAskedBy shown typed words)
-
--- why no words come of what was typed
-abbrev pub IsUnasked : World → Fault → Type 0
-IsUnasked w WordsFault = IfSome w.typed IsRefused
-IsUnasked w Memory = Unit {0}
-IsUnasked w _ = ⊥
-
--- what was typed is done; or it is refused, and all is as it was
-abbrev pub DoesTyped : Shown → World → Outside → Outside → Result Ending Fault → Type 0
-DoesTyped shown w before after result =
-    ((words : Words) × AsksFor shown w words × DoesAsked w (asked words) before after result)
-    ⊎ ((fault : Fault) × (result ≡ Err fault) × IsUnasked w fault × (after ≡ before))
+-- what was typed asks for this
+abbrev pub AsksFor : Shown → World → Request → Type 0
+AsksFor shown w request = IsOfWords request × IfSome w.typed (IsAsked shown request)
 
 -- this is whether standard error is a terminal
 abbrev pub IsTerminal : World → Bool → Type 0
 IsTerminal w is_terminal = IfSome w.terminal (λ known. is_terminal ≡ known)
 
--- the files and the command that were asked for; none, and `plain`, where a text was, or nothing that can be done
-abbrev pub no_files : Files
-no_files = record { table = None; state = None; log = None }
+-- the command that was asked for, if one was
+abbrev pub command_of : Request → Option Command
+command_of (to.Command command) = Some command
+command_of _ = None
 
-abbrev pub files_of : Result Request Fault → Files
-files_of (Ok (to.Command files command)) = files
-files_of _ = no_files
+-- what is said of a fault: the lines that are said of refused words, else its sentence
+abbrev pub IsToldOf : SystemWords → Request → Fault → List ℕ → Type 0
+IsToldOf words (to.Refused refused (Some lines)) fault text = text ≡ lines.items
+IsToldOf words request fault text = IsSentence words (command_of request) fault text
 
-abbrev pub command_of : Result Request Fault → Command
-command_of (Ok (to.Command files command)) = command
-command_of _ = Plain
-
--- The reason of a fault, where it is known: of a file that can't be read why that one fails and no other, of the output
--- why that does, of a state why it is not kept.
-abbrev pub reason_of : World → (Text → Option Reason) → Files → Command → Fault → Option Reason
-reason_of w unkept files command TableFile = w.unread files.table
-reason_of w unkept files command StateFile = w.unread files.state
-reason_of w unkept files command Read = w.unread files.log
-reason_of w unkept files command Write = w.unwritten
-reason_of w unkept files command Save = option_and_then unkept (save_name command)
-reason_of w unkept files command _ = None
-
--- that reason, or none; other faults have none
-abbrev pub HasReason : World → (Text → Option Reason) → Files → Command → Fault → Option Reason → Type 0
-HasReason w unkept files command fault reason =
-    IsAsKnown (reason_of w unkept files command fault) reason × (has_reason fault ≡ false → reason ≡ None)
-
--- the sentence of a fault, by the names that were typed, for its reason and with what was found out
-abbrev pub IsSentenceOf : Shown → World → (Text → Option Reason) → Option Found → Fault → List ℕ → Type 0
-IsSentenceOf shown w unkept found fault text =
-    (words : Words) × AsksFor shown w words
-    × ((reason : Option Reason) × HasReason w unkept (files_of (asked words)) (command_of (asked words)) fault reason
-    × (text ≡ fault_sentence (files_of (asked words)) (command_of (asked words)) fault reason found))
-
--- This may stand before the line of a fault: on a terminal what is said of what was typed, where the words are refused,
--- and else the sentence of the fault; off it nothing.
-abbrev pub StandsBefore : Shown → World → (Text → Option Reason) → Option Found → Fault → List ℕ → Type 0
-StandsBefore shown w unkept found fault text =
+-- This may stand before the line of a fault: on a terminal what is said of it; off it nothing.
+abbrev pub StandsBefore : World → SystemWords → Request → Fault → List ℕ → Type 0
+StandsBefore w words request fault text =
     (is_terminal : Bool) × IsTerminal w is_terminal
-    × (IsBeforeLine (option_and_then (said_of shown) w.typed) is_terminal fault text
-    ⊎ ((is_terminal ≡ true) × IsSentenceOf shown w unkept found fault text))
+    × ((text ≡ []) ⊎ ((is_terminal ≡ true) × IsToldOf words request fault text))
 
 -- what is said of a fault is written behind this text, whole unless the place fails
 abbrev pub WritesFault : List ℕ → Fault → Place → Place → Type 0
 WritesFault stood fault before after =
     (text : List ℕ) × IsFaultMessage stood fault text × IsWrittenUnlessFailed before after text
 
-abbrev pub ReportsFault : Shown → World → (Text → Option Reason) → Option Found → Fault → Place → Place → Type 0
-ReportsFault shown w unkept found fault before after =
-    (stood : List ℕ) × StandsBefore shown w unkept found fault stood × WritesFault stood fault before after
+abbrev pub ReportsFault : World → SystemWords → Request → Fault → Place → Place → Type 0
+ReportsFault w words request fault before after =
+    (stood : List ℕ) × StandsBefore w words request fault stood × WritesFault stood fault before after
 
 -- On a terminal it is said behind all that a log has another form, unless the place fails; off it nothing is.
 abbrev pub HintsOn : Bool → Place → Place → Type 0
@@ -395,17 +291,24 @@ Hints w true before after = HintsOnTerminal w before after
 Hints w false before after = after ≡ before
 
 -- the status of a result, and what is said of it
-abbrev pub Concludes : Shown → World → Result Ending Fault → Outside → Outside → ℕ → Type 0
-Concludes shown w (Ok ending) before after status =
+abbrev pub Concludes : World → SystemWords → Request → Result Ending Fault → Outside → Outside → ℕ → Type 0
+Concludes w words request (Ok ending) before after status =
     (status ≡ ending.status) × Hints w ending.has_other_form before.errors after.errors
     × (after ≡ record before { errors = after.errors })
-Concludes shown w (Err fault) before after status =
-    (status ≡ status_of fault) × ReportsFault shown w before.unkept before.found fault before.errors after.errors
+Concludes w words request (Err fault) before after status =
+    (status ≡ status_of fault) × ReportsFault w words request fault before.errors after.errors
     × (after ≡ record before { errors = after.errors })
 
--- The program: what was typed is done, and the status is that of it.
-pub record RunsTyped (shown : Shown) (w : World) (before after : Outside) (status : ℕ) : Type 0 where
+-- what is asked for is done, and the status is that of it
+pub record RunsRequest (w : World) (words : SystemWords) (request : Request) (before after : Outside) (status : ℕ)
+    : Type 0 where
   pub result : Result Ending Fault
   pub done : Outside
-  pub does : DoesTyped shown w before done result
-  pub concludes : Concludes shown w result done after status
+  pub does : DoesAsked w request before done result
+  pub concludes : Concludes w words request result done after status
+
+-- The program: what was typed is done.
+pub record RunsTyped (shown : Shown) (w : World) (words : SystemWords) (before after : Outside) (status : ℕ) : Type 0 where
+  pub request : Request
+  pub asks : AsksFor shown w request
+  pub runs : RunsRequest w words request before after status

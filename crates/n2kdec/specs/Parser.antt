@@ -5,6 +5,7 @@ use Rattle.clap.specs.Words.{IsAmong, Kinds, Text, fault_of, subcommand_of, subc
 use Rattle.clap.specs.declared.error.kind.ErrorKind.{ErrorKind}
 use Rattle.clap.specs.declared.error.kind.ErrorKind.TheVariants.{OutOfMemory}
 use Rattle.clap.specs.declared.parser.matches.ArgMatches.{ArgMatches}
+use Rattle.n2kdec.specs.declared.command_line.TheConstants.{NO_WINDOW}
 use Rattle.n2kdec.specs.Escape.{escaped}
 use Rattle.n2kdec.specs.Usage.{program_app}
 
@@ -25,7 +26,7 @@ IsRefusal shown words kind text =
 
 -- said of words without a fault, where they are refused all the same
 abbrev pub no_window : Text
-no_window = codes "error: a window is a number of lines from 32 to 1000000\n\nFor more information, try '--help'."
+no_window = NO_WINDOW.now
 
 abbrev pub said_at : Kinds → Option Text → Option Text
 said_at [] text = Some no_window

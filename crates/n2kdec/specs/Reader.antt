@@ -1,9 +1,8 @@
--- What a file or standard input has left.
-use Rattle.std.specs.Prelude.{ℕ, List, Option}
-use Rattle.n2kdec.specs.declared.reader.Origin.{Origin}
-use Rattle.n2kdec.specs.declared.reader.Origin.TheVariants.{File, Input}
+-- What is known of a file or of standard input.
+use Rattle.n2kdec.specs.declared.reader.Reader.{Reader}
+use Rattle.n2kdec.specs.declared.reader.Reader.TheVariants.{File, Input}
 
--- the bytes that the one or the other has left, where they are known
-abbrev pub left_of : {F I : Type 0} → (F → Option (List ℕ)) → (I → Option (List ℕ)) → Origin F I → Option (List ℕ)
-left_of of_file of_input (File file) = of_file file
-left_of of_file of_input (Input input) = of_input input
+-- what is known of the one or of the other
+abbrev pub of_either : {F I T : Type 0} → (F → T) → (I → T) → Reader F I → T
+of_either of_file of_input (File file) = of_file file
+of_either of_file of_input (Input input) = of_input input

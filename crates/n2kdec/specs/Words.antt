@@ -1,21 +1,25 @@
--- What the words of a command line ask for, by the command's definition and `clap`'s reading of it.
-use Rattle.std.specs.Prelude.{◌≡◌, ◌≢◌, ◌⊎◌, ◌&&◌, ◌++◌, nat_le, ℕ, List, [], Bool, false, Option, Some, None, IfSome, Result}
-use Rattle.std.specs.Prelude.{Ok, Err, if◌then◌else◌, codes, option_and_then, option_map}
+-- What the words of a command line name, by the command's definition and `clap`'s reading of it.
+use Rattle.std.specs.Prelude.{◌≡◌, ◌&&◌, ◌++◌, nat_le, ℕ, List, Bool, false, Option, Some, None, Result, Ok, Err}
+use Rattle.std.specs.Prelude.{if◌then◌else◌, codes, option_map}
 use Rattle.std.specs.Char.{is_ascii_digit}
 use Rattle.std.specs.List.{list_all}
 use Rattle.std.specs.Option.{option_map_or}
 use Rattle.std.specs.Str.{bytes_eq}
 use Rattle.std.specs.Str.Parse.{digits_value}
-use Rattle.clap.specs.Words.{IsAmong, Row, Text, fault_of, first_of, subcommand_of}
-use Rattle.clap.specs.declared.error.kind.ErrorKind.{ErrorKind}
-use Rattle.clap.specs.declared.error.kind.ErrorKind.TheVariants.{DisplayHelp, DisplayVersion}
+use Rattle.clap.specs.Words.{Row, Text, first_of, subcommand_of}
 use Rattle.n2k_join.specs.Window.{Window, shortest_window, longest_window}
+use Rattle.n2k_run.specs.declared.options.Options.{Options}
+use Rattle.n2k_wire.specs.Candump.{is_interface}
+use Rattle.n2k_wire.specs.declared.entry.Packing.{Packing}
+use Rattle.n2k_wire.specs.declared.entry.Packing.TheVariants as packed
+use Rattle.n2kdec.specs.declared.asked.Command.{Command}
+use Rattle.n2kdec.specs.declared.asked.Request.{Request}
+use Rattle.n2kdec.specs.declared.asked.Request.TheVariants as to
+use Rattle.n2kdec.specs.declared.asked.Task.{Task}
+use Rattle.n2kdec.specs.declared.asked.Task.TheVariants.{Plain, Decode, Frames}
 use Rattle.n2kdec.specs.declared.usage.TheConstants.{VERSION}
 use Rattle.n2kdec.specs.declared.fault.Fault.{Fault}
-use Rattle.n2kdec.specs.declared.fault.Fault.TheVariants as fault
-use Rattle.n2kdec.specs.declared.words.Words.{Words}
-use Rattle.n2kdec.specs.declared.words.Words.TheVariants.{Plain, Decode, Frames, Help}
-use Rattle.n2kdec.specs.Parser.{Shown}
+use Rattle.n2kdec.specs.declared.fault.Fault.TheVariants.{Interface, Memory, Words}
 use Rattle.n2kdec.specs.Usage.{program_app}
 
 -- whether a flag is among the words: `clap` gives it the value `true` then
@@ -43,62 +47,64 @@ window_of rows =
     option_map (λ lines. record { lines = lines; in_order = flag_of (codes "in-order") rows })
     (lines_by (first_of (codes "window") rows))
 
--- the values of a subcommand's words; `decode` and `frames` have a table
-abbrev pub plain_words : List Row → Option Words
-plain_words rows = Some (Plain (first_of (codes "log") rows))
+-- how lines are packed with `--whole`, or without
+abbrev pub packing_of : Bool → Packing
+packing_of whole = if whole then packed.Whole else packed.Frames
 
-abbrev pub decode_words : List Row → Option Words
-decode_words rows = option_and_then
-    (λ table. option_map
-    (λ window. Decode table (first_of (codes "resume") rows) (first_of (codes "save") rows)
-    (flag_of (codes "empty") rows) (flag_of (codes "whole") rows) window (first_of (codes "log") rows))
-    (window_of rows))
-    (first_of (codes "table") rows)
+-- the options that the words `--empty`, `--whole`, `--window` and `--in-order` stand for
+abbrev pub options_of : Bool → Bool → Window → Options
+options_of empty whole window = record { packing = packing_of whole; empty = empty; window = window }
 
-abbrev pub frames_words : List Row → Option Words
-frames_words rows = option_map
-    (λ table. Frames table (first_of (codes "candump") rows) (first_of (codes "log") rows))
-    (first_of (codes "table") rows)
+-- a command over these files
+abbrev pub over : Option Text → Option Text → Option Text → Task → Command
+over table state log task = record { files = record { table = table; state = state; log = log }; task = task }
+
+-- the interface of this name, where that has the form of one
+abbrev pub judged : Option Text → Result (Option Text) Fault
+judged None = Ok None
+judged (Some name) = if is_interface name then Ok (Some name) else Err Interface
+
+-- the commands of a subcommand's words; `decode` and `frames` have a table
+abbrev pub plain_command : List Row → Result Command Fault
+plain_command rows = Ok (over None None (first_of (codes "log") rows) Plain)
+
+abbrev pub decode_by : Option Text → Option Window → List Row → Result Command Fault
+decode_by (Some table) (Some window) rows = Ok (over (Some table) (first_of (codes "resume") rows) (first_of (codes "log") rows)
+    (Decode (options_of (flag_of (codes "empty") rows) (flag_of (codes "whole") rows) window) (first_of (codes "save") rows)))
+decode_by _ _ rows = Err Words
+
+abbrev pub frames_by : Option Text → Result (Option Text) Fault → List Row → Result Command Fault
+frames_by None interface rows = Err Words
+frames_by (Some table) (Ok interface) rows = Ok (over (Some table) None (first_of (codes "log") rows) (Frames interface))
+frames_by (Some table) (Err fault) rows = Err fault
 
 -- the command of that name, with the values of its words
-abbrev pub named : Option (Text × List Row) → Option Words
-named None = None
+abbrev pub named : Option (Text × List Row) → Result Command Fault
+named None = Err Words
 named (Some p) =
-    if bytes_eq p.0 (codes "plain") then plain_words p.1
-    else (if bytes_eq p.0 (codes "decode") then decode_words p.1
-    else (if bytes_eq p.0 (codes "frames") then frames_words p.1 else None))
+    if bytes_eq p.0 (codes "plain") then plain_command p.1
+    else (if bytes_eq p.0 (codes "decode") then decode_by (first_of (codes "table") p.1) (window_of p.1) p.1
+    else (if bytes_eq p.0 (codes "frames")
+    then frames_by (first_of (codes "table") p.1) (judged (first_of (codes "candump") p.1)) p.1 else Err Words))
 
--- the command that the words name, the program's name first; none where they name none
-unfoldable pub words_of : List Text → Option Words
-words_of words = named (subcommand_of program_app words)
-
--- `clap` has a fault at the words that is no request for help or for the version
-abbrev pub HasFault : List Text → Type 0
-HasFault words =
-    (kind : ErrorKind) × IsAmong kind (fault_of program_app words) × (kind ≢ DisplayHelp) × (kind ≢ DisplayVersion)
-
--- the words are not those of a command: such a fault, or no fault at all and no command that is named
-abbrev pub IsRefused : List Text → Type 0
-IsRefused words = HasFault words ⊎ ((fault_of program_app words ≡ []) × (words_of words ≡ None))
-
--- the words name this command, and `clap` has no fault at them
-abbrev pub IsNamedBy : List Text → Words → Type 0
-IsNamedBy words command = (fault_of program_app words ≡ []) × (words_of words ≡ Some command)
+-- the command that the words name, the program's name first, or why they name none
+unfoldable pub command_of : List Text → Result Command Fault
+command_of words = named (subcommand_of program_app words)
 
 -- the text of the version, as `n2kdec 1.0.0` with an LF
 abbrev pub version_text : Text
 version_text = codes "n2kdec " ++ VERSION.now ++ codes "\n"
 
--- a command that is named without a fault, or the help that is shown of these words or the version, where they ask for it
-abbrev pub IsAskedBy : Shown → List Text → Words → Type 0
-IsAskedBy shown words (Help text) =
-    (IsAmong DisplayHelp (fault_of program_app words) × IfSome (shown words) (λ help. text ≡ help))
-    ⊎ (IsAmong DisplayVersion (fault_of program_app words) × (text ≡ version_text))
-IsAskedBy shown words command = IsNamedBy words command
+-- this is answered, or memory was refused
+abbrev pub Names : Result Command Fault → Result Command Fault → Type 0
+Names asked (Ok command) = asked ≡ Ok command
+Names asked (Err Words) = asked ≡ Err Words
+Names asked (Err Interface) = asked ≡ Err Interface
+Names asked (Err (Memory read)) = read ≡ None
+Names asked (Err _) = ⊥
 
--- an answer on the command that was named, or on none
-abbrev pub Names : Option Words → Result Words Fault → Type 0
-Names command (Ok words) = command ≡ Some words
-Names command (Err fault.Words) = command ≡ None
-Names command (Err fault.Memory) = Unit {0}
-Names command (Err _) = ⊥
+-- the same of what was typed
+abbrev pub NamesIn : Result Command Fault → Request → Type 0
+NamesIn asked (to.Help text) = ⊥
+NamesIn asked (to.Command command) = Names asked (Ok command)
+NamesIn asked (to.Refused fault lines) = Names asked (Err fault)

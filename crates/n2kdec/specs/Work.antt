@@ -1,5 +1,5 @@
 -- The run of a command, from the bytes of a table and of a state, and why it stops.
-use Rattle.std.specs.Prelude.{◌≡◌, ◌≢◌, ◌⊎◌, ℕ, List, [], Option, Some, None, Result, Ok, Err, Contains}
+use Rattle.std.specs.Prelude.{◌≡◌, ◌≢◌, ◌⊎◌, ℕ, List, [], Option, Some, None, Result, Ok, Err, IfSome, Contains}
 use Rattle.n2k_table.specs.Table.{TableParts, faults, kind, table}
 use Rattle.n2k_table.specs.declared.fault.TableFault.{TableFault}
 use Rattle.n2k_table.specs.declared.fault.TableFault.TheVariants as table_faults
@@ -9,50 +9,55 @@ use Rattle.n2k_run.specs.Parts.{RunsFrom}
 use Rattle.n2k_run.specs.Plain.{plain_counts_of, plain_output}
 use Rattle.n2k_run.specs.Runs.{Devices, Runs}
 use Rattle.n2k_run.specs.declared.fault.RunFault.{RunFault}
-use Rattle.n2k_run.specs.declared.fault.RunFault.TheVariants as run_faults
 use Rattle.n2k_run.specs.declared.options.Options.{Options}
 use Rattle.n2k_run.specs.declared.part.Part.{Part}
 use Rattle.n2k_run.specs.declared.part.PartFault.{PartFault}
 use Rattle.n2k_run.specs.declared.part.PartFault.TheVariants as part_faults
 use Rattle.n2kdec.specs.Fault.{fault_of_run}
-use Rattle.n2kdec.specs.declared.asked.Command.{Command}
-use Rattle.n2kdec.specs.declared.asked.Command.TheVariants.{Plain, Decode, Frames}
+use Rattle.n2kdec.specs.declared.asked.Task.{Task}
+use Rattle.n2kdec.specs.declared.asked.Task.TheVariants.{Plain, Decode, Frames}
+use Rattle.n2kdec.specs.Told.{difference}
+use Rattle.n2kdec.specs.declared.difference.Difference.{Difference}
 use Rattle.n2kdec.specs.declared.fault.Fault.{Fault}
+use Rattle.n2kdec.specs.declared.fault.Reading.TheVariants as reading
 use Rattle.n2kdec.specs.declared.fault.Fault.TheVariants.{Table, State, Memory}
 use Rattle.n2kdec.specs.declared.work.Stop.{Stop}
 
 -- ---- what is answered after a run
 
--- how many lines were taken, where a read failed
-abbrev pub lines_at : RunFault → Counts → Option ℕ
-lines_at run_faults.Read counts = Some counts.lines
-lines_at _ counts = None
-
 -- a stop for a fault, with no Part
 abbrev pub stop_of : Fault → Stop
-stop_of fault = record { fault = fault; part = None; lines = None }
-
--- one for the fault of a run that counted so much
-abbrev pub stop_of_run : RunFault → Counts → Stop
-stop_of_run fault counts = record { fault = fault_of_run fault; part = None; lines = lines_at fault counts }
+stop_of fault = record { fault = fault; part = None }
 
 -- after that of a whole log, which counted so much: its counts, and no state; or its fault
 abbrev pub AnswersWhole : Counts → Result (Unit {0}) RunFault → Result Part Stop → Type 0
 AnswersWhole counts (Ok ended) (Ok part) = (part.state.items ≡ []) × (part.counts ≡ counts)
 AnswersWhole counts (Ok ended) (Err stop) = ⊥
-AnswersWhole counts (Err fault) result = result ≡ Err (stop_of_run fault counts)
+AnswersWhole counts (Err fault) result = result ≡ Err (stop_of (fault_of_run fault counts.lines))
 
--- after that of a part: its Part; or its fault, with the Part that it has
-abbrev pub stop_of_part : PartFault → Stop
-stop_of_part (part_faults.State fault) = stop_of (State fault)
-stop_of_part (part_faults.Stopped fault part) =
-    record { fault = fault_of_run fault; part = Some part; lines = lines_at fault part.counts }
-stop_of_part (part_faults.Run fault) = stop_of (fault_of_run fault)
-stop_of_part part_faults.Memory = stop_of Memory
+-- after that of a part: its Part; or its fault, with the Part that it has, and with what a refused state is of
+abbrev pub stop_of_part : Option Difference → PartFault → Stop
+stop_of_part of (part_faults.State fault) = stop_of (State fault of)
+stop_of_part of (part_faults.Stopped fault part) =
+    record { fault = fault_of_run fault part.counts.lines; part = Some part }
+stop_of_part of (part_faults.Run fault) = stop_of (fault_of_run fault 0)
+stop_of_part of part_faults.Memory = stop_of (Memory (Some reading.Log))
 
-abbrev pub answer_of_part : Result Part PartFault → Result Part Stop
-answer_of_part (Ok part) = Ok part
-answer_of_part (Err fault) = Err (stop_of_part fault)
+abbrev pub answer_of_part : Option Difference → Result Part PartFault → Result Part Stop
+answer_of_part of (Ok part) = Ok part
+answer_of_part of (Err fault) = Err (stop_of_part of fault)
+
+-- what a refused state is of, which no other fault has
+abbrev pub IsOfEnded : List ℕ → Options → Option (List ℕ) → Result Part PartFault → Difference → Type 0
+IsOfEnded id o handed (Err (part_faults.State fault)) is = difference id o handed fault ≡ Some is
+IsOfEnded id o handed ended is = ⊥
+
+abbrev pub IsOfFault : List ℕ → Options → Option (List ℕ) → Result Part PartFault → Option Difference → Type 0
+IsOfFault id o handed ended of = IfSome of (IsOfEnded id o handed ended)
+
+abbrev pub AnswersPart : List ℕ → Options → Option (List ℕ) → Result Part PartFault → Result Part Stop → Type 0
+AnswersPart id o handed ended result =
+    (of : Option Difference) × IsOfFault id o handed ended of × (result ≡ answer_of_part of ended)
 
 -- ---- what each command does
 
@@ -76,7 +81,7 @@ pub record DoesDecode (t : TableParts) (o : Options) (handed : Option (List ℕ)
     (result : Result Part Stop) : Type 0 where
   pub ended : Result Part PartFault
   pub runs : RunsFrom t o handed before after ended
-  pub told : result ≡ answer_of_part ended
+  pub told : AnswersPart t.id o handed ended result
 
 -- The table is refused, by a fault that stands in it or for want of memory. There is no Part, and no device is touched.
 pub record RefusesTable (found : List TableFault) (before after : Devices) (stop : Stop) : Type 0 where
@@ -92,7 +97,7 @@ ByTable bytes before after (Err stop) Does =
     RefusesTable (faults bytes) before after stop ⊎ ((faults bytes ≡ []) × Does (table bytes))
 
 -- What a command does: its run, with its options or its interface, by the table and from the state of these bytes.
-abbrev pub Works : Command → List ℕ → Option (List ℕ) → Devices → Devices → Result Part Stop → Type 0
+abbrev pub Works : Task → List ℕ → Option (List ℕ) → Devices → Devices → Result Part Stop → Type 0
 Works Plain bytes handed before after result = DoesPlain before after result
 Works (Decode o save) bytes handed before after result =
     ByTable bytes before after result (λ t. DoesDecode t o handed before after result)

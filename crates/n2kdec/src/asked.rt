@@ -1,12 +1,11 @@
 //! What words ask for: a text, or a command over files.
 ghost use Rattle.std.specs.Prelude.{◌≡◌, option_map};
 ghost use Rattle.n2k_run.specs.FramesOut.{IsInterface};
-ghost use Rattle.n2kdec.specs.Asked.{asked, judged};
 
 use crate::fault::Fault;
-use crate::words::{Word, Words};
+use crate::words::Word;
 use n2k_run::Options;
-use n2k_wire::{Packing, is_interface};
+use n2k_wire::is_interface;
 use std::marker::Model;
 
 /// The name of an interface: 1 to 15 bytes from `!` to `~`.
@@ -27,12 +26,13 @@ impl Model for Interface {
 }
 
 impl Interface {
-    ghost use Rattle.std.specs.Prelude.{IsTrue};
+    ghost use Rattle.std.specs.Prelude.{IsTrue, Ok, Err, if◌then◌else◌};
+    ghost use Rattle.n2kdec.specs.declared.fault.Fault.TheVariants as faults;
     ghost use Rattle.n2k_wire.specs.Candump.{is_interface};
 
     /// The interface of this name. `Interface` where the name is none of an interface.
-    fn new(name: Word) -> Result<Interface, Fault>
-        ensures { result ≡ judged name }
+    pub fn new(name: Word) -> Result<Interface, Fault>
+        ensures { result ≡ (if is_interface name then Ok name else Err faults.Interface) }
     {
         if is_interface(name.as_str().as_bytes()) {
             Ok(Interface { name })
@@ -71,84 +71,36 @@ pub struct Files {
 
 /// What is done with the log.
 #[derive(Debug, Drop)]
-pub enum Command {
-    /// Each frame is printed as a plain line.
+pub enum Task {
+    /// `plain`: each frame is printed as a plain line.
     Plain,
-    /// Each message is printed as a line of JSON.
+    /// `decode`: each message is printed as a line of JSON.
     Decode {
         /// How lines are read, grouped and printed.
         options: Options,
         /// The file that gets the state after the log.
         save: Option<Word>,
     },
-    /// Each message is written as frames, in plain lines or in those of candump at an interface.
+    /// `frames`: each message is written as frames, in plain lines or in those of candump at an interface.
     Frames(Option<Interface>),
 }
 
-/// What words ask for.
+/// A command and the files that it reads.
 #[derive(Debug, Drop)]
-pub enum Request {
-    /// The text of the help or of the version.
-    Help(Word),
-    /// A command.
-    Command(Files, Command),
+pub struct Command {
+    /// What it reads.
+    pub files: Files,
+    /// What it does.
+    pub task: Task,
 }
 
-/// What these words ask for. `Interface` where the interface that they name is none.
-pub fn asked(words: Words) -> Result<Request, Fault>
-    ensures { result ≡ asked words }
-{
-    match words {
-        Words::Help(text) => Ok(Request::Help(text)),
-        Words::Plain { log } => {
-            let files = Files {
-                table: None,
-                state: None,
-                log,
-            };
-            Ok(Request::Command(files, Command::Plain))
-        }
-        Words::Decode {
-            table,
-            resume,
-            save,
-            empty,
-            whole,
-            window,
-            log,
-        } => {
-            let files = Files {
-                table: Some(table),
-                state: resume,
-                log,
-            };
-            let packing = if whole {
-                Packing::Whole
-            } else {
-                Packing::Frames
-            };
-            let options = Options {
-                packing,
-                empty,
-                window,
-            };
-            Ok(Request::Command(files, Command::Decode { options, save }))
-        }
-        Words::Frames {
-            table,
-            candump,
-            log,
-        } => {
-            let interface = match candump {
-                Some(name) => Some(Interface::new(name)?),
-                None => None,
-            };
-            let files = Files {
-                table: Some(table),
-                state: None,
-                log,
-            };
-            Ok(Request::Command(files, Command::Frames(interface)))
-        }
-    }
+/// What was typed.
+#[derive(Debug, Drop)]
+pub enum Request {
+    /// `--help` or `--version`, with the text to print.
+    Help(Word),
+    /// A command.
+    Command(Command),
+    /// Words that ask for nothing that can be done, and what is said of refused ones on a terminal, in whole lines.
+    Refused(Fault, Option<Vec<u8>>),
 }

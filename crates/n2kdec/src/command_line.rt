@@ -1,21 +1,29 @@
 //! What the words of the command line ask for, by the matches of a parser.
-ghost use Rattle.std.specs.Prelude.{◌≡◌, ◌⊎◌, true, false, IfOk, IfErr, IsErrOf, option_map};
+ghost use Rattle.std.specs.Prelude.{◌≡◌, true, false, IfOk, IfSome, MatchResult, None, codes, option_map};
 ghost use Rattle.std.specs.Char.{is_ascii_digit};
 ghost use Rattle.std.specs.List.{list_all};
 ghost use Rattle.clap.specs.Walk.{texts};
 ghost use Rattle.clap.specs.Words.{first_of, found_of, rows_of, subcommand_rows_of, takes};
+ghost use Rattle.n2kdec.specs.declared.asked.Request.TheVariants.{Help, Refused};
+ghost use Rattle.n2kdec.specs.declared.fault.Fault.TheVariants.{Memory};
+ghost use Rattle.n2kdec.specs.Asked.{IsAsked, IsOfWords};
 ghost use Rattle.n2kdec.specs.Inner.Parse.{AnswersKind};
+ghost use Rattle.n2kdec.specs.Parser.{AreLinesOf};
 ghost use Rattle.n2kdec.specs.Usage.{program_app};
-ghost use Rattle.n2kdec.specs.Words.{IsAskedBy, IsRefused, Names, decode_words, flag_of, frames_words};
-ghost use Rattle.n2kdec.specs.Words.{lines_in, named, plain_words, version_text, window_of, words_of};
+ghost use Rattle.n2kdec.specs.Words.{Names, NamesIn, command_of, decode_by, flag_of, frames_by, judged, lines_in};
+ghost use Rattle.n2kdec.specs.Words.{named, over, packing_of, plain_command, version_text, window_of};
 
+use crate::asked::{Command, Files, Interface, Request, Task};
+use crate::escape::push_escaped;
 use crate::fault::Fault;
 use crate::parser::Parser;
 use crate::usage::VERSION;
-use crate::words::{Word, Words};
+use crate::words::Word;
 use clap::ArgMatches;
 use clap::error::ErrorKind;
 use n2k_join::Window;
+use n2k_run::Options;
+use n2k_wire::Packing;
 use std::alloc::{AllocError, Global};
 use std::fmt::Display;
 
@@ -76,17 +84,49 @@ fn window_of(matches: &ArgMatches<'_>) -> Option<Window>
     }
 }
 
-/// The values of `plain`.
-fn plain_of(alloc: Global, matches: &ArgMatches<'_>) -> Result<Words, Fault>
-    ensures { Names (plain_words (rows_of (found_of matches.now))) result }
+/// How lines are packed with `--whole`, or without.
+fn packing_of(whole: bool) -> Packing
+    ensures { result ≡ packing_of whole }
 {
-    let log = value_of(alloc, matches, "log")?;
-    Ok(Words::Plain { log })
+    if whole {
+        Packing::Whole
+    } else {
+        Packing::Frames
+    }
 }
 
-/// The values of `decode`.
-fn decode_of(alloc: Global, matches: &ArgMatches<'_>) -> Result<Words, Fault>
-    ensures { Names (decode_words (rows_of (found_of matches.now))) result }
+/// A command over these files.
+fn over(table: Option<Word>, state: Option<Word>, log: Option<Word>, task: Task) -> Command
+    ensures { result ≡ over table state log task }
+{
+    Command {
+        files: Files { table, state, log },
+        task,
+    }
+}
+
+/// The interface of this name, where one is named.
+fn judged(name: Option<Word>) -> Result<Option<Interface>, Fault>
+    ensures { result ≡ judged name }
+{
+    match name {
+        Some(name) => Ok(Some(Interface::new(name)?)),
+        None => Ok(None),
+    }
+}
+
+/// `plain`, with its values.
+fn plain_of(alloc: Global, matches: &ArgMatches<'_>) -> Result<Command, Fault>
+    ensures { Names (plain_command (rows_of (found_of matches.now))) result }
+{
+    let log = value_of(alloc, matches, "log")?;
+    Ok(over(None, None, log, Task::Plain))
+}
+
+/// `decode`, with its values.
+fn decode_of(alloc: Global, matches: &ArgMatches<'_>) -> Result<Command, Fault>
+    ensures { let rows = rows_of (found_of matches.now) in
+        Names (decode_by (first_of (codes "table") rows) (window_of rows) rows) result }
 {
     let Some(table) = value_of(alloc, matches, "table")? else {
         return Err(Fault::Words);
@@ -94,33 +134,32 @@ fn decode_of(alloc: Global, matches: &ArgMatches<'_>) -> Result<Words, Fault>
     let Some(window) = window_of(matches) else {
         return Err(Fault::Words);
     };
-    Ok(Words::Decode {
-        table,
-        resume: value_of(alloc, matches, "resume")?,
-        save: value_of(alloc, matches, "save")?,
+    let options = Options {
+        packing: packing_of(flag_of(matches, "whole")),
         empty: flag_of(matches, "empty"),
-        whole: flag_of(matches, "whole"),
         window,
-        log: value_of(alloc, matches, "log")?,
-    })
+    };
+    let state = value_of(alloc, matches, "resume")?;
+    let save = value_of(alloc, matches, "save")?;
+    let log = value_of(alloc, matches, "log")?;
+    Ok(over(Some(table), state, log, Task::Decode { options, save }))
 }
 
-/// The values of `frames`.
-fn frames_of(alloc: Global, matches: &ArgMatches<'_>) -> Result<Words, Fault>
-    ensures { Names (frames_words (rows_of (found_of matches.now))) result }
+/// `frames`, with its values.
+fn frames_of(alloc: Global, matches: &ArgMatches<'_>) -> Result<Command, Fault>
+    ensures { let rows = rows_of (found_of matches.now) in
+        Names (frames_by (first_of (codes "table") rows) (judged (first_of (codes "candump") rows)) rows) result }
 {
-    match value_of(alloc, matches, "table")? {
-        None => Err(Fault::Words),
-        Some(table) => Ok(Words::Frames {
-            table,
-            candump: value_of(alloc, matches, "candump")?,
-            log: value_of(alloc, matches, "log")?,
-        }),
-    }
+    let Some(table) = value_of(alloc, matches, "table")? else {
+        return Err(Fault::Words);
+    };
+    let candump = value_of(alloc, matches, "candump")?;
+    let log = value_of(alloc, matches, "log")?;
+    Ok(over(Some(table), None, log, Task::Frames(judged(candump)?)))
 }
 
 /// The command that was named, with its values.
-fn command_of(alloc: Global, matches: &ArgMatches<'_>) -> Result<Words, Fault>
+fn command_of(alloc: Global, matches: &ArgMatches<'_>) -> Result<Command, Fault>
     ensures { Names (named (subcommand_rows_of matches.now)) result }
 {
     let Some((name, values)) = matches.subcommand() else {
@@ -147,35 +186,70 @@ fn version(alloc: Global) -> Result<Word, AllocError>
     Word::new(alloc, text.as_str())
 }
 
-/// What a parse that gave no matches comes to, by the kind of its error: a request for help, which gets the text that
-/// is shown, or for the version is no fault.
-fn help_of<T: Display>(alloc: Global, kind: ErrorKind, shown: &T) -> Result<Words, Fault>
-    ensures answers { AnswersKind kind (T.output shown.now) result }
-    ensures memory { kind ≡ ErrorKind.OutOfMemory → IsErrOf result Fault.Memory }
+/// A text of the parser.
+fn shown_text<T: Display>(alloc: Global, shown: &T) -> Result<Word, AllocError>
+    ensures { IfOk result (λ word. IfSome (T.output shown.now) (λ text. word ≡ text)) }
 {
-    match kind {
-        ErrorKind::DisplayHelp => {
-            let text = shown.to_string(alloc)?;
-            Ok(Words::Help(Word::new(alloc, text.as_str())?))
-        }
-        ErrorKind::DisplayVersion => Ok(Words::Help(version(alloc)?)),
-        ErrorKind::OutOfMemory => Err(Fault::Memory),
-        _ => Err(Fault::Words),
+    let text = shown.to_string(alloc)?;
+    Word::new(alloc, text.as_str())
+}
+
+/// What is said of words that a parser takes: the value of `--window` is none.
+pub const NO_WINDOW: &str = "error: a window is a number of lines from 32 to 1000000
+
+For more information, try '--help'.";
+
+/// What is said of refused words, in whole lines, with control characters escaped.
+fn lines_of<T: Display>(alloc: Global, shown: &T) -> Result<Vec<u8>, AllocError>
+    ensures { IfOk result (λ lines. AreLinesOf (T.output shown.now) lines.items) }
+{
+    let text = shown.to_string(alloc)?;
+    let mut lines = Vec::new(alloc);
+    push_escaped(true, text.as_str().trim_end().as_bytes(), &mut lines)?;
+    lines.extend_from_slice(b"\n")?;
+    Ok(lines)
+}
+
+/// A text that is asked for.
+fn help(text: Result<Word, AllocError>) -> Request
+    ensures { MatchResult text (λ text. result ≡ Help text) (λ _. result ≡ Refused (Memory None) None) }
+{
+    match text {
+        Ok(text) => Request::Help(text),
+        Err(_) => Request::Refused(Fault::Memory(None), None),
     }
 }
 
-/// The command that the words of a command line name, the program's name first, as a parser reads them by the
-/// command's definition: `["n2kdec", "plain", "trip.log"]` gives `Plain` with that log. `Help` where they ask for
-/// help, with the text that it shows of them, or for the version, with `n2kdec`, the version and an LF. Words that are
-/// refused for any other cause are `Fault::Words`; want of memory is `Fault::Memory`.
-pub fn words<P: Parser>(alloc: Global, parser: &P, words: &[&str]) -> Result<Words, Fault>
-    ensures asked { IfOk result (IsAskedBy (P.shown parser.now) (texts words.now)) }
-    ensures refused { IsErrOf result Fault.Words → IsRefused (texts words.now) }
-    ensures faults { IfErr result (λ fault. (fault ≡ Fault.Words) ⊎ (fault ≡ Fault.Memory)) }
-    ensures taken { takes program_app (texts words.now) ≡ true → Names (words_of (texts words.now)) result }
+/// What a parse that gave no matches comes to, by the kind of its error: a request for help, which gets the text that
+/// is shown, or for the version is no fault.
+fn help_of<T: Display>(alloc: Global, kind: ErrorKind, shown: &T) -> Request
+    ensures answers { AnswersKind kind (T.output shown.now) result }
+    ensures memory { kind ≡ ErrorKind.OutOfMemory → result ≡ Refused (Memory None) None }
+{
+    match kind {
+        ErrorKind::DisplayHelp => help(shown_text(alloc, shown)),
+        ErrorKind::DisplayVersion => help(version(alloc)),
+        ErrorKind::OutOfMemory => Request::Refused(Fault::Memory(None), None),
+        _ => Request::Refused(Fault::Words, lines_of(alloc, shown).ok()),
+    }
+}
+
+/// What the words of a command line ask for, the program's name first, as a parser reads them by the command's
+/// definition: `["n2kdec", "plain", "trip.log"]` gives `plain` with that log. `Help` where they ask for help, with the
+/// text that it shows of them, or for the version, with `n2kdec`, the version and an LF. An interface that is none is
+/// `Fault::Interface`; words that are refused for any other cause are `Fault::Words`, with what is said of them unless
+/// memory for that is refused; want of memory is `Fault::Memory`.
+pub fn request<P: Parser>(alloc: Global, parser: &P, words: &[&str]) -> Request
+    ensures asked { IsAsked (P.shown parser.now) result (texts words.now) }
+    ensures faults { IsOfWords result }
+    ensures taken { takes program_app (texts words.now) ≡ true → NamesIn (command_of (texts words.now)) result }
 {
     match parser.parse(alloc, words) {
-        Ok(matches) => command_of(alloc, &matches),
+        Ok(matches) => match command_of(alloc, &matches) {
+            Ok(command) => Request::Command(command),
+            Err(Fault::Words) => Request::Refused(Fault::Words, lines_of(alloc, &NO_WINDOW).ok()),
+            Err(fault) => Request::Refused(fault, None),
+        },
         Err(refusal) => help_of(alloc, refusal.kind, &refusal.text),
     }
 }

@@ -1,16 +1,16 @@
 //! A command over its devices: what is printed, what is saved, and the status of it.
 ghost use Rattle.std.specs.Prelude.{◌≡◌, ◌≤◌, IfErr, IfOk, IfSome, None, option_map};
+ghost use Rattle.std.specs.Result.{result_err};
 ghost use Rattle.n2k_run.specs.Runs.{seen};
 ghost use Rattle.n2kdec.specs.Asked.{save_name};
-ghost use Rattle.n2kdec.specs.Commands.{HasStatus, IsRefusal, Performs, place, shelf};
-ghost use Rattle.n2kdec.specs.Found.{Finds};
-ghost use Rattle.n2kdec.specs.Inner.Closing.{Closes, ClosesPart, SumsUp};
+ghost use Rattle.n2kdec.specs.Commands.{HasStatus, IsRefusal, Performs, Replaces, place, shelf};
+ghost use Rattle.n2kdec.specs.Told.{Tells};
+ghost use Rattle.n2kdec.specs.Inner.Closing.{ClosesPart, SumsUp};
 
-use crate::asked::Command;
+use crate::asked::Task;
 use crate::ending::{Ending, ending_of};
 use crate::fault::Fault;
-use crate::found::found_in;
-use crate::keeper::Keeper;
+use crate::keeper::{Keeper, Unkept};
 use crate::machine::Outlets;
 use crate::work::{Stop, work};
 use n2k_join::Counts;
@@ -26,61 +26,62 @@ fn sum_up<E: Sink>(counts: &Counts, errors: &mut E) -> Result<Ending, Fault>
     Ok(ending_of(counts))
 }
 
-/// Keeps the state of a part, where the command has a name for it, and then writes its summary, also where the state
-/// can't be kept. Of two faults the first counts.
-fn save_and_sum_up<K: Keeper, E: Sink>(
-    command: &Command,
+/// Keeps the state of a part, where the command has a name for it.
+fn save<K: Keeper, E: Sink>(
+    task: &Task,
     part: &Part,
     keeper: &mut K,
-    errors: &mut E,
-) -> Result<Ending, Fault>
-    ensures closes { Closes (shelf (save_name command.now) (K.kept keeper.old) (K.failed_keeps keeper.old))
-        (shelf (save_name command.now) (K.kept keeper.new) (K.failed_keeps keeper.new))
-        (place (E.contents errors.old) (E.failed_calls errors.old))
-        (place (E.contents errors.new) (E.failed_calls errors.new)) part.now.state.items part.now.counts result }
-    ensures admissions { K.failed_admissions keeper.new ≡ K.failed_admissions keeper.old }
+    errors: &E,
+) -> Result<(), Unkept>
+    ensures { Replaces (shelf (save_name task.now) (K.kept keeper.old)) (shelf (save_name task.now) (K.kept keeper.new))
+        part.now.state.items (E.contents errors.now) (result_err result) }
 {
-    let saved = match command {
-        Command::Decode {
+    match task {
+        Task::Decode {
             save: Some(name),
             ..
         } => keeper.keep(name.as_str(), &part.state, errors),
         _ => Ok(()),
-    };
-    let summed = sum_up(&part.counts, errors);
-    saved.map_err(|_| Fault::Save)?;
-    summed
+    }
 }
 
-/// What follows the work of a command. Where it stands after whole lines it is summed up, and its state is kept unless
-/// it stands at the limit of lines.
+/// What follows the work of a command. Where it stands after whole lines its state is kept, unless it stands at the limit
+/// of lines, and then it is summed up, also where the state can't be kept. Of two faults the first counts.
 fn close<K: Keeper, E: Sink>(
-    command: &Command,
+    task: &Task,
     ended: Result<Part, Stop>,
     keeper: &mut K,
     errors: &mut E,
 ) -> Result<Ending, Fault>
-    ensures closes { ClosesPart (shelf (save_name command.now) (K.kept keeper.old) (K.failed_keeps keeper.old))
-        (shelf (save_name command.now) (K.kept keeper.new) (K.failed_keeps keeper.new))
+    ensures closes { ClosesPart (shelf (save_name task.now) (K.kept keeper.old))
+        (shelf (save_name task.now) (K.kept keeper.new))
         (place (E.contents errors.old) (E.failed_calls errors.old))
         (place (E.contents errors.new) (E.failed_calls errors.new)) ended result }
-    ensures admissions { K.failed_admissions keeper.new ≡ K.failed_admissions keeper.old }
     ensures untouched { IfErr ended (λ stop. stop.part ≡ None → (keeper.new ≡ keeper.old) × (errors.new ≡ errors.old)) }
     ensures at_most_one { IfOk result (λ ending. ending.status ≤ 1) }
 {
-    match ended {
-        Ok(part) => save_and_sum_up(command, &part, keeper, errors),
-        Err(stop) => {
-            match (&stop.part, stop.fault) {
-                (None, _) => {}
-                (Some(part), Fault::Read) => {
-                    let _ = save_and_sum_up(command, part, keeper, errors);
-                }
-                (Some(part), _) => {
-                    let _ = sum_up(&part.counts, errors);
-                }
-            }
-            Err(stop.fault)
+    let stop = match ended {
+        Ok(part) => {
+            let saved = save(task, &part, keeper, errors);
+            let summed = sum_up(&part.counts, errors);
+            saved.map_err(Fault::Save)?;
+            return summed;
+        }
+        Err(stop) => stop,
+    };
+    let fault = stop.fault;
+    let Some(part) = stop.part else {
+        return Err(fault);
+    };
+    match fault {
+        Fault::Read(lines, why, _) => {
+            let unkept = save(task, &part, keeper, errors).err();
+            let _ = sum_up(&part.counts, errors);
+            Err(Fault::Read(lines, why, unkept))
+        }
+        _ => {
+            let _ = sum_up(&part.counts, errors);
+            Err(fault)
         }
     }
 }
@@ -95,11 +96,10 @@ fn close<K: Keeper, E: Sink>(
 /// fault, and after each fault of `plain` and `frames`, there is no summary, but for a part of it where the errors
 /// fail in it.
 ///
-/// A table or a state with a fault is refused before the log is read, and leaves each device as it was. What is found out
-/// about a fault goes to the outlets, too.
+/// A table or a state with a fault is refused before the log is read, and leaves each device as it was.
 pub fn run_command<R: Source, W: Sink, E: Sink, K: Keeper>(
     alloc: Global,
-    command: &Command,
+    task: &Task,
     table: &[u8],
     state: Option<&[u8]>,
     log: &mut R,
@@ -107,14 +107,13 @@ pub fn run_command<R: Source, W: Sink, E: Sink, K: Keeper>(
 ) -> Result<Ending, Fault>
     ensures performs { let before = seen R.Source W.Sink E.Sink log.old outlets.old.output outlets.old.errors in
         let after = seen R.Source W.Sink E.Sink log.new outlets.new.output outlets.new.errors in
-        Performs command.now table.now (option_map (λ bytes. bytes.now) state.entry) before after
-        (shelf (save_name command.now) (K.kept outlets.old.keeper) (K.failed_keeps outlets.old.keeper))
-        (shelf (save_name command.now) (K.kept outlets.new.keeper) (K.failed_keeps outlets.new.keeper)) result }
-    ensures admissions { K.failed_admissions outlets.new.keeper ≡ K.failed_admissions outlets.old.keeper }
-    ensures found { Finds command.now table.now (option_map (λ bytes. bytes.now) state.entry) (R.remaining log.old)
-        (R.remaining log.new) result outlets.new.found }
+        Performs task.now table.now (option_map (λ bytes. bytes.now) state.entry) before after
+        (shelf (save_name task.now) (K.kept outlets.old.keeper))
+        (shelf (save_name task.now) (K.kept outlets.new.keeper)) result }
+    ensures told { IfErr result (Tells task.now table.now (option_map (λ bytes. bytes.now) state.entry)
+        (R.remaining log.old) (R.remaining log.new)) }
     ensures status { IfOk result (λ ending. IfSome (R.remaining log.old)
-        (λ all. HasStatus command.now table.now (option_map (λ bytes. bytes.now) state.entry) all ending.status)) }
+        (λ all. HasStatus task.now table.now (option_map (λ bytes. bytes.now) state.entry) all ending.status)) }
     ensures at_most_one { IfOk result (λ ending. ending.status ≤ 1) }
     ensures untouched { IfErr result (λ fault. IsRefusal fault
         → (log.new ≡ log.old) × (outlets.new.output ≡ outlets.old.output) × (outlets.new.errors ≡ outlets.old.errors)
@@ -122,13 +121,12 @@ pub fn run_command<R: Source, W: Sink, E: Sink, K: Keeper>(
 {
     let ended = work(
         alloc,
-        command,
+        task,
         table,
         state,
         log,
         &mut outlets.output,
         &mut outlets.errors,
     );
-    outlets.found = found_in(alloc, command, table, state, &ended);
-    close(command, ended, &mut outlets.keeper, &mut outlets.errors)
+    close(task, ended, &mut outlets.keeper, &mut outlets.errors)
 }

@@ -1,96 +1,102 @@
 //! Why the program ends without its answer: the line that it prints, and its status.
 ghost use Rattle.std.specs.Prelude.{◌≡◌, ◌++◌, OnOk, OnErr};
-ghost use Rattle.n2kdec.specs.Fault.{exit_status, fault_line, fault_of_run, state_line, status_of, table_line};
+ghost use Rattle.n2kdec.specs.Fault.{exit_status, fault_line, fault_of_run, state_line, status_of, table_line, unopened, unread};
 
+use crate::difference::Difference;
+use crate::keeper::Unkept;
 use n2k_join::StateFault;
 use n2k_run::{Counts, RunFault};
 use n2k_table::TableFault;
 use std::alloc::{AllocError, Global};
-use thiserror::Error;
+use std::io::{Error, ErrorKind};
+
+/// What is read of files.
+#[derive(Clone, Copy, Debug, PartialEq, Eq)]
+pub enum Reading {
+    /// The table.
+    Table,
+    /// The state.
+    State,
+    /// The log.
+    Log,
+}
 
 /// Why the program ends without its answer. Each fault has a line of its own, which `fault_text` gives.
-#[derive(Clone, Copy, Debug, PartialEq, Eq, Error)]
+#[derive(Clone, Copy, Debug)]
 pub enum Fault {
     /// The words of the command line are not those of a command.
-    #[error("the words are refused")]
     Words,
     /// The interface of the frames that were asked for isn't one.
-    #[error("the interface is refused")]
     Interface,
     /// The file of the table has more bytes than a table may have.
-    #[error("the table is too large")]
     TableSize,
     /// The file of the state has more bytes than a state may have.
-    #[error("the state is too large")]
     StateSize,
     /// The table is refused.
-    #[error("the table is refused: {0}")]
     Table(TableFault),
-    /// The state is refused.
-    #[error("the state is refused: {0}")]
-    State(StateFault),
-    /// The file of the table can't be read.
-    #[error("the table's file can't be read")]
-    TableFile,
-    /// The file of the state can't be read.
-    #[error("the state's file can't be read")]
-    StateFile,
-    /// The log can't be opened or read.
-    #[error("the log can't be read")]
-    Read,
-    /// The output can't be written.
-    #[error("the output can't be written")]
-    Write,
+    /// The state is refused, and of what it is, where it is another table's or window's.
+    State(StateFault, Option<Difference>),
+    /// The file of the table can't be opened or read, by this error.
+    TableFile(Option<Error>),
+    /// The file of the state can't, by this error.
+    StateFile(Option<Error>),
+    /// The log can't be opened or read, by this error, or its end was not found: so many lines were taken of it, those
+    /// before a state too. Why the state after them could not be kept, where it could not.
+    Read(u64, Option<Error>, Option<Unkept>),
+    /// The output can't be written, by this error.
+    Write(Option<Error>),
     /// A report or the summary can't be written.
-    #[error("the reports can't be written")]
     Report,
-    /// Memory is refused.
-    #[error("out of memory")]
-    Memory,
+    /// Memory is refused where this is read, or the command line.
+    Memory(Option<Reading>),
     /// The log has more lines than are counted.
-    #[error("too many lines")]
     Lines,
-    /// The state can't be written.
-    #[error("the state can't be saved")]
-    Save,
+    /// The state can't be kept, for this.
+    Save(Unkept),
 }
 
 impl From<AllocError> for Fault {
-    ghost use Rattle.std.specs.Prelude.{◌≡◌};
+    ghost use Rattle.std.specs.Prelude.{◌≡◌, None};
     ghost use Rattle.n2kdec.specs.declared.fault.Fault.TheVariants.{Memory};
 
-    ghost from_gives = { λ _ fault. fault ≡ Memory };
+    ghost from_gives = { λ _ fault. fault ≡ Memory None };
 
     fn from(_: AllocError) -> Self {
-        Fault::Memory
+        Fault::Memory(None)
     }
 }
 
-impl From<RunFault> for Fault {
-    ghost use Rattle.std.specs.Prelude.{◌≡◌};
-    ghost use Rattle.n2kdec.specs.Fault.{fault_of_run};
-
-    ghost from_gives = { λ run fault. fault ≡ fault_of_run run };
-
-    fn from(fault: RunFault) -> Self {
-        match fault {
-            RunFault::Read => Fault::Read,
-            RunFault::Write => Fault::Write,
-            RunFault::Report => Fault::Report,
-            RunFault::Memory => Fault::Memory,
-            RunFault::TooManyLines => Fault::Lines,
-        }
+/// The fault of a run that took so many lines.
+pub fn fault_of_run(fault: RunFault, lines: u64) -> Fault
+    ensures { result ≡ fault_of_run fault lines }
+{
+    match fault {
+        RunFault::Read => Fault::Read(lines, None, None),
+        RunFault::Write => Fault::Write(None),
+        RunFault::Report => Fault::Report,
+        RunFault::Memory => Fault::Memory(Some(Reading::Log)),
+        RunFault::TooManyLines => Fault::Lines,
     }
 }
 
-impl From<TableFault> for Fault {
-    ghost use Rattle.std.specs.Prelude.{◌≡◌};
-    ghost use Rattle.n2kdec.specs.declared.fault.Fault.TheVariants.{Table};
+/// The fault of a file that can't be read, for this.
+pub fn unread(reading: Reading, why: Option<Error>) -> Fault
+    ensures { result ≡ unread reading why }
+{
+    match reading {
+        Reading::Table => Fault::TableFile(why),
+        Reading::State => Fault::StateFile(why),
+        Reading::Log => Fault::Read(0, why, None),
+    }
+}
 
-    ghost from_gives = { λ table fault. fault ≡ Table table };
-
-    fn from(fault: TableFault) -> Self {
-        Fault::Table(fault)
+/// The fault of a file that can't be opened, by this error.
+pub fn unopened(reading: Reading, error: Error) -> Fault
+    ensures { result ≡ unopened reading error }
+{
+    match error.kind() {
+        ErrorKind::OutOfMemory => Fault::Memory(Some(reading)),
+        _ => unread(reading, Some(error)),
     }
 }
 
@@ -137,15 +143,15 @@ pub fn fault_line(fault: Fault) -> &'static [u8]
         Fault::TableSize => b"n2kdec: table size\n",
         Fault::StateSize => b"n2kdec: state size\n",
         Fault::Table(fault) => table_line(fault),
-        Fault::State(fault) => state_line(fault),
-        Fault::TableFile => b"n2kdec: table file\n",
-        Fault::StateFile => b"n2kdec: state file\n",
-        Fault::Read => b"n2kdec: read\n",
-        Fault::Write => b"n2kdec: write\n",
+        Fault::State(fault, _) => state_line(fault),
+        Fault::TableFile(_) => b"n2kdec: table file\n",
+        Fault::StateFile(_) => b"n2kdec: state file\n",
+        Fault::Read(..) => b"n2kdec: read\n",
+        Fault::Write(_) => b"n2kdec: write\n",
         Fault::Report => b"n2kdec: report\n",
-        Fault::Memory => b"n2kdec: memory\n",
+        Fault::Memory(_) => b"n2kdec: memory\n",
         Fault::Lines => b"n2kdec: lines\n",
-        Fault::Save => b"n2kdec: save\n",
+        Fault::Save(_) => b"n2kdec: save\n",
     }
 }
 
@@ -163,21 +169,21 @@ pub fn status(fault: &Fault) -> u8
     ensures { result ≡ status_of fault.now }
 {
     match fault {
-        Fault::Table(TableFault::Memory) | Fault::State(StateFault::Memory) => 3,
+        Fault::Table(TableFault::Memory) | Fault::State(StateFault::Memory, _) => 3,
         Fault::Words
         | Fault::Interface
         | Fault::TableSize
         | Fault::StateSize
         | Fault::Table(_)
-        | Fault::State(_) => 2,
-        Fault::TableFile
-        | Fault::StateFile
-        | Fault::Read
-        | Fault::Write
+        | Fault::State(..) => 2,
+        Fault::TableFile(_)
+        | Fault::StateFile(_)
+        | Fault::Read(..)
+        | Fault::Write(_)
         | Fault::Report
-        | Fault::Memory
+        | Fault::Memory(_)
         | Fault::Lines
-        | Fault::Save => 3,
+        | Fault::Save(_) => 3,
     }
 }
 

@@ -1,25 +1,24 @@
 //! What is said of a fault on a terminal, in one line: the file or the stream that it is of, what is wrong, what to do.
 ghost use Rattle.std.specs.Prelude.{◌≡◌, ◌++◌, IfOk, OnOk, decimal, option_map};
-ghost use Rattle.n2kdec.specs.FaultSentence.{advice_of, fault_sentence, fault_words};
-ghost use Rattle.n2kdec.specs.FaultSentence.{line_of, named, save_advice, state_advice, state_words, subject_of};
-ghost use Rattle.n2kdec.specs.FaultSentence.{log_name, wanting};
-ghost use Rattle.n2kdec.specs.FaultSentence.{found_text, lines_text, some_lines_text, table_advice, table_words};
-ghost use Rattle.n2kdec.specs.FaultSentence.{tables_text, told_of, windows_text, words_of};
+ghost use Rattle.n2kdec.specs.FaultSentence.{AreWords, IsLine, IsNextLine, IsSentence, cause_text, error_of, line_of};
+ghost use Rattle.n2kdec.specs.FaultSentence.{lines_text, log_of, named, save_of, unkept_of};
+ghost use Rattle.n2kdec.specs.FaultSentence.{some_lines_text, state_of, subject_of, table_of, tables_text, told_of};
+ghost use Rattle.n2kdec.specs.FaultSentence.{windows_text};
 
-use crate::asked::{Command, Files};
+use crate::asked::{Command, Task};
+use crate::difference::Difference;
 use crate::escape::push_escaped;
-use crate::fault::Fault;
-use crate::found::{Found, Reading};
-use crate::reason::Reason;
+use crate::fault::{Fault, Reading};
+use crate::keeper::Unkept;
+use crate::machine::Machine;
 use crate::words::Word;
 use n2k_join::StateFault;
 use n2k_table::TableFault;
 use std::alloc::{AllocError, Global};
+use std::io::Error;
 
 /// What a fault of a table means.
-fn table_words(fault: TableFault) -> &'static str
-    ensures { result.now ≡ table_words fault }
-{
+fn table_words(fault: TableFault) -> &'static str {
     match fault {
         TableFault::NotToml => "it is no TOML, and so no table",
         TableFault::Format => "its format is missing, or none of 1, 2 and 3",
@@ -37,9 +36,7 @@ fn table_words(fault: TableFault) -> &'static str
 }
 
 /// What a fault of a state means.
-fn state_words(fault: StateFault) -> &'static str
-    ensures { result.now ≡ state_words fault }
-{
+fn state_words(fault: StateFault) -> &'static str {
     match fault {
         StateFault::NotJson => "it is no JSON, and so no state",
         StateFault::Format => "it is no state that this program saved",
@@ -52,32 +49,46 @@ fn state_words(fault: StateFault) -> &'static str
 }
 
 /// What a fault means, where the system has no words for it.
-fn fault_words(fault: Fault) -> &'static str
-    ensures { result.now ≡ fault_words fault }
-{
+fn fault_words(fault: Fault) -> &'static str {
     match fault {
         Fault::Words => "the words are refused",
         Fault::Interface => "an interface has a name of 1 to 15 of the characters from ! to ~",
         Fault::TableSize => "it has more than the 16777216 bytes of the longest table",
         Fault::StateSize => "it has more than the 16777216 bytes of the longest state",
         Fault::Table(fault) => table_words(fault),
-        Fault::State(fault) => state_words(fault),
-        Fault::TableFile | Fault::StateFile | Fault::Read => "it can't be read",
-        Fault::Write | Fault::Report => "it can't be written",
-        Fault::Memory => "there is no memory for it",
+        Fault::State(fault, _) => state_words(fault),
+        Fault::TableFile(_) | Fault::StateFile(_) | Fault::Read(..) => "it can't be read",
+        Fault::Write(_) | Fault::Report => "it can't be written",
+        Fault::Memory(_) => "there is no memory for it",
         Fault::Lines => "it has more lines than are counted",
-        Fault::Save => "the state can't be saved",
+        Fault::Save(Unkept::Harm) => {
+            "this run reads it or prints to it, or to the new file beside it"
+        }
+        Fault::Save(_) => "the state can't be saved",
     }
 }
 
-/// What is wrong: the words of the system, where it has any, else what the fault means.
-fn words_of<'a>(fault: Fault, reason: &'a Option<Reason>) -> &'a str
-    ensures { result.now ≡ words_of fault reason.now }
+/// The error that a fault has, of the call that failed.
+fn error_of(fault: Fault) -> Option<Error>
+    ensures { result ≡ error_of fault }
 {
-    match reason {
-        None => fault_words(fault),
-        Some(Reason::System(words) | Reason::Unfound(words)) => words.as_str(),
-        Some(Reason::Harm) => "this run reads it or prints to it, or to the new file beside it",
+    match fault {
+        Fault::TableFile(why)
+        | Fault::StateFile(why)
+        | Fault::Read(_, why, _)
+        | Fault::Write(why) => why,
+        Fault::Save(Unkept::Unfound(error) | Unkept::Failed(error)) => Some(error),
+        _ => None,
+    }
+}
+
+/// What is wrong: the words of the system for the error that a fault has, else what the fault means.
+fn words_of<M: Machine>(alloc: Global, machine: &M, fault: Fault) -> Result<Word, AllocError>
+    ensures { IfOk result (λ words. AreWords M.words fault words) }
+{
+    match error_of(fault) {
+        Some(error) => machine.words(alloc, &error),
+        None => Word::new(alloc, fault_words(fault)),
     }
 }
 
@@ -90,15 +101,15 @@ fn push_number(number: u64, text: &mut Vec<u8>) -> Result<(), AllocError>
 }
 
 /// Appends the tables of a state that is another's: what it was saved under, and what the table of this name is.
-fn push_tables(saved: &str, name: &str, id: &str, text: &mut Vec<u8>) -> Result<(), AllocError>
+fn push_tables(saved: &[u8], name: &str, id: &[u8], text: &mut Vec<u8>) -> Result<(), AllocError>
     ensures { OnOk result (text.new.items ≡ text.old.items ++ tables_text saved.now name.now id.now) }
 {
     text.extend_from_slice(b" (SHA-256 ")?;
-    text.extend_from_slice(saved.as_bytes())?;
+    text.extend_from_slice(saved)?;
     text.extend_from_slice(b"; that of ")?;
     text.extend_from_slice(named(name).as_bytes())?;
     text.extend_from_slice(b" is ")?;
-    text.extend_from_slice(id.as_bytes())?;
+    text.extend_from_slice(id)?;
     text.extend_from_slice(b")")
 }
 
@@ -133,28 +144,25 @@ fn push_lines(lines: u64, text: &mut Vec<u8>) -> Result<(), AllocError>
     }
 }
 
-/// Appends what was found out about a fault.
-fn push_found(files: &Files, found: &Option<Found>, text: &mut Vec<u8>) -> Result<(), AllocError>
-    ensures { OnOk result (text.new.items ≡ text.old.items ++ found_text files.now found.now) }
+/// Appends what is known of a fault: of a state that is another's what it is of, of a failed read how far it came.
+fn push_cause(command: Option<&Command>, fault: Fault, text: &mut Vec<u8>) -> Result<(), AllocError>
+    ensures { OnOk result (text.new.items ≡ text.old.items
+        ++ cause_text (option_map (λ c. c.now) command.entry) fault) }
 {
-    match found {
-        None => Ok(()),
-        Some(Found::Tables(saved, table)) => push_tables(
-            saved.as_str(),
-            text_of(&files.table).unwrap_or(""),
-            table.as_str(),
-            text,
-        ),
-        Some(Found::Windows(saved, window)) => push_windows(*saved, *window, text),
-        Some(Found::Lines(lines)) => push_lines(*lines, text),
-        Some(Found::Memory(_)) => Ok(()),
+    match fault {
+        Fault::State(_, Some(Difference::Tables(saved, id))) => {
+            push_tables(&saved, table_of(command).unwrap_or(""), &id, text)
+        }
+        Fault::State(_, Some(Difference::Windows(saved, window))) => {
+            push_windows(saved, window, text)
+        }
+        Fault::Read(lines, ..) => push_lines(lines, text),
+        _ => Ok(()),
     }
 }
 
 /// What to do about a table that is refused.
-fn table_advice(fault: TableFault) -> &'static str
-    ensures { result.now ≡ table_advice fault }
-{
+fn table_advice(fault: TableFault) -> &'static str {
     match fault {
         TableFault::Memory => "",
         _ => "; n2kdec-table-check says in which line",
@@ -162,9 +170,7 @@ fn table_advice(fault: TableFault) -> &'static str
 }
 
 /// What to do about a state that is refused.
-fn state_advice(fault: StateFault) -> &'static str
-    ensures { result.now ≡ state_advice fault }
-{
+fn state_advice(fault: StateFault) -> &'static str {
     match fault {
         StateFault::Memory => "",
         StateFault::TableDiffers | StateFault::WindowDiffers => {
@@ -174,29 +180,28 @@ fn state_advice(fault: StateFault) -> &'static str
     }
 }
 
+/// What became of a file to which a state could not be saved.
+const UNSURE: &str =
+    "; the file has what it had, or the new state, unless it is written over in place";
+
 /// What became of a log whose state can't be saved.
-fn save_advice(reason: &Option<Reason>) -> &'static str
-    ensures { result.now ≡ save_advice reason.now }
-{
-    match reason {
-        None => "",
-        Some(Reason::System(_)) =>
+fn save_advice(why: Unkept) -> &'static str {
+    match why {
+        Unkept::Failed(_) =>
             "; the log was decoded; the file has what it had, or the new state, unless it is written over in place",
-        Some(Reason::Unfound(_)) => "; nothing was decoded",
-        Some(Reason::Harm) => "; nothing was decoded: name another file for --save",
+        Unkept::Unfound(_) => "; nothing was decoded",
+        Unkept::Harm => "; nothing was decoded: name another file for --save",
     }
 }
 
 /// What to do.
-fn advice_of(fault: Fault, reason: &Option<Reason>) -> &'static str
-    ensures { result.now ≡ advice_of fault reason.now }
-{
+fn advice_of(fault: Fault) -> &'static str {
     match fault {
         Fault::Table(fault) => table_advice(fault),
-        Fault::State(fault) => state_advice(fault),
-        Fault::Save => save_advice(reason),
-        Fault::Write => "; the rest is not printed",
-        Fault::Memory => "; nothing was saved",
+        Fault::State(fault, _) => state_advice(fault),
+        Fault::Save(why) => save_advice(why),
+        Fault::Write(_) => "; the rest is not printed",
+        Fault::Memory(_) => "; nothing was saved",
         _ => "",
     }
 }
@@ -208,46 +213,56 @@ fn text_of(word: &Option<Word>) -> Option<&str>
     Some(word.as_ref()?.as_str())
 }
 
-/// The log as it is called.
-fn log_name(log: &Option<Word>) -> &str
-    ensures { result.now ≡ log_name log.now }
+/// The name of the table of a command.
+fn table_of(command: Option<&Command>) -> Option<&str>
+    ensures { option_map (λ text. text.now) result ≡ table_of (option_map (λ c. c.now) command.entry) }
 {
-    text_of(log).unwrap_or("standard input")
+    text_of(&command?.files.table)
 }
 
-/// What was read when memory was refused, and else the words that were typed.
-fn wanting<'a>(files: &'a Files, found: &Option<Found>) -> Option<&'a str>
-    ensures { option_map (λ text. text.now) result ≡ wanting files.now found.now }
+/// That of the state that it goes on from.
+fn state_of(command: Option<&Command>) -> Option<&str>
+    ensures { option_map (λ text. text.now) result ≡ state_of (option_map (λ c. c.now) command.entry) }
 {
-    match found {
-        Some(Found::Memory(Reading::Table)) => text_of(&files.table),
-        Some(Found::Memory(Reading::State)) => text_of(&files.state),
-        Some(Found::Memory(Reading::Log)) => Some(log_name(&files.log)),
-        _ => Some("the command line"),
+    text_of(&command?.files.state)
+}
+
+/// Its log as it is called.
+fn log_of(command: Option<&Command>) -> Option<&str>
+    ensures { option_map (λ text. text.now) result ≡ log_of (option_map (λ c. c.now) command.entry) }
+{
+    Some(text_of(&command?.files.log).unwrap_or("standard input"))
+}
+
+/// The name of the file that gets the state after it.
+fn save_of(command: Option<&Command>) -> Option<&str>
+    ensures { option_map (λ text. text.now) result ≡ save_of (option_map (λ c. c.now) command.entry) }
+{
+    match &command?.task {
+        Task::Decode { save, .. } => text_of(save),
+        _ => None,
     }
 }
 
 /// What a fault is of: the name that was typed, or that of a stream.
-fn subject_of<'a>(
-    files: &'a Files,
-    command: &'a Command,
-    fault: Fault,
-    found: &Option<Found>,
-) -> Option<&'a str>
-    ensures { option_map (λ text. text.now) result ≡ subject_of files.now command.now fault found.now }
+fn subject_of(command: Option<&Command>, fault: Fault) -> Option<&str>
+    ensures { option_map (λ text. text.now) result ≡ subject_of (option_map (λ c. c.now) command.entry) fault }
 {
     match fault {
         Fault::Words | Fault::Report => None,
         Fault::Interface => Some("--candump"),
-        Fault::TableSize | Fault::Table(_) | Fault::TableFile => text_of(&files.table),
-        Fault::StateSize | Fault::State(_) | Fault::StateFile => text_of(&files.state),
-        Fault::Read | Fault::Lines => Some(log_name(&files.log)),
-        Fault::Write => Some("standard output"),
-        Fault::Memory => wanting(files, found),
-        Fault::Save => match command {
-            Command::Decode { save, .. } => text_of(save),
-            _ => None,
-        },
+        Fault::Memory(None) => Some("the command line"),
+        Fault::TableSize
+        | Fault::Table(_)
+        | Fault::TableFile(_)
+        | Fault::Memory(Some(Reading::Table)) => table_of(command),
+        Fault::StateSize
+        | Fault::State(..)
+        | Fault::StateFile(_)
+        | Fault::Memory(Some(Reading::State)) => state_of(command),
+        Fault::Read(..) | Fault::Lines | Fault::Memory(Some(Reading::Log)) => log_of(command),
+        Fault::Write(_) => Some("standard output"),
+        Fault::Save(_) => save_of(command),
     }
 }
 
@@ -259,7 +274,7 @@ fn named(subject: &str) -> &str
 }
 
 /// A text as the line that is said of it: control characters are escaped, and an LF ends it.
-fn line_of(alloc: Global, text: &[u8]) -> Result<Vec<u8>, AllocError>
+fn escaped_line(alloc: Global, text: &[u8]) -> Result<Vec<u8>, AllocError>
     ensures { IfOk result (λ line. line.items ≡ line_of text.now) }
 {
     let mut line = b"n2kdec: ".to_vec(alloc)?;
@@ -268,43 +283,81 @@ fn line_of(alloc: Global, text: &[u8]) -> Result<Vec<u8>, AllocError>
     Ok(line)
 }
 
-/// What is said of a subject: what is wrong with it, what was found out, and what to do.
+/// What is said of a subject: what is wrong with it, what is known of that, and what to do.
 fn told_of(
     alloc: Global,
-    files: &Files,
+    command: Option<&Command>,
     subject: &str,
+    words: &str,
     fault: Fault,
-    reason: &Option<Reason>,
-    found: &Option<Found>,
+    advice: &str,
 ) -> Result<Vec<u8>, AllocError>
-    ensures { IfOk result (λ text. text.items ≡ told_of files.now subject.now fault reason.now found.now) }
+    ensures { IfOk result (λ text. text.items
+        ≡ told_of (option_map (λ c. c.now) command.entry) subject.now words.now fault advice.now) }
 {
     let mut text = named(subject).as_bytes().to_vec(alloc)?;
     text.extend_from_slice(b": ")?;
-    text.extend_from_slice(words_of(fault, reason).as_bytes())?;
-    push_found(files, found, &mut text)?;
-    text.extend_from_slice(advice_of(fault, reason).as_bytes())?;
+    text.extend_from_slice(words.as_bytes())?;
+    push_cause(command, fault, &mut text)?;
+    text.extend_from_slice(advice.as_bytes())?;
     Ok(text)
 }
 
-/// What is said of a fault of a command over these files, for this reason and with what was found out: one line with
-/// its LF, in which control characters are escaped; nothing where it is of no file and no stream.
-pub fn fault_sentence(
+/// What is said of a fault of a command, or of none: one line with its LF, in which control characters are escaped;
+/// nothing where it is of no file and no stream.
+fn line_of<M: Machine>(
     alloc: Global,
-    files: &Files,
-    command: &Command,
+    machine: &M,
+    command: Option<&Command>,
     fault: Fault,
-    reason: &Option<Reason>,
-    found: &Option<Found>,
+    advice: &str,
 ) -> Result<Vec<u8>, AllocError>
-    ensures { IfOk result (λ text.
-        text.items ≡ fault_sentence files.now command.now fault reason.now found.now) }
+    ensures { IfOk result (λ text. IsLine M.words (option_map (λ c. c.now) command.entry) fault text.items) }
 {
-    match subject_of(files, command, fault, found) {
-        Some(subject) => line_of(
-            alloc,
-            &told_of(alloc, files, subject, fault, reason, found)?,
-        ),
+    let Some(subject) = subject_of(command, fault) else {
+        return Ok(Vec::new(alloc));
+    };
+    let words = words_of(alloc, machine, fault)?;
+    let text = told_of(alloc, command, subject, words.as_str(), fault, advice)?;
+    escaped_line(alloc, &text)
+}
+
+/// What is said of a state that was not kept behind a failed read; nothing where it was.
+fn next_line<M: Machine>(
+    alloc: Global,
+    machine: &M,
+    command: Option<&Command>,
+    unkept: Option<Unkept>,
+) -> Result<Vec<u8>, AllocError>
+    ensures { IfOk result (λ text. IsNextLine M.words (option_map (λ c. c.now) command.entry) unkept text.items) }
+{
+    match unkept {
+        Some(why) => line_of(alloc, machine, command, Fault::Save(why), UNSURE),
         None => Ok(Vec::new(alloc)),
     }
+}
+
+/// Why the state behind a failed read was not kept, where it was not.
+fn unkept_of(fault: Fault) -> Option<Unkept>
+    ensures { result ≡ unkept_of fault }
+{
+    match fault {
+        Fault::Read(_, _, unkept) => unkept,
+        _ => None,
+    }
+}
+
+/// What is said of a fault of a command, or of none, in whole lines in which control characters are escaped.
+pub fn fault_sentence<M: Machine>(
+    alloc: Global,
+    machine: &M,
+    command: Option<&Command>,
+    fault: Fault,
+) -> Result<Vec<u8>, AllocError>
+    ensures { IfOk result (λ text. IsSentence M.words (option_map (λ c. c.now) command.entry) fault text.items) }
+{
+    let mut text = line_of(alloc, machine, command, fault, advice_of(fault))?;
+    let next = next_line(alloc, machine, command, unkept_of(fault))?;
+    text.extend_from_slice(&next)?;
+    Ok(text)
 }

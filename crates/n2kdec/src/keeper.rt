@@ -1,79 +1,53 @@
 //! Where a state is kept after a run: the trait, and the files of a disk, by which the program does it.
-ghost use Rattle.std.specs.Prelude.{◌≡◌, ℕ, Bool, List, Option, Some, true, false, IfSome, IsSomeAnd, OnErr, OnOk};
+ghost use Rattle.std.specs.Prelude.{◌≡◌, List, Option, Result, Some, IfSome};
+ghost use Rattle.std.specs.Result.{result_err};
 ghost use Rattle.clap.specs.Words.{Text};
-ghost use Rattle.n2k_run.specs.Device.{CountsFailure};
-ghost use Rattle.n2kdec.specs.Commands.{IsAdmitted, Kept, KeepsUnder, MayBeRefused, MayKeepUnder};
+ghost use Rattle.n2kdec.specs.Commands.{Kept, Keeps};
 ghost use Rattle.n2kdec.specs.Disk.{IsAnswerUnlessMemory};
-ghost use Rattle.n2kdec.specs.FaultSentence.{IsAsKnown};
-ghost use Rattle.n2kdec.specs.Keeper.{Admits, HoldsAsNoted, IsNoted, KeepsState, TellsOf, harms, harms_target, harms_temp};
-ghost use Rattle.n2kdec.specs.Keeper.{meets, meets_files, read_log};
-ghost use Rattle.n2kdec.specs.Replacement.{is_memory};
+ghost use Rattle.n2kdec.specs.Keeper.{Admits, KeepsState, harms, harms_target, harms_temp, meets, meets_files, read_log};
 ghost use Rattle.n2kdec.specs.declared.asked.Files.{Files};
-ghost use Rattle.n2kdec.specs.declared.reason.Reason.{Reason};
+ghost use Rattle.n2kdec.specs.declared.keeper.Unkept.{Unkept};
 
 use crate::asked::Files;
 use crate::destination::{Destination, Kind, find, leads};
 use crate::disk::Disk;
-use crate::reason::{Reason, words_for};
 use crate::replacement::keep_text;
 use crate::words::Word;
-use n2k_run::{Failed, Sink};
+use n2k_run::Sink;
 use std::alloc::Global;
 use std::io;
-use std::io::{Error, ErrorKind};
-
-/// A place where the state after a run is kept.
-pub trait Keeper {
-    /// How many times it could not keep a text. At 2^64 - 1 the number stays.
-    ghost failed_keeps: { Self → ℕ };
-
-    /// How many times it has not admitted a state. At 2^64 - 1 the number stays.
-    ghost failed_admissions: { Self → ℕ };
-
-    /// The texts that were kept, each under its name and the first one first, where they are known.
-    ghost kept: { Self → Option (List Kept) };
-
-    /// Whether it admits a state of this name by a run of these files, where that is known. No call changes it.
-    ghost admits: { Text → Files → Option Bool };
-
-    /// Why a state of this name is not admitted or not kept, where that is known. No call changes it.
-    ghost unkept: { Text → Option Reason };
-
-    /// Whether a run of these files may keep a state under this name. `Failed` where one that is read or printed to would
-    /// be harmed.
-    fn admit(&mut self, name: &str, files: &Files) -> Result<(), Failed>
-        ensures same { kept self.new ≡ kept self.old }
-        ensures keeps { failed_keeps self.new ≡ failed_keeps self.old }
-        ensures admitted { OnOk result (IsAdmitted admits name.now files.now) }
-        ensures refused { OnErr result (MayBeRefused admits name.now files.now) }
-        ensures counted { CountsFailure (failed_admissions self.old) (failed_admissions self.new) result };
-
-    /// Keeps a state under this name, in the place of what the name has. `Failed` where it can't, or can't be sure. The
-    /// errors are lent, so that a keeper may note what they held then.
-    fn keep<E: Sink>(&mut self, name: &str, state: &[u8], errors: &E) -> Result<(), Failed>
-        ensures bytes { OnOk result (KeepsUnder (Some name.now) (kept self.old) (kept self.new) state.now
-            (E.contents errors.now)) }
-        ensures unkept { OnErr result (MayKeepUnder (Some name.now) (kept self.old) (kept self.new) state.now
-            (E.contents errors.now)) }
-        ensures admissions { failed_admissions self.new ≡ failed_admissions self.old }
-        ensures counted { CountsFailure (failed_keeps self.old) (failed_keeps self.new) result };
-
-    /// Why a state of this name was not admitted or not kept, which was the last that was not.
-    fn why_unkept(&self, alloc: Global, name: &str) -> Option<Reason>
-        ensures { IsAsKnown (unkept name.now) result };
-}
+use std::io::Error;
 
 /// Why a state is not kept.
 #[derive(Clone, Copy, Debug)]
 pub enum Unkept {
-    /// It would harm a file that is read or printed to.
+    /// It would harm a file that the run reads or prints to. The log is not read then.
     Harm,
-    /// Where it goes can't be found out.
+    /// Where it goes can't be found out. The log is not read then.
     Unfound(Error),
-    /// Memory was refused where that was looked for.
-    Memory(Error),
-    /// A call of the disk failed.
+    /// A call failed by which it is kept.
     Failed(Error),
+}
+
+/// A place where the state after a run is kept.
+pub trait Keeper {
+    /// What it was asked to keep, the first one first, where that is known.
+    ghost kept: { Self → Option (List Kept) };
+
+    /// What it answers whether a state of this name may be kept by a run of these files, where that is known. No call
+    /// changes it.
+    ghost admits: { Text → Files → Option (Result (Unit {0}) Unkept) };
+
+    /// Whether a run of these files may keep a state under this name: not where one that is read or printed to would be
+    /// harmed.
+    fn admit(&self, name: &str, files: &Files) -> Result<(), Unkept>
+        ensures { IfSome (admits name.now files.now) (λ known. result ≡ known) };
+
+    /// Keeps a state under this name, in the place of what the name has. An error where it can't, or can't be sure. The
+    /// errors are lent, so that a keeper may note what they held then.
+    fn keep<E: Sink>(&mut self, name: &str, state: &[u8], errors: &E) -> Result<(), Unkept>
+        ensures { Keeps (Some name.now) (kept self.old) (kept self.new) state.now (E.contents errors.now)
+            (result_err result) };
 }
 
 /// The file that standard input is.
@@ -144,27 +118,18 @@ fn harms<D: Disk>(alloc: Global, disk: &D, name: &str, files: &Files) -> io::Res
     Ok(harms_target(disk, &to, files) || harms_temp(disk, to.temp.as_str(), files))
 }
 
-/// Whether memory was refused.
-fn is_memory(why: ErrorKind) -> bool
-    ensures { result ≡ is_memory why }
-{
-    matches!(why, ErrorKind::OutOfMemory)
-}
-
-/// Finds where a state of this name goes. An error where something would be harmed by it there, or that can't be found
-/// out.
+/// Whether a state of this name may be kept by a run of these files.
 fn admit_to<D: Disk>(alloc: Global, disk: &D, name: &str, files: &Files) -> Result<(), Unkept>
     ensures { Admits (D.answers disk.now) name.now files.now result }
 {
     match harms(alloc, disk, name, files) {
         Ok(false) => Ok(()),
         Ok(true) => Err(Unkept::Harm),
-        Err(error) if is_memory(error.kind()) => Err(Unkept::Memory(error)),
         Err(error) => Err(Unkept::Unfound(error)),
     }
 }
 
-/// Keeps a state in the file to which a name leads. An error where a call of the disk failed.
+/// Keeps a state in the file to which a name leads.
 fn keep_state<D: Disk>(alloc: Global, disk: &mut D, name: &str, state: &[u8]) -> Result<(), Unkept>
     ensures { KeepsState (D.answers disk.old) (D.acts disk.old) (D.acts disk.new) name.now state.now result }
 {
@@ -179,51 +144,21 @@ fn keep_state<D: Disk>(alloc: Global, disk: &mut D, name: &str, state: &[u8]) ->
 pub struct StateFiles<D> {
     alloc: Global,
     disk: D,
-    failed_keeps: u64,
-    failed_admissions: u64,
-    failure: Option<Unkept>,
-}
-
-/// Counts a call, where it failed, and notes why.
-fn count(
-    failed: &mut u64,
-    failure: &mut Option<Unkept>,
-    answer: Result<(), Unkept>,
-) -> Result<(), Failed>
-    ensures noted { IsNoted answer failure.new result }
-    ensures counted { CountsFailure failed.old failed.new result }
-{
-    if let Err(why) = answer {
-        *failed = failed.saturating_add(1);
-        *failure = Some(why);
-    }
-    answer.map_err(|_| Failed)
 }
 
 impl<D: Disk> StateFiles<D> {
-    /// The files of this disk. No call of them has failed.
+    ghost use Rattle.std.specs.Prelude.{◌≡◌};
+
+    /// The files of this disk.
     pub fn new(alloc: Global, disk: D) -> Self
-        ensures none_unkept { ⟦<StateFiles<D> as Keeper>⟧.failed_keeps result ≡ 0 }
-        ensures none_refused { ⟦<StateFiles<D> as Keeper>⟧.failed_admissions result ≡ 0 }
+        ensures { result.disk ≡ disk }
     {
-        StateFiles {
-            alloc,
-            disk,
-            failed_keeps: 0,
-            failed_admissions: 0,
-            failure: None,
-        }
+        StateFiles { alloc, disk }
     }
 }
 
 impl<D: Disk> Keeper for StateFiles<D> {
     ghost use Rattle.std.specs.Prelude.{None};
-    ghost use Rattle.n2kdec.specs.declared.keeper.Unkept.TheVariants as causes;
-    ghost use Rattle.n2kdec.specs.declared.reason.Reason.TheVariants as reasons;
-
-    ghost failed_keeps = { λ s. s.failed_keeps };
-
-    ghost failed_admissions = { λ s. s.failed_admissions };
 
     // What a file has, nothing says: which calls were made of the disk, `keep` does.
     ghost kept = { λ _. None };
@@ -231,40 +166,16 @@ impl<D: Disk> Keeper for StateFiles<D> {
     // Nor does anything say which paths lead to one file: by what the disk answers of that, `admit` does.
     ghost admits = { λ _ _. None };
 
-    ghost unkept = { λ _. None };
-
-    #[tactic(auto, using(crate::proofs::Keeping::as_noted))]
-    fn admit(&mut self, name: &str, files: &Files) -> Result<(), Failed>
-        ensures harmless { HoldsAsNoted (Admits (D.answers self.old.disk) name.now files.now) self.new.failure result }
-        ensures untouched { self.new.disk ≡ self.old.disk }
-        ensures keeps { self.new.failed_keeps ≡ self.old.failed_keeps }
-        ensures counted { CountsFailure self.old.failed_admissions self.new.failed_admissions result }
+    fn admit(&self, name: &str, files: &Files) -> Result<(), Unkept>
+        ensures harmless { Admits (D.answers self.now.disk) name.now files.now result }
     {
-        let admitted = admit_to(self.alloc, &self.disk, name, files);
-        count(&mut self.failed_admissions, &mut self.failure, admitted)
+        admit_to(self.alloc, &self.disk, name, files)
     }
 
-    #[tactic(auto, using(crate::proofs::Keeping::as_noted))]
-    fn keep<E: Sink>(&mut self, name: &str, state: &[u8], _errors: &E) -> Result<(), Failed>
-        ensures calls { HoldsAsNoted (KeepsState (D.answers self.old.disk) (D.acts self.old.disk) (D.acts self.new.disk)
-            name.now state.now) self.new.failure result }
-        ensures admissions { self.new.failed_admissions ≡ self.old.failed_admissions }
-        ensures counted { CountsFailure self.old.failed_keeps self.new.failed_keeps result }
+    fn keep<E: Sink>(&mut self, name: &str, state: &[u8], _errors: &E) -> Result<(), Unkept>
+        ensures calls { KeepsState (D.answers self.old.disk) (D.acts self.old.disk) (D.acts self.new.disk)
+            name.now state.now result }
     {
-        let kept = keep_state(self.alloc, &mut self.disk, name, state);
-        count(&mut self.failed_keeps, &mut self.failure, kept)
-    }
-
-    fn why_unkept(&self, alloc: Global, _name: &str) -> Option<Reason>
-        ensures told { IfSome result (λ reason. IsSomeAnd self.now.failure (λ why. TellsOf why reason)) }
-        ensures harm { self.now.failure ≡ Some causes.Harm → result ≡ Some reasons.Harm }
-    {
-        match self.failure? {
-            Unkept::Harm => Some(Reason::Harm),
-            Unkept::Unfound(error) | Unkept::Memory(error) => {
-                Some(Reason::Unfound(words_for(alloc, &error)?))
-            }
-            Unkept::Failed(error) => Some(Reason::System(words_for(alloc, &error)?)),
-        }
+        keep_state(self.alloc, &mut self.disk, name, state)
     }
 }

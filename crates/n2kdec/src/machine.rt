@@ -1,17 +1,19 @@
 //! What the program meets: the words that were typed, files, and the standard streams.
-ghost use Rattle.std.specs.Prelude.{◌≡◌, ◌⊎◌, None, Some, IfErr, IfOk, IfSome, IsErrOf, map, string_bytes};
-ghost use Rattle.n2kdec.specs.FaultSentence.{IsAsKnown};
-ghost use Rattle.n2kdec.specs.Machine.{ClosesFile, FileUse, IsTerminal, OpensFile, World, bytes_named};
+ghost use Rattle.std.specs.Prelude.{◌≡◌, ◌⊎◌, ◌∷◌, [], None, Option, Some, IfErr, IfOk, IfSome, IsErrOf, map, string_bytes};
+ghost use Rattle.std.specs.declared.io.Error.{Error};
+ghost use Rattle.n2k_run.specs.Device.{IsWhy};
+ghost use Rattle.n2kdec.specs.FaultSentence.{SystemWords};
+ghost use Rattle.n2kdec.specs.Machine.{Calls, IsTerminal, Makes, Opens, World, bytes_named};
+ghost use Rattle.n2kdec.specs.declared.machine.FileCall.TheVariants.{Closed};
 
 use crate::fault::Fault;
-use crate::found::Found;
-use crate::reason::Reason;
 use crate::words::Word;
 use n2k_run::{Sink, Source};
-use std::alloc::Global;
+use std::alloc::{AllocError, Global};
+use std::io;
+use std::io::Error;
 
-/// Where the program's texts go, each to a type of its own, so that one can't stand for the other; and what is found out
-/// about a fault.
+/// Where the program's texts go, each to a type of its own, so that one can't stand for the other.
 #[derive(Drop)]
 pub struct Outlets<W, E, K> {
     /// Standard output.
@@ -20,11 +22,18 @@ pub struct Outlets<W, E, K> {
     pub errors: E,
     /// What keeps a state.
     pub keeper: K,
-    /// What is found out about the fault that ended a command.
-    pub found: Option<Found>,
 }
 
-/// What the program meets.
+/// A call by which a file is opened or closed.
+#[derive(Debug, Drop)]
+pub enum FileCall {
+    /// The file of this name, or standard input, is opened; or it is not, by this error.
+    Opened(Option<Word>, Option<Error>),
+    /// A file is closed of which so many reads were made; the last that failed did by this error.
+    Closed(u64, Option<Error>),
+}
+
+/// What the program meets. A call of it answers what the system does.
 pub trait Machine {
     /// An open file, or standard input.
     type File: Source + Drop;
@@ -38,47 +47,53 @@ pub trait Machine {
     /// The words that were typed, and the bytes that can be read, where they are known. No call changes them.
     ghost world: { Self → World };
 
-    /// How files were used.
-    ghost files: { Self → FileUse };
+    /// The calls by which files were opened and closed, where they are known.
+    ghost calls: { Self → Calls };
+
+    /// Why the last call of an output failed that did.
+    ghost unwritten: { Self.Output → Option Error };
+
+    /// The words that it has for an error, where they are known.
+    ghost words: { SystemWords };
 
     /// The words that were typed, the program's name first. `Words` where one is no text.
     fn typed(&self, alloc: Global) -> Result<Vec<String>, Fault>
         ensures words { IfOk result (λ words. IfSome (world self.now).typed
             (λ typed. map string_bytes words.items ≡ typed)) }
-        ensures fault { IfErr result (λ fault. (fault ≡ Fault.Words) ⊎ (fault ≡ Fault.Memory)) }
+        ensures fault { IfErr result (λ fault. (fault ≡ Fault.Words) ⊎ (fault ≡ Fault.Memory None)) }
         ensures texts { IsErrOf result Fault.Words → (world self.now).typed ≡ None };
 
-    /// Opens the file of this name. `refused` where there is none of the name, or it may not be read.
-    fn open(&mut self, name: &Word, refused: Fault) -> Result<Self::File, Fault>
+    /// Opens the file of this name.
+    fn open(&mut self, name: &Word) -> io::Result<Self::File>
         ensures same { world self.new ≡ world self.old }
         ensures bytes { IfOk result (λ file. Self.File.remaining file ≡ bytes_named (world self.old) (Some name.now)) }
         ensures none_called { IfOk result (λ file. Self.File.calls file ≡ 0) }
         ensures none_failed { IfOk result (λ file. Self.File.failed_calls file ≡ 0) }
-        ensures files { OpensFile (Some name.now) refused (files self.old) (files self.new) result };
+        ensures calls { Opens (Some name.now) (calls self.old) (calls self.new) result };
 
-    /// Standard input, which is always there.
-    fn input(&mut self) -> Result<Self::File, Fault>
+    /// Standard input, which is refused for want of memory alone.
+    fn input(&mut self) -> io::Result<Self::File>
         ensures same { world self.new ≡ world self.old }
         ensures bytes { IfOk result (λ file. Self.File.remaining file ≡ bytes_named (world self.old) None) }
         ensures none_called { IfOk result (λ file. Self.File.calls file ≡ 0) }
         ensures none_failed { IfOk result (λ file. Self.File.failed_calls file ≡ 0) }
-        ensures files { OpensFile None Fault.Read (files self.old) (files self.new) result };
+        ensures calls { Opens None (calls self.old) (calls self.new) result };
 
-    /// Closes a file, and counts the calls of it, and those that failed.
-    fn close(&mut self, file: Self::File)
+    /// Closes a file, and answers the error of the last read of it that failed.
+    fn close(&mut self, file: Self::File) -> Option<Error>
         ensures same { world self.new ≡ world self.old }
-        ensures files { ClosesFile (Self.File.calls file) (Self.File.failed_calls file) (files self.old)
-            (files self.new) };
+        ensures why { IsWhy (Self.File.failed_calls file) result }
+        ensures calls { Makes (Closed (Self.File.calls file) result ∷ []) (calls self.old) (calls self.new) };
 
     /// Whether standard error is a terminal.
     fn is_terminal(&self) -> bool
         ensures { IsTerminal (world self.now) result };
 
-    /// Why the file of this name, or standard input, could not be opened or read, which was the last that could not.
-    fn why_unread(&self, alloc: Global, name: &Option<Word>) -> Option<Reason>
-        ensures { IsAsKnown ((world self.now).unread name.now) result };
+    /// The error of the last call of the output that failed.
+    fn failure(&self, output: &Self::Output) -> Option<Error>
+        ensures { result ≡ unwritten output.now };
 
-    /// Why the output could not be written.
-    fn why_unwritten(&self, alloc: Global, output: &Self::Output) -> Option<Reason>
-        ensures { IsAsKnown (world self.now).unwritten result };
+    /// The words that the system has for an error, as `No such file or directory`.
+    fn words(&self, alloc: Global, error: &Error) -> Result<Word, AllocError>
+        ensures { IfOk result (λ said. IfSome (words error.now) (λ known. said ≡ known)) };
 }

@@ -1,16 +1,19 @@
 //! A machine in memory, for tests.
-ghost use Rattle.std.specs.Prelude.{◌≡◌, ◌∷◌, ◌++◌, [], IfOk, IfSome, OnErr, OnOk, map, option_map, string_bytes};
+ghost use Rattle.std.specs.Prelude.{◌≡◌, ◌∷◌, ◌++◌, [], IfOk, OnOk, map, option_map, string_bytes};
 ghost use Rattle.clap.specs.Walk.{texts};
-ghost use Rattle.n2kdec.specs.MemoryMachine.{bytes_under, kept_text};
+ghost use Rattle.n2kdec.specs.Machine.{Makes};
+ghost use Rattle.n2kdec.specs.MemoryMachine.{bytes_under, kept_text, words_of};
+ghost use Rattle.n2kdec.specs.declared.machine.FileCall.TheVariants.{Opened};
 
 use crate::asked::Files;
 use crate::fault::Fault;
-use crate::keeper::Keeper;
-use crate::machine::Machine;
-use crate::reason::Reason;
+use crate::keeper::{Keeper, Unkept};
+use crate::machine::{FileCall, Machine};
 use crate::words::Word;
 use n2k_run::{Failed, MemorySink, MemorySource, Sink, Source};
 use std::alloc::{AllocError, Global};
+use std::io;
+use std::io::{Error, ErrorKind};
 
 /// How many bytes a call of a device moves at most.
 const PIECE: usize = 100;
@@ -27,20 +30,38 @@ fn text_under<'a>(files: &[(&'a str, &'a str)], name: &str) -> Option<&'a str>
     None
 }
 
-/// Notes that a file is opened, or standard input.
-fn note(opened: &mut Vec<Option<Word>>, name: Option<Word>) -> Result<(), AllocError>
-    ensures noted { OnOk result (opened.new.items ≡ opened.old.items ++ name ∷ []) }
-    ensures unchanged { OnErr result (opened.new.items ≡ opened.old.items) }
+/// Notes a call of files. Where memory for it is refused, the calls are known no more.
+fn note(calls: &mut Option<Vec<FileCall>>, call: FileCall)
+    ensures { Makes (call ∷ []) (option_map (λ all. all.items) calls.old)
+        (option_map (λ all. all.items) calls.new) }
 {
-    opened.push(name)?;
-    Ok(())
+    let Some(mut all) = calls.take() else {
+        return;
+    };
+    if all.push(call).is_ok() {
+        *calls = Some(all);
+    }
 }
 
-/// A reason that is this text.
-fn named(alloc: Global, text: &str) -> Option<Reason>
-    ensures { IfSome result (λ reason. reason ≡ Reason.System text.now) }
+/// Notes so that the file of this name is opened, or is not, by this error.
+fn note_opened(alloc: Global, calls: &mut Option<Vec<FileCall>>, name: &Word, why: Option<Error>)
+    ensures { Makes (Opened (Some name.now) why ∷ []) (option_map (λ all. all.items) calls.old)
+        (option_map (λ all. all.items) calls.new) }
 {
-    Some(Reason::System(Word::new(alloc, text).ok()?))
+    match Word::new(alloc, name.as_str()) {
+        Ok(name) => note(calls, FileCall::Opened(Some(name), why)),
+        Err(_) => *calls = None,
+    }
+}
+
+/// What is said of an error of this kind.
+fn words_of(kind: ErrorKind) -> &'static str
+    ensures { result.now ≡ words_of kind }
+{
+    match kind {
+        ErrorKind::NotFound => "there is none",
+        _ => "it failed",
+    }
 }
 
 /// Copies of texts.
@@ -99,9 +120,10 @@ impl<'a> Source for MemoryFile<'a> {
 }
 
 /// A machine with these words typed, these files, of two of one name the first, and these bytes to its input. Its
-/// errors are no terminal. Why a file fails it tells by the file's name.
+/// errors are no terminal.
 #[derive(Drop)]
 pub struct MemoryMachine<'a> {
+    alloc: Global,
     /// The words, the program's name first.
     pub words: &'a [&'a str],
     /// The files, each behind its name.
@@ -110,17 +132,35 @@ pub struct MemoryMachine<'a> {
     pub input: &'a str,
     /// The number of the call of each file that fails; 0 is none.
     pub fails_at: u64,
-    /// How many openings and reads of files have failed.
-    pub failed_reads: u64,
-    /// How many reads were made of the files that were closed.
-    pub reads: u64,
-    /// The files that were opened, or refused in it, standard input without a name.
-    pub opened: Vec<Option<Word>>,
+    /// The calls of files, unless memory for them was refused.
+    pub calls: Option<Vec<FileCall>>,
+}
+
+impl<'a> MemoryMachine<'a> {
+    ghost use Rattle.std.specs.Prelude.{[], Some};
+
+    /// One of which no file was opened, with no input, and no file of which fails.
+    pub fn new(
+        alloc: Global,
+        words: &'a [&'a str],
+        files: &'a [(&'a str, &'a str)],
+    ) -> MemoryMachine<'a>
+        ensures { option_map (λ all. all.items) result.calls ≡ Some [] }
+    {
+        MemoryMachine {
+            alloc,
+            words,
+            files,
+            input: "",
+            fails_at: 0,
+            calls: Some(Vec::new(alloc)),
+        }
+    }
 }
 
 impl<'a> Machine for MemoryMachine<'a> {
     ghost use Rattle.std.specs.Prelude.{Some, None, false};
-    ghost use Rattle.n2kdec.specs.declared.reason.Reason.TheVariants.{System};
+    ghost use Rattle.std.specs.IoError.{error_kind};
 
     type File = MemoryFile<'a>;
 
@@ -133,127 +173,119 @@ impl<'a> Machine for MemoryMachine<'a> {
       file = λ name. bytes_under name m.files.now;
       input = Some m.input.now;
       terminal = Some false;
-      unread = λ name. option_map (λ text. System text) name;
-      unwritten = None;
     } };
 
-    ghost files = { λ m. record {
-      failed = m.failed_reads;
-      reads = m.reads;
-      opened = Some m.opened.items;
-    } };
+    ghost calls = { λ m. option_map (λ all. all.items) m.calls };
+
+    // Why a write of it fails a sink in memory does not tell.
+    ghost unwritten = { λ _. None };
+
+    ghost words = { λ error. Some (words_of (error_kind error)) };
 
     fn typed(&self, alloc: Global) -> Result<Vec<String>, Fault> {
         Ok(copies(alloc, self.words)?)
     }
 
-    #[tactic(auto, using(crate::proofs::MachineLemmas::still_opened))]
-    fn open(&mut self, name: &Word, refused: Fault) -> Result<MemoryFile<'a>, Fault> {
-        let own = Word::new(*self.opened.allocator(), name.as_str())?;
-        note(&mut self.opened, Some(own))?;
+    fn open(&mut self, name: &Word) -> io::Result<MemoryFile<'a>> {
         match text_under(self.files, name.as_str()) {
-            Some(text) => Ok(MemoryFile::new(text.as_bytes(), self.fails_at)),
+            Some(text) => {
+                note_opened(self.alloc, &mut self.calls, name, None);
+                Ok(MemoryFile::new(text.as_bytes(), self.fails_at))
+            }
             None => {
-                self.failed_reads = self.failed_reads.saturating_add(1);
-                Err(refused)
+                let error = Error::from(ErrorKind::NotFound);
+                note_opened(self.alloc, &mut self.calls, name, Some(error));
+                Err(error)
             }
         }
     }
 
-    #[tactic(auto, using(crate::proofs::MachineLemmas::still_opened))]
-    fn input(&mut self) -> Result<MemoryFile<'a>, Fault> {
-        note(&mut self.opened, None)?;
+    fn input(&mut self) -> io::Result<MemoryFile<'a>> {
+        note(&mut self.calls, FileCall::Opened(None, None));
         Ok(MemoryFile::new(self.input.as_bytes(), self.fails_at))
     }
 
-    fn close(&mut self, file: MemoryFile<'a>) {
-        self.failed_reads = self.failed_reads.saturating_add(file.failed_calls);
-        self.reads = self.reads.saturating_add(file.calls);
+    fn close(&mut self, file: MemoryFile<'a>) -> Option<Error> {
+        let why = if file.failed_calls == 0 {
+            None
+        } else {
+            Some(Error::from(ErrorKind::Other))
+        };
+        note(&mut self.calls, FileCall::Closed(file.calls, why));
+        why
     }
 
     fn is_terminal(&self) -> bool {
         false
     }
 
-    fn why_unread(&self, alloc: Global, name: &Option<Word>) -> Option<Reason> {
-        named(alloc, name.as_ref()?.as_str())
-    }
-
-    fn why_unwritten(&self, _alloc: Global, _output: &MemorySink) -> Option<Reason> {
+    fn failure(&self, _output: &MemorySink) -> Option<Error> {
         None
     }
+
+    fn words(&self, alloc: Global, error: &Error) -> Result<Word, AllocError> {
+        Word::new(alloc, words_of(error.kind()))
+    }
+}
+
+/// Adds a text that is kept under a name.
+fn push(
+    alloc: Global,
+    kept: &mut Vec<(String, Vec<u8>)>,
+    name: &str,
+    text: &[u8],
+) -> Result<(), AllocError>
+    ensures { OnOk result (map (λ k. kept_text (string_bytes k.0) k.1.items) kept.new.items
+        ≡ map (λ k. kept_text (string_bytes k.0) k.1.items) kept.old.items ++ kept_text name.now text.now ∷ []) }
+{
+    let one = (String::from_str(alloc, name)?, text.to_vec(alloc)?);
+    kept.push(one)?;
+    Ok(())
 }
 
 /// A keeper in memory.
 #[derive(Drop)]
 pub struct MemoryKeeper {
-    kept: Vec<(String, Vec<u8>)>,
-    failed_keeps: u64,
+    alloc: Global,
+    /// What was kept, each text behind its name, unless memory for one was refused.
+    pub kept: Option<Vec<(String, Vec<u8>)>>,
 }
 
 impl MemoryKeeper {
-    ghost use Rattle.std.specs.Prelude.{[], ◌∷◌, ◌++◌, OnErr, OnOk};
+    ghost use Rattle.std.specs.Prelude.{[], Some};
 
     /// A keeper that has kept nothing.
     pub fn new(alloc: Global) -> Self
-        ensures { (result.kept.items ≡ []) × (result.failed_keeps ≡ 0) }
+        ensures { option_map (λ all. all.items) result.kept ≡ Some [] }
     {
         MemoryKeeper {
-            kept: Vec::new(alloc),
-            failed_keeps: 0,
+            alloc,
+            kept: Some(Vec::new(alloc)),
         }
-    }
-
-    /// What was kept, each text behind its name.
-    pub fn kept(&self) -> &[(String, Vec<u8>)]
-        ensures { result.now ≡ self.now.kept.items }
-    {
-        &self.kept
-    }
-
-    fn push(&mut self, name: &str, text: &[u8]) -> Result<(), AllocError>
-        ensures kept { OnOk result (map (λ k. kept_text (string_bytes k.0) k.1.items) self.new.kept.items
-            ≡ map (λ k. kept_text (string_bytes k.0) k.1.items) self.old.kept.items
-            ++ kept_text name.now text.now ∷ []) }
-        ensures unkept { OnErr result (self.new.kept.items ≡ self.old.kept.items) }
-        ensures same { self.new.failed_keeps ≡ self.old.failed_keeps }
-    {
-        let alloc = *self.kept.allocator();
-        let kept = (String::from_str(alloc, name)?, text.to_vec(alloc)?);
-        self.kept.push(kept)?;
-        Ok(())
     }
 }
 
 impl Keeper for MemoryKeeper {
-    ghost use Rattle.std.specs.Prelude.{Some, true};
-    ghost use Rattle.n2kdec.specs.declared.reason.Reason.TheVariants.{System};
-
-    ghost failed_keeps = { λ s. s.failed_keeps };
-
-    // It admits each state.
-    ghost failed_admissions = { λ _. 0 };
+    ghost use Rattle.std.specs.Prelude.{Ok, Some};
 
     // What the errors held is not noted.
-    ghost kept = { λ s. Some (map (λ k. kept_text (string_bytes k.0) k.1.items) s.kept.items) };
+    ghost kept = { λ s. option_map (λ all. map (λ k. kept_text (string_bytes k.0) k.1.items) all.items) s.kept };
 
-    ghost admits = { λ _ _. Some true };
+    ghost admits = { λ _ _. Some (Ok tt) };
 
-    ghost unkept = { λ name. Some (System name) };
-
-    fn why_unkept(&self, alloc: Global, name: &str) -> Option<Reason> {
-        named(alloc, name)
-    }
-
-    fn admit(&mut self, _name: &str, _files: &Files) -> Result<(), Failed> {
+    fn admit(&self, _name: &str, _files: &Files) -> Result<(), Unkept> {
         Ok(())
     }
 
-    fn keep<E: Sink>(&mut self, name: &str, state: &[u8], _errors: &E) -> Result<(), Failed> {
-        let answer = self.push(name, state).map_err(|_| Failed);
-        if answer.is_err() {
-            self.failed_keeps = self.failed_keeps.saturating_add(1);
+    fn keep<E: Sink>(&mut self, name: &str, state: &[u8], _errors: &E) -> Result<(), Unkept> {
+        let refused = Unkept::Failed(Error::from(ErrorKind::OutOfMemory));
+        let Some(mut all) = self.kept.take() else {
+            return Err(refused);
+        };
+        if push(self.alloc, &mut all, name, state).is_err() {
+            return Err(refused);
         }
-        answer
+        self.kept = Some(all);
+        Ok(())
     }
 }

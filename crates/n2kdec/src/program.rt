@@ -1,32 +1,29 @@
 //! From the words that were typed to the status that the program ends with, over any machine.
-ghost use Rattle.std.specs.Prelude.{◌≡◌, IfErr, IfOk, None, OnOk, map, option_and_then, option_map, string_bytes};
+ghost use Rattle.std.specs.Prelude.{◌≡◌, List, IfOk, IfSome, IsErr, IsSome, Ok, Some, map, option_map, string_bytes};
 ghost use Rattle.std.specs.Process.{exit_status};
 ghost use Rattle.clap.specs.Walk.{texts};
-ghost use Rattle.n2k_run.specs.Device.{HasFailed};
 ghost use Rattle.n2kdec.specs.Asked.{save_name};
 ghost use Rattle.n2kdec.specs.Commands.{place};
-ghost use Rattle.n2kdec.specs.FaultSentence.{IsAsKnown};
-ghost use Rattle.n2kdec.specs.Machine.{AsksFor, DoesTyped, HasReason, IsOfFile, IsSentenceOf, IsStateAdmitted};
-ghost use Rattle.n2kdec.specs.Machine.{IsStateRefused, IsUnasked, OpensFile, command_of, files_of};
-ghost use Rattle.n2kdec.specs.Machine.{ReadsFile, RunsCommand, RunsTyped, Shows, StandsBefore, bytes_named};
-ghost use Rattle.n2kdec.specs.Machine.{Hints, HintsOnTerminal, outside};
-ghost use Rattle.n2kdec.specs.Parser.{AreLinesOf, said_of};
+ghost use Rattle.n2kdec.specs.Machine.{AsksFor, DoesAsked, Hints, HintsOnTerminal, IsAdmittedSo, IsOfFile, IsToldOf, Makes};
+ghost use Rattle.n2kdec.specs.Machine.{Opens, ReadsFile, RunsCommand, RunsRequest, RunsTyped, Shows, StandsBefore};
+ghost use Rattle.n2kdec.specs.Machine.{bytes_named, explained, outside, too_large as too_large_of};
+ghost use Rattle.n2kdec.specs.declared.machine.FileCall.{FileCall};
 
-use crate::asked::{Command, Files, Request, asked};
-use crate::command_line::words;
+use crate::asked::{Command, Request, Task};
+use crate::command_line::request;
 use crate::commands::run_command;
 use crate::ending::{Ending, hint};
-use crate::fault::{Fault, status};
-use crate::fault_message::{lines_of, write_fault, write_text};
+use crate::fault::{Fault, Reading, status, unopened, unread};
+use crate::fault_message::{write_fault, write_text};
 use crate::fault_sentence::fault_sentence;
-use crate::found::{Reading, note_memory};
-use crate::keeper::Keeper;
+use crate::keeper::{Keeper, Unkept};
 use crate::machine::{Machine, Outlets};
 use crate::parser::Parser;
-use crate::reason::Reason;
-use crate::words::{Word, Words};
+use crate::words::Word;
 use n2k_run::{BytesFault, Sink, read_bytes, write_all};
 use std::alloc::{AllocError, Global};
+use std::io;
+use std::io::Error;
 use std::process::ExitCode;
 
 /// The most bytes of the file of a table, and of that of a state.
@@ -42,59 +39,100 @@ fn texts_of(alloc: Global, words: &[String]) -> Result<Vec<&str>, AllocError>
     Ok(all)
 }
 
-/// What the words that were typed ask for.
-fn typed_words<P: Parser, M: Machine>(
-    alloc: Global,
-    parser: &P,
-    machine: &M,
-) -> Result<Words, Fault>
-    ensures asked { IfOk result (AsksFor (P.shown parser.now) (M.world machine.now)) }
-    ensures unasked { IfErr result (IsUnasked (M.world machine.now)) }
+/// What was typed asks for this.
+fn typed_request<P: Parser, M: Machine>(alloc: Global, parser: &P, machine: &M) -> Request
+    ensures { AsksFor (P.shown parser.now) (M.world machine.now) result }
 {
-    let typed = machine.typed(alloc)?;
-    words(alloc, parser, &texts_of(alloc, &typed)?)
+    match machine.typed(alloc) {
+        Ok(typed) => match texts_of(alloc, &typed) {
+            Ok(texts) => request(alloc, parser, &texts),
+            Err(_) => Request::Refused(Fault::Memory(None), None),
+        },
+        Err(fault) => Request::Refused(fault, None),
+    }
 }
 
-/// The bytes of the file of this name, where there is a name; or the fault of one that is too large, of one that can't
-/// be opened or read, or of memory.
+/// The bytes of the file of this name; or the fault of one that is too large, of one that can't be opened or read, or of
+/// memory.
+fn read_named<M: Machine>(
+    alloc: Global,
+    machine: &mut M,
+    name: &Word,
+    reading: Reading,
+    too_large: Fault,
+) -> Result<Vec<u8>, Fault>
+    requires { too_large_of reading ≡ Some too_large }
+    ensures same { M.world machine.new ≡ M.world machine.old }
+    ensures bytes { IfOk result (λ read. IfSome ((M.world machine.old).file name.now) (λ known. read.items ≡ known)) }
+    ensures calls { (made : List FileCall) × Makes made (M.calls machine.old) (M.calls machine.new)
+        × ReadsFile (M.world machine.old) (Some name.now) reading result made }
+{
+    let mut file = match machine.open(name) {
+        Ok(file) => file,
+        Err(error) => return Err(unopened(reading, error)),
+    };
+    let read = read_bytes(alloc, &mut file, LONGEST_FILE);
+    let why = machine.close(file);
+    match read {
+        Ok(bytes) => Ok(bytes),
+        Err(BytesFault::TooLong) => Err(too_large),
+        Err(BytesFault::Read) => Err(unread(reading, why)),
+        Err(BytesFault::Memory) => Err(Fault::Memory(Some(reading))),
+    }
+}
+
+/// The same where there is a name.
+#[tactic(auto, using(crate::proofs::MachineLemmas::makes_none))]
 fn read_file<M: Machine>(
     alloc: Global,
     machine: &mut M,
     name: &Option<Word>,
+    reading: Reading,
     too_large: Fault,
-    unread: Fault,
 ) -> Result<Option<Vec<u8>>, Fault>
+    requires { too_large_of reading ≡ Some too_large }
     ensures same { M.world machine.new ≡ M.world machine.old }
     ensures bytes { IfOk result (λ read. IsOfFile (M.world machine.old) name.now
         (option_map (λ bytes. bytes.items) read)) }
-    ensures reads { ReadsFile (M.world machine.old) name.now too_large unread (M.files machine.old)
-        (M.files machine.new) result }
+    ensures calls { (made : List FileCall) × Makes made (M.calls machine.old) (M.calls machine.new)
+        × ReadsFile (M.world machine.old) name.now reading result made }
 {
-    let Some(path) = name else {
-        return Ok(None);
-    };
-    let mut file = machine.open(path, unread)?;
-    let read = read_bytes(alloc, &mut file, LONGEST_FILE);
-    machine.close(file);
-    match read {
-        Ok(bytes) => Ok(Some(bytes)),
-        Err(BytesFault::TooLong) => Err(too_large),
-        Err(BytesFault::Read) => Err(unread),
-        Err(BytesFault::Memory) => Err(Fault::Memory),
+    match name {
+        Some(own) => match read_named(alloc, machine, own, reading, too_large) {
+            Ok(bytes) => Ok(Some(bytes)),
+            Err(fault) => Err(fault),
+        },
+        None => Ok(None),
     }
 }
 
 /// Opens the log of this name, or standard input where none is named.
-fn open_log<M: Machine>(machine: &mut M, name: &Option<Word>) -> Result<M::File, Fault>
+fn open_log<M: Machine>(machine: &mut M, name: &Option<Word>) -> io::Result<M::File>
     ensures same { M.world machine.new ≡ M.world machine.old }
     ensures bytes { IfOk result (λ file. M.File.remaining file ≡ bytes_named (M.world machine.old) name.now) }
     ensures none_called { IfOk result (λ file. M.File.calls file ≡ 0) }
     ensures none_failed { IfOk result (λ file. M.File.failed_calls file ≡ 0) }
-    ensures files { OpensFile name.now Fault.Read (M.files machine.old) (M.files machine.new) result }
+    ensures calls { Opens name.now (M.calls machine.old) (M.calls machine.new) result }
 {
     match name {
-        Some(path) => machine.open(path, Fault::Read),
+        Some(path) => machine.open(path),
         None => machine.input(),
+    }
+}
+
+/// A command's answer, where the fault of its log has why the last read of that failed, and the fault of its output why
+/// the last write did.
+fn explained(
+    answer: Result<Ending, Fault>,
+    unread: Option<Error>,
+    unwritten: Option<Error>,
+) -> Result<Ending, Fault>
+    ensures { result ≡ explained unread unwritten answer }
+{
+    match answer {
+        Err(Fault::Read(lines, _, unkept)) => Err(Fault::Read(lines, unread, unkept)),
+        Err(Fault::Write(_)) => Err(Fault::Write(unwritten)),
+        _ => answer,
     }
 }
 
@@ -103,223 +141,132 @@ fn open_log<M: Machine>(machine: &mut M, name: &Option<Word>) -> Result<M::File,
 fn run_on_files<M: Machine, K: Keeper>(
     alloc: Global,
     machine: &mut M,
-    files: &Files,
     command: &Command,
     outlets: &mut Outlets<M::Output, M::Errors, K>,
 ) -> Result<Ending, Fault>
-    requires { IsStateAdmitted K.admits files.now command.now }
+    requires { IsAdmittedSo K.admits command.now (Ok tt) }
     ensures same { M.world machine.new ≡ M.world machine.old }
-    ensures runs { RunsCommand (M.world machine.old) files.now command.now
-        (outside M.Output.Sink M.Errors.Sink K.Keeper (M.files machine.old) outlets.old)
-        (outside M.Output.Sink M.Errors.Sink K.Keeper (M.files machine.new) outlets.new) result }
+    ensures runs { RunsCommand (M.world machine.old) command.now
+        (outside M.Output.Sink M.unwritten M.Errors.Sink K.Keeper (M.calls machine.old) outlets.old)
+        (outside M.Output.Sink M.unwritten M.Errors.Sink K.Keeper (M.calls machine.new) outlets.new) result }
 {
-    let table = match read_file(
+    let files = &command.files;
+    let table = read_file(
         alloc,
         machine,
         &files.table,
+        Reading::Table,
         Fault::TableSize,
-        Fault::TableFile,
-    ) {
-        Ok(table) => table,
-        Err(fault) => {
-            note_memory(fault, Reading::Table, &mut outlets.found);
-            return Err(fault);
-        }
-    };
-    let state = match read_file(
+    )?;
+    let state = read_file(
         alloc,
         machine,
         &files.state,
+        Reading::State,
         Fault::StateSize,
-        Fault::StateFile,
-    ) {
-        Ok(state) => state,
-        Err(fault) => {
-            note_memory(fault, Reading::State, &mut outlets.found);
-            return Err(fault);
-        }
-    };
+    )?;
     let mut log = match open_log(machine, &files.log) {
         Ok(log) => log,
-        Err(fault) => {
-            note_memory(fault, Reading::Log, &mut outlets.found);
-            return Err(fault);
-        }
+        Err(error) => return Err(unopened(Reading::Log, error)),
     };
     let table = table.unwrap_or(Vec::new(alloc));
     let state = state.as_ref().map(|bytes| bytes.as_slice());
-    let answer = run_command(alloc, command, &table, state, &mut log, outlets);
-    machine.close(log);
-    answer
+    let answer = run_command(alloc, &command.task, &table, state, &mut log, outlets);
+    let why = machine.close(log);
+    explained(answer, why, machine.failure(&outlets.output))
 }
 
 /// Asks whether the state may be kept under the name that the command has for it, where it has one.
-fn admit<K: Keeper>(files: &Files, command: &Command, keeper: &mut K) -> Result<(), Fault>
-    ensures same { K.kept keeper.new ≡ K.kept keeper.old }
-    ensures keeps { K.failed_keeps keeper.new ≡ K.failed_keeps keeper.old }
-    ensures admitted { OnOk result (IsStateAdmitted K.admits files.now command.now) }
-    ensures none_failed { OnOk result (K.failed_admissions keeper.new ≡ K.failed_admissions keeper.old) }
-    ensures refused { IfErr result (λ fault. (fault ≡ Fault.Save) × IsStateRefused K.admits files.now command.now
-        × HasFailed (K.failed_admissions keeper.old) (K.failed_admissions keeper.new)) }
+fn admit<K: Keeper>(command: &Command, keeper: &K) -> Result<(), Unkept>
+    ensures answer { IsAdmittedSo K.admits command.now result }
+    ensures named { IsErr result → IsSome (save_name command.now.task) }
 {
-    match command {
-        Command::Decode {
+    match &command.task {
+        Task::Decode {
             save: Some(name),
             ..
-        } => keeper.admit(name.as_str(), files).map_err(|_| Fault::Save),
+        } => keeper.admit(name.as_str(), &command.files),
         _ => Ok(()),
     }
 }
 
 /// Runs a command, where its state is admitted.
-#[tactic(auto, using(crate::proofs::MachineLemmas::not_admitted, crate::proofs::MachineLemmas::admitted))]
+#[tactic(auto, using(crate::proofs::MachineLemmas::not_admitted))]
 fn run_admitted<M: Machine, K: Keeper>(
     alloc: Global,
     machine: &mut M,
-    files: &Files,
     command: &Command,
     outlets: &mut Outlets<M::Output, M::Errors, K>,
 ) -> Result<Ending, Fault>
     ensures same { M.world machine.new ≡ M.world machine.old }
-    ensures runs { RunsCommand (M.world machine.old) files.now command.now
-        (outside M.Output.Sink M.Errors.Sink K.Keeper (M.files machine.old) outlets.old)
-        (outside M.Output.Sink M.Errors.Sink K.Keeper (M.files machine.new) outlets.new) result }
+    ensures runs { RunsCommand (M.world machine.old) command.now
+        (outside M.Output.Sink M.unwritten M.Errors.Sink K.Keeper (M.calls machine.old) outlets.old)
+        (outside M.Output.Sink M.unwritten M.Errors.Sink K.Keeper (M.calls machine.new) outlets.new) result }
 {
-    admit(files, command, &mut outlets.keeper)?;
-    run_on_files(alloc, machine, files, command, outlets)
+    match admit(command, &outlets.keeper) {
+        Ok(()) => run_on_files(alloc, machine, command, outlets),
+        Err(why) => Err(Fault::Save(why)),
+    }
 }
 
 /// Prints the text of the help or of the version.
-fn show<W: Sink>(text: &Word, output: &mut W) -> Result<Ending, Fault>
-    ensures { Shows text.now (place (W.contents output.old) (W.failed_calls output.old))
-        (place (W.contents output.new) (W.failed_calls output.new)) result }
+fn show<M: Machine>(machine: &M, text: &Word, output: &mut M::Output) -> Result<Ending, Fault>
+    ensures { Shows text.now (place (M.Output.contents output.old) (M.Output.failed_calls output.old))
+        (place (M.Output.contents output.new) (M.Output.failed_calls output.new)) (M.unwritten output.new) result }
 {
-    write_all(output, text.as_str().as_bytes()).map_err(|_| Fault::Write)?;
-    Ok(Ending {
-        status: 0,
-        has_other_form: false,
-    })
+    match write_all(output, text.as_str().as_bytes()) {
+        Ok(()) => Ok(Ending {
+            status: 0,
+            has_other_form: false,
+        }),
+        Err(_) => Err(Fault::Write(machine.failure(output))),
+    }
 }
 
 /// Does what was typed, and answers what came to its end.
-fn run_typed<P: Parser, M: Machine, K: Keeper>(
+fn do_request<M: Machine, K: Keeper>(
     alloc: Global,
-    parser: &P,
     machine: &mut M,
+    request: &Request,
     outlets: &mut Outlets<M::Output, M::Errors, K>,
 ) -> Result<Ending, Fault>
     ensures same { M.world machine.new ≡ M.world machine.old }
-    ensures does { DoesTyped (P.shown parser.now) (M.world machine.old)
-        (outside M.Output.Sink M.Errors.Sink K.Keeper (M.files machine.old) outlets.old)
-        (outside M.Output.Sink M.Errors.Sink K.Keeper (M.files machine.new) outlets.new) result }
-{
-    let words = typed_words(alloc, parser, machine)?;
-    match asked(words)? {
-        Request::Help(text) => show(&text, &mut outlets.output),
-        Request::Command(files, command) => run_admitted(alloc, machine, &files, &command, outlets),
-    }
-}
-
-/// The lines of what is said of what was typed, where that is refused.
-fn lines_of_typed<P: Parser, M: Machine>(
-    alloc: Global,
-    parser: &P,
-    machine: &M,
-) -> Result<Vec<u8>, Fault>
-    ensures { IfOk result (λ lines. AreLinesOf
-        (option_and_then (said_of (P.shown parser.now)) (M.world machine.now).typed) lines.items) }
-{
-    let typed = machine.typed(alloc)?;
-    Ok(lines_of(alloc, parser, &texts_of(alloc, &typed)?)?)
-}
-
-/// The files that were asked for, and the command; none, and `plain`, where a text was, or nothing that can be done.
-fn files_of(request: Result<Request, Fault>) -> (Files, Command)
-    ensures files { result.0 ≡ files_of request }
-    ensures command { result.1 ≡ command_of request }
+    ensures does { DoesAsked (M.world machine.old) request.now
+        (outside M.Output.Sink M.unwritten M.Errors.Sink K.Keeper (M.calls machine.old) outlets.old)
+        (outside M.Output.Sink M.unwritten M.Errors.Sink K.Keeper (M.calls machine.new) outlets.new) result }
 {
     match request {
-        Ok(Request::Command(files, command)) => (files, command),
-        _ => {
-            let files = Files {
-                table: None,
-                state: None,
-                log: None,
-            };
-            (files, Command::Plain)
-        }
+        Request::Help(text) => show(machine, text, &mut outlets.output),
+        Request::Command(command) => run_admitted(alloc, machine, command, outlets),
+        Request::Refused(fault, _) => Err(*fault),
     }
 }
 
-/// Why a state could not be kept under the name that the command has for it.
-fn why_unkept<K: Keeper>(alloc: Global, command: &Command, keeper: &K) -> Option<Reason>
-    ensures { IsAsKnown (option_and_then K.unkept (save_name command.now)) result }
-{
-    match command {
-        Command::Decode {
-            save: Some(name),
-            ..
-        } => keeper.why_unkept(alloc, name.as_str()),
-        _ => None,
-    }
-}
-
-/// The reason of a fault, where there is one.
-fn reason_of<M: Machine, K: Keeper>(
+/// What is said on a terminal of a fault: of refused words what their parser shows, else the sentence of the fault.
+fn told_of<M: Machine>(
     alloc: Global,
     machine: &M,
-    files: &Files,
-    command: &Command,
-    outlets: &Outlets<M::Output, M::Errors, K>,
+    request: &Request,
     fault: Fault,
-) -> Option<Reason>
-    ensures { HasReason (M.world machine.now) K.unkept files.now command.now fault result }
+) -> Result<Vec<u8>, AllocError>
+    ensures { IfOk result (λ text. IsToldOf M.words request.now fault text.items) }
 {
-    match fault {
-        Fault::TableFile => machine.why_unread(alloc, &files.table),
-        Fault::StateFile => machine.why_unread(alloc, &files.state),
-        Fault::Read => machine.why_unread(alloc, &files.log),
-        Fault::Write => machine.why_unwritten(alloc, &outlets.output),
-        Fault::Save => why_unkept(alloc, command, &outlets.keeper),
-        _ => None,
+    match request {
+        Request::Refused(_, Some(lines)) => lines.clone(),
+        Request::Command(command) => fault_sentence(alloc, machine, Some(command), fault),
+        _ => fault_sentence(alloc, machine, None, fault),
     }
-}
-
-/// The sentence of a fault of what was typed.
-fn sentence_of<P: Parser, M: Machine, K: Keeper>(
-    alloc: Global,
-    parser: &P,
-    machine: &M,
-    outlets: &Outlets<M::Output, M::Errors, K>,
-    fault: Fault,
-) -> Result<Vec<u8>, Fault>
-    ensures { IfOk result (λ text.
-        IsSentenceOf (P.shown parser.now) (M.world machine.now) K.unkept outlets.now.found fault text.items) }
-{
-    let (files, command) = files_of(asked(typed_words(alloc, parser, machine)?));
-    let reason = reason_of(alloc, machine, &files, &command, outlets, fault);
-    let found = &outlets.found;
-    Ok(fault_sentence(alloc, &files, &command, fault, &reason, found)?)
 }
 
 /// What stands before the line of a fault. Where memory for it is refused, that is nothing.
-fn text_before<P: Parser, M: Machine, K: Keeper>(
-    alloc: Global,
-    parser: &P,
-    machine: &M,
-    outlets: &Outlets<M::Output, M::Errors, K>,
-    fault: Fault,
-) -> Vec<u8>
-    ensures { StandsBefore (P.shown parser.now) (M.world machine.now) K.unkept outlets.now.found fault result.items }
+fn text_before<M: Machine>(alloc: Global, machine: &M, request: &Request, fault: Fault) -> Vec<u8>
+    ensures { StandsBefore (M.world machine.now) M.words request.now fault result.items }
 {
     if !machine.is_terminal() {
         return Vec::new(alloc);
     }
     let none = Vec::new(alloc);
-    match fault {
-        Fault::Words => lines_of_typed(alloc, parser, machine).unwrap_or(none),
-        _ => sentence_of(alloc, parser, machine, outlets, fault).unwrap_or(none),
-    }
+    told_of(alloc, machine, request, fault).unwrap_or(none)
 }
 
 /// Says on a terminal what to do with a log of another form.
@@ -343,28 +290,42 @@ fn say_hint<M: Machine, E: Sink>(machine: &M, ending: Ending, errors: &mut E)
     }
 }
 
-/// Does what was typed, says what there is to say of it, and answers the status that the program ends with.
+/// Does what is asked for, says what there is to say of it, and answers the status that the program ends with.
 #[tactic(auto, using(crate::proofs::MachineLemmas::reported, crate::proofs::MachineLemmas::ended))]
+fn run_request<M: Machine, K: Keeper>(
+    alloc: Global,
+    machine: &mut M,
+    request: &Request,
+    outlets: &mut Outlets<M::Output, M::Errors, K>,
+) -> ExitCode
+    ensures { RunsRequest (M.world machine.old) M.words request.now
+        (outside M.Output.Sink M.unwritten M.Errors.Sink K.Keeper (M.calls machine.old) outlets.old)
+        (outside M.Output.Sink M.unwritten M.Errors.Sink K.Keeper (M.calls machine.new) outlets.new) (exit_status result) }
+{
+    match do_request(alloc, machine, request, outlets) {
+        Ok(ending) => {
+            say_hint(machine, ending, &mut outlets.errors);
+            ExitCode::from(ending.status)
+        }
+        Err(fault) => {
+            let before = text_before(alloc, machine, request, fault);
+            write_fault(alloc, &fault, before, &mut outlets.errors);
+            ExitCode::from(status(&fault))
+        }
+    }
+}
+
+/// Does what was typed, and answers the status that the program ends with.
 pub fn run<P: Parser, M: Machine, K: Keeper>(
     alloc: Global,
     parser: &P,
     machine: &mut M,
     outlets: &mut Outlets<M::Output, M::Errors, K>,
 ) -> ExitCode
-    requires { outlets.old.found ≡ None }
-    ensures { RunsTyped (P.shown parser.now) (M.world machine.old)
-        (outside M.Output.Sink M.Errors.Sink K.Keeper (M.files machine.old) outlets.old)
-        (outside M.Output.Sink M.Errors.Sink K.Keeper (M.files machine.new) outlets.new) (exit_status result) }
+    ensures { RunsTyped (P.shown parser.now) (M.world machine.old) M.words
+        (outside M.Output.Sink M.unwritten M.Errors.Sink K.Keeper (M.calls machine.old) outlets.old)
+        (outside M.Output.Sink M.unwritten M.Errors.Sink K.Keeper (M.calls machine.new) outlets.new) (exit_status result) }
 {
-    match run_typed(alloc, parser, machine, outlets) {
-        Ok(ending) => {
-            say_hint(machine, ending, &mut outlets.errors);
-            ExitCode::from(ending.status)
-        }
-        Err(fault) => {
-            let before = text_before(alloc, parser, machine, outlets, fault);
-            write_fault(alloc, &fault, before, &mut outlets.errors);
-            ExitCode::from(status(&fault))
-        }
-    }
+    let request = typed_request(alloc, parser, machine);
+    run_request(alloc, machine, &request, outlets)
 }

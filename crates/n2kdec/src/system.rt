@@ -4,33 +4,25 @@ ghost use Rattle.n2kdec.specs.Machine.{unknown_world};
 
 use crate::fault::Fault;
 use crate::machine::Machine;
-use crate::reader::{Origin, Reader};
-use crate::reason::{Reason, words_for};
+use crate::reader::Reader;
+use crate::reason::words_of;
 use crate::words::Word;
 use n2k_run::{StdSink, StdSource};
-use std::alloc::Global;
+use std::alloc::{AllocError, Global};
 use std::fs::File;
 use std::io::{Error, ErrorKind, IsTerminal, Stderr, Stdin, Stdout};
-use std::{env, fs};
+use std::{env, fs, io};
 
 /// The running process.
 #[derive(Drop)]
 pub struct System<'a> {
     rt: &'a HostRuntime,
-    failed_reads: u64,
-    reads: u64,
-    failure: Option<Error>,
 }
 
 impl<'a> System<'a> {
     /// The process of this runtime.
     pub fn new(rt: &'a HostRuntime) -> Self {
-        System {
-            rt,
-            failed_reads: 0,
-            reads: 0,
-            failure: None,
-        }
+        System { rt }
     }
 }
 
@@ -42,50 +34,47 @@ impl<'a> Machine for System<'a> {
     type Errors = StdSink<Stderr>;
 
     ghost use Rattle.std.specs.Prelude.{None};
+    ghost use Rattle.n2k_run.specs.Device.{IsWhy};
+    ghost use Rattle.n2k_run.specs.Inner.Failures.{last_of};
 
     ghost world = { λ _. unknown_world };
 
-    ghost files = { λ s. record { failed = s.failed_reads; reads = s.reads; opened = None } };
+    ghost calls = { λ _. None };
+
+    ghost unwritten = { λ output. last_of output.failures };
+
+    ghost words = { λ _. None };
 
     fn typed(&self, alloc: Global) -> Result<Vec<String>, Fault> {
         match env::args(self.rt) {
             Ok(given) => Ok(given.collect(alloc)?),
-            Err(error) if error.kind() == ErrorKind::OutOfMemory => Err(Fault::Memory),
+            Err(error) if error.kind() == ErrorKind::OutOfMemory => Err(Fault::Memory(None)),
             Err(_) => Err(Fault::Words),
         }
     }
 
-    fn open(&mut self, name: &Word, refused: Fault) -> Result<Self::File, Fault> {
-        match fs::open(self.rt, name.as_str()) {
-            Ok(file) => Ok(Reader::new(Origin::File(StdSource::new(file)))),
-            Err(error) if error.kind() == ErrorKind::OutOfMemory => Err(Fault::Memory),
-            Err(error) => {
-                self.failed_reads = self.failed_reads.saturating_add(1);
-                self.failure = Some(error);
-                Err(refused)
-            }
-        }
+    fn open(&mut self, name: &Word) -> io::Result<Self::File> {
+        let file = fs::open(self.rt, name.as_str())?;
+        Ok(Reader::File(StdSource::new(file)))
     }
 
-    fn input(&mut self) -> Result<Self::File, Fault> {
-        Ok(Reader::new(Origin::Input(StdSource::new(self.rt.stdin()))))
+    fn input(&mut self) -> io::Result<Self::File> {
+        Ok(Reader::Input(StdSource::new(self.rt.stdin())))
     }
 
-    fn close(&mut self, file: Self::File) {
-        self.failed_reads = self.failed_reads.saturating_add(file.failed_calls);
-        self.reads = self.reads.saturating_add(file.calls);
-        self.failure = file.failure().or(self.failure);
+    fn close(&mut self, file: Self::File) -> Option<Error> {
+        file.failure()
     }
 
     fn is_terminal(&self) -> bool {
         self.rt.stderr().is_terminal()
     }
 
-    fn why_unread(&self, alloc: Global, _name: &Option<Word>) -> Option<Reason> {
-        Some(Reason::System(words_for(alloc, &self.failure?)?))
+    fn failure(&self, output: &Self::Output) -> Option<Error> {
+        output.failure()
     }
 
-    fn why_unwritten(&self, alloc: Global, output: &Self::Output) -> Option<Reason> {
-        Some(Reason::System(words_for(alloc, &output.failure()?)?))
+    fn words(&self, alloc: Global, error: &Error) -> Result<Word, AllocError> {
+        words_of(alloc, error)
     }
 }

@@ -1,18 +1,17 @@
-use crate::asked::{Request, asked};
+use crate::asked::Request;
 use crate::clap_parser::ClapParser;
-use crate::command_line::words;
+use crate::command_line::request;
 use crate::echo_parser::EchoParser;
 use crate::fault::{Fault, exit_status, fault_text, status};
-use crate::fault_message::lines_of;
+use crate::keeper::Unkept;
 use crate::machine::Outlets;
 use crate::memory_machine::{MemoryKeeper, MemoryMachine};
 use crate::program::run;
-use crate::words::{Word, Words};
 use crate::work::work;
 use n2k_join::{Counts, StateFault};
 use n2k_run::{MemorySink, MemorySource};
 use n2k_table::TableFault;
-use std::alloc::{AllocError, AllocGlobal, Global};
+use std::alloc::AllocGlobal;
 use std::process::{Abort, ExitCode};
 use std::test::Fail;
 
@@ -61,44 +60,48 @@ const FAULTS: [(Fault, &str, u8); 29] = [
     ),
     (Fault::Table(TableFault::Memory), "n2kdec: memory\n", 3),
     (
-        Fault::State(StateFault::NotJson),
+        Fault::State(StateFault::NotJson, None),
         "n2kdec: state 1 NotJson\n",
         2,
     ),
     (
-        Fault::State(StateFault::Format),
+        Fault::State(StateFault::Format, None),
         "n2kdec: state 2 Format\n",
         2,
     ),
     (
-        Fault::State(StateFault::Shape),
+        Fault::State(StateFault::Shape, None),
         "n2kdec: state 3 Shape\n",
         2,
     ),
     (
-        Fault::State(StateFault::TableDiffers),
+        Fault::State(StateFault::TableDiffers, None),
         "n2kdec: state 4 TableDiffers\n",
         2,
     ),
     (
-        Fault::State(StateFault::Invalid),
+        Fault::State(StateFault::Invalid, None),
         "n2kdec: state 5 Invalid\n",
         2,
     ),
     (
-        Fault::State(StateFault::WindowDiffers),
+        Fault::State(StateFault::WindowDiffers, None),
         "n2kdec: state 7 WindowDiffers\n",
         2,
     ),
-    (Fault::State(StateFault::Memory), "n2kdec: memory\n", 3),
-    (Fault::TableFile, "n2kdec: table file\n", 3),
-    (Fault::StateFile, "n2kdec: state file\n", 3),
-    (Fault::Read, "n2kdec: read\n", 3),
-    (Fault::Write, "n2kdec: write\n", 3),
+    (
+        Fault::State(StateFault::Memory, None),
+        "n2kdec: memory\n",
+        3,
+    ),
+    (Fault::TableFile(None), "n2kdec: table file\n", 3),
+    (Fault::StateFile(None), "n2kdec: state file\n", 3),
+    (Fault::Read(0, None, None), "n2kdec: read\n", 3),
+    (Fault::Write(None), "n2kdec: write\n", 3),
     (Fault::Report, "n2kdec: report\n", 3),
-    (Fault::Memory, "n2kdec: memory\n", 3),
+    (Fault::Memory(None), "n2kdec: memory\n", 3),
     (Fault::Lines, "n2kdec: lines\n", 3),
-    (Fault::Save, "n2kdec: save\n", 3),
+    (Fault::Save(Unkept::Harm), "n2kdec: save\n", 3),
 ];
 
 #[test]
@@ -124,49 +127,60 @@ fn one_bad_line_gives_status_one(rt: HostRuntime) {
 
 /// Words, and what they ask for.
 const ASKED: [(&[&str], &str); 12] = [
-    (&["n2kdec", "plain"], "Plain { log: None }"),
+    (
+        &["n2kdec", "plain"],
+        "Command(Command { files: Files { table: None, state: None, log: None }, \
+            task: Plain })",
+    ),
     (
         &["n2kdec", "plain", "trip.log"],
-        "Plain { log: Some(Word { text: \"trip.log\" }) }",
+        "Command(Command { files: Files { table: None, state: None, log: Some(Word { text: \"trip.log\" }) }, \
+            task: Plain })",
     ),
     (
         &["n2kdec", "plain", "--", "-x"],
-        "Plain { log: Some(Word { text: \"-x\" }) }",
+        "Command(Command { files: Files { table: None, state: None, log: Some(Word { text: \"-x\" }) }, \
+            task: Plain })",
     ),
     (
         &["n2kdec", "decode", "--table", "boat.toml"],
-        "Decode { table: Word { text: \"boat.toml\" }, resume: None, save: None, empty: false, whole: false, \
-            window: Window { lines: 10000, in_order: false }, log: None }",
+        "Command(Command { files: Files { table: Some(Word { text: \"boat.toml\" }), state: None, log: None }, \
+            task: Decode { options: Options { packing: Frames, empty: false, \
+            window: Window { lines: 10000, in_order: false } }, save: None } })",
     ),
     (
         &["n2kdec", "decode", "--table=boat.toml", "trip.log"],
-        "Decode { table: Word { text: \"boat.toml\" }, resume: None, save: None, empty: false, whole: false, \
-            window: Window { lines: 10000, in_order: false }, log: Some(Word { text: \"trip.log\" }) }",
+        "Command(Command { files: Files { table: Some(Word { text: \"boat.toml\" }), state: None, log: Some(Word { text: \"trip.log\" }) }, \
+            task: Decode { options: Options { packing: Frames, empty: false, \
+            window: Window { lines: 10000, in_order: false } }, save: None } })",
     ),
     (
         &["n2kdec", "decode", "trip.log", "--table", "boat.toml"],
-        "Decode { table: Word { text: \"boat.toml\" }, resume: None, save: None, empty: false, whole: false, \
-            window: Window { lines: 10000, in_order: false }, log: Some(Word { text: \"trip.log\" }) }",
+        "Command(Command { files: Files { table: Some(Word { text: \"boat.toml\" }), state: None, log: Some(Word { text: \"trip.log\" }) }, \
+            task: Decode { options: Options { packing: Frames, empty: false, \
+            window: Window { lines: 10000, in_order: false } }, save: None } })",
     ),
     (
         &[
             "n2kdec", "decode", "--whole", "--table", "t", "--empty", "l",
         ],
-        "Decode { table: Word { text: \"t\" }, resume: None, save: None, empty: true, whole: true, \
-            window: Window { lines: 10000, in_order: false }, log: Some(Word { text: \"l\" }) }",
+        "Command(Command { files: Files { table: Some(Word { text: \"t\" }), state: None, log: Some(Word { text: \"l\" }) }, \
+            task: Decode { options: Options { packing: Whole, empty: true, \
+            window: Window { lines: 10000, in_order: false } }, save: None } })",
     ),
     (
         &["n2kdec", "decode", "--table", "t", "--whole"],
-        "Decode { table: Word { text: \"t\" }, resume: None, save: None, empty: false, whole: true, \
-            window: Window { lines: 10000, in_order: false }, log: None }",
+        "Command(Command { files: Files { table: Some(Word { text: \"t\" }), state: None, log: None }, \
+            task: Decode { options: Options { packing: Whole, empty: false, \
+            window: Window { lines: 10000, in_order: false } }, save: None } })",
     ),
     (
         &[
             "n2kdec", "decode", "--save", "b", "--table", "t", "--resume", "a", "l",
         ],
-        "Decode { table: Word { text: \"t\" }, resume: Some(Word { text: \"a\" }), \
-            save: Some(Word { text: \"b\" }), empty: false, whole: false, window: Window { lines: 10000, \
-            in_order: false }, log: Some(Word { text: \"l\" }) }",
+        "Command(Command { files: Files { table: Some(Word { text: \"t\" }), state: Some(Word { text: \"a\" }), log: Some(Word { text: \"l\" }) }, \
+            task: Decode { options: Options { packing: Frames, empty: false, \
+            window: Window { lines: 10000, in_order: false } }, save: Some(Word { text: \"b\" }) } })",
     ),
     (
         &[
@@ -178,24 +192,26 @@ const ASKED: [(&[&str], &str); 12] = [
             "--window",
             "32",
         ],
-        "Decode { table: Word { text: \"t\" }, resume: None, save: None, empty: false, whole: false, \
-            window: Window { lines: 32, in_order: true }, log: None }",
+        "Command(Command { files: Files { table: Some(Word { text: \"t\" }), state: None, log: None }, \
+            task: Decode { options: Options { packing: Frames, empty: false, \
+            window: Window { lines: 32, in_order: true } }, save: None } })",
     ),
     (
         &["n2kdec", "frames", "--table", "t"],
-        "Frames { table: Word { text: \"t\" }, candump: None, log: None }",
+        "Command(Command { files: Files { table: Some(Word { text: \"t\" }), state: None, log: None }, \
+            task: Frames(None) })",
     ),
     (
         &["n2kdec", "frames", "l", "--candump", "can0", "--table", "t"],
-        "Frames { table: Word { text: \"t\" }, candump: Some(Word { text: \"can0\" }), \
-            log: Some(Word { text: \"l\" }) }",
+        "Command(Command { files: Files { table: Some(Word { text: \"t\" }), state: None, log: Some(Word { text: \"l\" }) }, \
+            task: Frames(Some(Interface { name: Word { text: \"can0\" } })) })",
     ),
 ];
 
 #[test]
 fn words_name_a_command_and_its_files(rt: HostRuntime) -> Result<(), Fail> {
     for (given, command) in &ASKED {
-        let text = format!(in rt.alloc(); "{:?}", words(rt.alloc(), &ClapParser, given)?)?;
+        let text = format!(in rt.alloc(); "{:?}", request(rt.alloc(), &ClapParser, given))?;
         assert_eq!(rt; text.as_str(), *command);
     }
     Ok(())
@@ -232,9 +248,9 @@ const REFUSED: [&[&str]; 25] = [
 #[test]
 fn other_words_are_refused(rt: HostRuntime) {
     for given in &REFUSED {
-        let answer = words(rt.alloc(), &ClapParser, given);
+        let answer = request(rt.alloc(), &ClapParser, given);
         assert!(rt;
-            matches!(&answer, Err(Fault::Words)),
+            matches!(&answer, Request::Refused(Fault::Words, Some(_))),
             "{given:?}: {answer:?}"
         );
     }
@@ -249,7 +265,7 @@ const ASKING_FOR_HELP: [&[&str]; 3] = [
 #[test]
 fn help_is_no_fault(rt: HostRuntime) -> Result<(), Fail> {
     for given in &ASKING_FOR_HELP {
-        let text = format!(in rt.alloc(); "{:?}", words(rt.alloc(), &ClapParser, given)?)?;
+        let text = format!(in rt.alloc(); "{:?}", request(rt.alloc(), &ClapParser, given))?;
         assert!(rt; text.as_str().starts_with("Help("));
         assert!(rt; text.as_str().contains("Usage: n2kdec"));
     }
@@ -260,17 +276,22 @@ fn help_is_no_fault(rt: HostRuntime) -> Result<(), Fail> {
 #[test]
 fn what_is_shown_is_of_these_words(rt: HostRuntime) -> Result<(), Fail> {
     let alloc = rt.alloc();
-    let help = words(alloc, &EchoParser, &["n2kdec", "decode", "--help"])?;
+    let help = request(alloc, &EchoParser, &["n2kdec", "decode", "--help"]);
     let text = format!(in alloc; "{help:?}")?;
     assert_eq!(rt;
         text.as_str(),
         "Help(Word { text: \"n2kdecdecode--help\" })"
     );
-    let lines = lines_of(alloc, &EchoParser, &["n2kdec", "print"])?;
-    assert_eq!(rt; lines.as_slice(), b"n2kdecprint\n".as_slice());
     let window = ["n2kdec", "decode", "--table", "t", "--window", "31"];
-    let lines = lines_of(alloc, &EchoParser, &window)?;
-    assert!(rt; lines.starts_with(b"error: a window is "));
+    for (given, said) in [
+        (["n2kdec", "print"].as_slice(), "n2kdecprint\n"),
+        (window.as_slice(), "error: a window is "),
+    ] {
+        let Request::Refused(_, Some(lines)) = request(alloc, &EchoParser, given) else {
+            return Err("they are refused".into());
+        };
+        assert!(rt; lines.starts_with(said.as_bytes()));
+    }
     Ok(())
 }
 
@@ -283,32 +304,24 @@ const ASKING_FOR_THE_VERSION: [&[&str]; 3] = [
 #[test]
 fn the_version_is_no_fault(rt: HostRuntime) -> Result<(), Fail> {
     for given in &ASKING_FOR_THE_VERSION {
-        let text = format!(in rt.alloc(); "{:?}", words(rt.alloc(), &ClapParser, given)?)?;
+        let text = format!(in rt.alloc(); "{:?}", request(rt.alloc(), &ClapParser, given))?;
         assert_eq!(rt; text.as_str(), "Help(Word { text: \"n2kdec 1.1.0\\n\" })");
     }
     Ok(())
 }
 
-/// The words of `frames` for this interface.
-fn frames_for(alloc: Global, interface: &str) -> Result<Words, AllocError> {
-    Ok(Words::Frames {
-        table: Word::new(alloc, "t")?,
-        candump: Some(Word::new(alloc, interface)?),
-        log: None,
-    })
-}
-
 #[test]
-fn interfaces_are_judged(rt: HostRuntime) -> Result<(), Fail> {
+fn interfaces_are_judged(rt: HostRuntime) {
     for name in ["can0", "!", "fifteen-bytes-x"] {
-        let text = format!(in rt.alloc(); "{:?}", asked(frames_for(rt.alloc(), name)?)?)?;
-        assert!(rt; text.as_str().contains(name));
+        let given = ["n2kdec", "frames", "--table", "t", "--candump", name];
+        let answer = request(rt.alloc(), &ClapParser, &given);
+        assert!(rt; matches!(answer, Request::Command(_)));
     }
     for name in ["", "can 0", "sixteen-bytes-xx", "can\u{7f}", "kan\u{e4}le"] {
-        let answer = asked(frames_for(rt.alloc(), name)?);
-        assert!(rt; matches!(answer, Err(Fault::Interface)));
+        let given = ["n2kdec", "frames", "--table", "t", "--candump", name];
+        let answer = request(rt.alloc(), &ClapParser, &given);
+        assert!(rt; matches!(answer, Request::Refused(Fault::Interface, None)));
     }
-    Ok(())
 }
 
 const TABLE: &str = "format = 1
@@ -438,7 +451,7 @@ const EXAMPLES: [Example; 6] = [
 /// The work of an example's words, over devices in memory.
 fn works<R: Abort + AllocGlobal>(rt: &R, table: &[u8], example: &Example) -> Result<(), Fail> {
     let alloc = rt.alloc();
-    let Request::Command(_, command) = asked(words(alloc, &ClapParser, example.words)?)? else {
+    let Request::Command(command) = request(alloc, &ClapParser, example.words) else {
         return Err("a command was named".into());
     };
     let state = example.state.map(|text| text.as_bytes());
@@ -447,7 +460,7 @@ fn works<R: Abort + AllocGlobal>(rt: &R, table: &[u8], example: &Example) -> Res
     let mut errors = MemorySink::new(alloc, 100, 0);
     let answer = work(
         alloc,
-        &command,
+        &command.task,
         table,
         state,
         &mut log,
@@ -482,46 +495,39 @@ const FILES: [(&str, &str); 2] = [("l", COG_AND_SOG), ("t", TABLE)];
 #[test]
 fn what_was_typed_is_run(rt: HostRuntime) -> Result<(), Fail> {
     let alloc = rt.alloc();
-    let mut machine = MemoryMachine {
-        words: &TYPED,
-        files: &FILES,
-        input: "",
-        fails_at: 0,
-        failed_reads: 0,
-        reads: 0,
-        opened: Vec::new(alloc),
-    };
+    let mut machine = MemoryMachine::new(alloc, &TYPED, &FILES);
     let mut outlets = Outlets {
         output: MemorySink::new(alloc, 100, 0),
         errors: MemorySink::new(alloc, 100, 0),
         keeper: MemoryKeeper::new(alloc),
-        found: None,
     };
     assert_eq!(rt;
         run(alloc, &ClapParser, &mut machine, &mut outlets),
         ExitCode::SUCCESS
     );
     assert_eq!(rt; outlets.output.bytes(), EXAMPLES[2].text.as_bytes());
-    assert_eq!(rt; outlets.keeper.kept().len(), 1);
-    for (name, text) in outlets.keeper.kept() {
-        assert_eq!(rt; name.as_str(), "s");
-        assert_eq!(rt; text.as_slice(), ONE_MESSAGE.as_bytes());
-    }
-    assert_eq!(rt; machine.failed_reads, 0);
-    assert!(rt; machine.reads > 2);
-    let opened = format!(in alloc; "{:?}", machine.opened)?;
+    let kept = format!(in alloc; "{:?}", outlets.keeper.kept)?;
+    let expected = format!(in alloc; "Some([(\"s\", {:?})])", ONE_MESSAGE.as_bytes())?;
+    assert_eq!(rt; kept.as_str(), expected.as_str());
+    let calls = format!(in alloc; "{:?}", machine.calls)?;
     assert_eq!(rt;
-        opened.as_str(),
-        "[Some(Word { text: \"t\" }), Some(Word { text: \"l\" })]"
+        calls.as_str(),
+        "Some([Opened(Some(Word { text: \"t\" }), None), Closed(11, None), \
+            Opened(Some(Word { text: \"l\" }), None), Closed(2, None)])"
     );
+    machine.calls = Some(Vec::new(alloc));
     machine.fails_at = 2;
     assert_eq!(rt;
         run(alloc, &ClapParser, &mut machine, &mut outlets),
         ExitCode::from(3)
     );
-    assert_eq!(rt; machine.failed_reads, 1);
     assert!(rt; outlets.errors.bytes().ends_with(b"n2kdec: table file\n"));
-    assert_eq!(rt; machine.opened.len(), 3);
-    assert_eq!(rt; outlets.keeper.kept().len(), 1);
+    let calls = format!(in alloc; "{:?}", machine.calls)?;
+    assert_eq!(rt;
+        calls.as_str(),
+        "Some([Opened(Some(Word { text: \"t\" }), None), Closed(2, Some(Kind(Other)))])"
+    );
+    let kept = format!(in alloc; "{:?}", outlets.keeper.kept)?;
+    assert_eq!(rt; kept.as_str(), expected.as_str());
     Ok(())
 }

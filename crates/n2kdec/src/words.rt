@@ -1,6 +1,5 @@
-//! What the words of the command line ask for.
+//! A text of the command line.
 
-use n2k_join::Window;
 use std::alloc::{AllocError, Global};
 use std::marker::Model;
 
@@ -43,42 +42,4 @@ impl Word {
     {
         self.text.as_str()
     }
-}
-
-/// A command with the values of its words, or the request for help or for the version.
-#[derive(Debug, Drop)]
-pub enum Words {
-    /// `plain [LOG]`
-    Plain {
-        /// The file of the log; none is standard input.
-        log: Option<Word>,
-    },
-    /// `decode --table F [--resume F] [--save F] [--window W] [--in-order] [--empty] [--whole] [LOG]`
-    Decode {
-        /// The file of the table.
-        table: Word,
-        /// The file of the state to go on from; none is a log's beginning.
-        resume: Option<Word>,
-        /// The file that gets the state after the log.
-        save: Option<Word>,
-        /// Absent fields are printed as `null`.
-        empty: bool,
-        /// Every plain line is a whole message.
-        whole: bool,
-        /// How many lines a group waits for its frames, and whether these have to come in order.
-        window: Window,
-        /// The file of the log; none is standard input.
-        log: Option<Word>,
-    },
-    /// `frames --table F [--candump IFACE] [LOG]`
-    Frames {
-        /// The file of the table.
-        table: Word,
-        /// The interface of candump lines; without it plain lines are written.
-        candump: Option<Word>,
-        /// The file of the log; none is standard input.
-        log: Option<Word>,
-    },
-    /// `--help` or `--version`, with the text to print.
-    Help(Word),
 }

@@ -2,13 +2,15 @@
 ghost use Rattle.std.specs.Prelude.{◌≡◌, IfErr, None, option_map};
 ghost use Rattle.n2k_run.specs.Runs.{seen};
 ghost use Rattle.n2kdec.specs.Commands.{IsRefusal};
-ghost use Rattle.n2kdec.specs.Work.{AnswersWhole, Works, answer_of_part, lines_at, stop_of, stop_of_part, stop_of_run};
+ghost use Rattle.n2kdec.specs.Work.{AnswersPart, AnswersWhole, IsOfFault, Works, stop_of, stop_of_part};
 
-use crate::asked::{Command, name_of};
-use crate::fault::Fault;
+use crate::asked::{Task, name_of};
+use crate::difference::{Difference, difference_of};
+use crate::fault::{Fault, Reading, fault_of_run};
 use n2k_join::Counts;
 use n2k_run::{
-    Part, PartFault, RunFault, Sink, Source, run_frames_counted, run_part, run_plain_counted,
+    Options, Part, PartFault, RunFault, Sink, Source, run_frames_counted, run_part,
+    run_plain_counted,
 };
 use n2k_table::Table;
 use std::alloc::Global;
@@ -21,58 +23,13 @@ pub struct Stop {
     /// Where `decode` stands after its last line, after a failed read and at the limit of lines: the log can go on from
     /// it.
     pub part: Option<Part>,
-    /// How many lines were taken before a failed read, those before a state too.
-    pub lines: Option<u64>,
 }
 
-/// How many lines were taken, where a read failed.
-fn lines_at(fault: RunFault, counts: &Counts) -> Option<u64>
-    ensures { result ≡ lines_at fault counts.now }
+/// A stop with no Part.
+fn stop_of(fault: Fault) -> Stop
+    ensures { result ≡ stop_of fault }
 {
-    match fault {
-        RunFault::Read => Some(counts.lines),
-        _ => None,
-    }
-}
-
-impl Stop {
-    /// A stop for a fault, with no Part.
-    fn from_fault(fault: Fault) -> Stop
-        ensures { result ≡ stop_of fault }
-    {
-        Stop {
-            fault,
-            part: None,
-            lines: None,
-        }
-    }
-
-    /// A stop for the fault of a run that counted so much.
-    fn from_run_fault(fault: RunFault, counts: &Counts) -> Stop
-        ensures { result ≡ stop_of_run fault counts.now }
-    {
-        Stop {
-            fault: Fault::from(fault),
-            part: None,
-            lines: lines_at(fault, counts),
-        }
-    }
-
-    /// A stop for the fault of a part, with the Part that it has.
-    fn from_part_fault(fault: PartFault) -> Stop
-        ensures { result ≡ stop_of_part fault }
-    {
-        match fault {
-            PartFault::State(fault) => Stop::from_fault(Fault::State(fault)),
-            PartFault::Stopped(fault, part) => Stop {
-                fault: Fault::from(fault),
-                lines: lines_at(fault, &part.counts),
-                part: Some(part),
-            },
-            PartFault::Run(fault) => Stop::from_fault(Fault::from(fault)),
-            PartFault::Memory => Stop::from_fault(Fault::Memory),
-        }
-    }
+    Stop { fault, part: None }
 }
 
 /// What the run of a whole log comes to, which counted so much.
@@ -84,17 +41,55 @@ fn whole(alloc: Global, counts: Counts, ended: Result<(), RunFault>) -> Result<P
             state: Vec::new(alloc),
             counts,
         }),
-        Err(fault) => Err(Stop::from_run_fault(fault, &counts)),
+        Err(fault) => Err(stop_of(fault_of_run(fault, counts.lines))),
     }
 }
 
-/// What the run of a part comes to.
-fn part(ended: Result<Part, PartFault>) -> Result<Part, Stop>
-    ensures { result ≡ answer_of_part ended }
+/// The stop for the fault of a part, with the Part that it has. A state that is refused may be of this.
+fn stop_of_part(fault: PartFault, of: Option<Difference>) -> Stop
+    ensures { result ≡ stop_of_part of fault }
+{
+    match fault {
+        PartFault::State(fault) => stop_of(Fault::State(fault, of)),
+        PartFault::Stopped(fault, part) => Stop {
+            fault: fault_of_run(fault, part.counts.lines),
+            part: Some(part),
+        },
+        PartFault::Run(fault) => stop_of(fault_of_run(fault, 0)),
+        PartFault::Memory => stop_of(Fault::Memory(Some(Reading::Log))),
+    }
+}
+
+/// What the state is of that refuses a part; none where another fault ended it, or none did.
+fn of_part(
+    alloc: Global,
+    table: &Table,
+    options: &Options,
+    state: Option<&[u8]>,
+    ended: &Result<Part, PartFault>,
+) -> Option<Difference>
+    ensures { IsOfFault table.now.id options.now (option_map (λ bytes. bytes.now) state.entry) ended.now result }
 {
     match ended {
+        Err(PartFault::State(fault)) => difference_of(alloc, table, options, state, *fault),
+        _ => None,
+    }
+}
+
+/// What the run of a part comes to, from this state.
+fn part(
+    alloc: Global,
+    table: &Table,
+    options: &Options,
+    state: Option<&[u8]>,
+    ended: Result<Part, PartFault>,
+) -> Result<Part, Stop>
+    ensures { AnswersPart table.now.id options.now (option_map (λ bytes. bytes.now) state.entry) ended result }
+{
+    let of = of_part(alloc, table, options, state, &ended);
+    match ended {
         Ok(part) => Ok(part),
-        Err(fault) => Err(Stop::from_part_fault(fault)),
+        Err(fault) => Err(stop_of_part(fault, of)),
     }
 }
 
@@ -106,7 +101,7 @@ fn part(ended: Result<Part, PartFault>) -> Result<Part, Stop>
 /// with a fault is refused before the log is read, and leaves each device as it was.
 pub fn work<R: Source, W: Sink, E: Sink>(
     alloc: Global,
-    command: &Command,
+    task: &Task,
     table: &[u8],
     state: Option<&[u8]>,
     log: &mut R,
@@ -115,24 +110,24 @@ pub fn work<R: Source, W: Sink, E: Sink>(
 ) -> Result<Part, Stop>
     ensures works { let before = seen R.Source W.Sink E.Sink log.old output.old errors.old in
         let after = seen R.Source W.Sink E.Sink log.new output.new errors.new in
-        Works command.now table.now (option_map (λ bytes. bytes.now) state.entry) before after result }
+        Works task.now table.now (option_map (λ bytes. bytes.now) state.entry) before after result }
     ensures untouched { IfErr result (λ stop. IsRefusal stop.fault
         → (stop.part ≡ None) × ((log.new ≡ log.old) × (output.new ≡ output.old) × (errors.new ≡ errors.old))) }
 {
-    match command {
-        Command::Plain => {
+    match task {
+        Task::Plain => {
             let mut counts = Counts::NONE;
             let ended = run_plain_counted(alloc, &mut counts, log, output, errors);
             whole(alloc, counts, ended)
         }
-        Command::Decode { options, .. } => match Table::read(alloc, table) {
+        Task::Decode { options, .. } => match Table::read(alloc, table) {
             Ok(table) => {
                 let ended = run_part(alloc, &table, state, *options, log, output, errors);
-                part(ended)
+                part(alloc, &table, options, state, ended)
             }
-            Err(fault) => Err(Stop::from_fault(Fault::Table(fault))),
+            Err(fault) => Err(stop_of(Fault::Table(fault))),
         },
-        Command::Frames(interface) => match Table::read(alloc, table) {
+        Task::Frames(interface) => match Table::read(alloc, table) {
             Ok(table) => {
                 let (name, mut counts) = (name_of(interface), Counts::NONE);
                 let ended = run_frames_counted(
@@ -146,7 +141,7 @@ pub fn work<R: Source, W: Sink, E: Sink>(
                 );
                 whole(alloc, counts, ended)
             }
-            Err(fault) => Err(Stop::from_fault(Fault::Table(fault))),
+            Err(fault) => Err(stop_of(Fault::Table(fault))),
         },
     }
 }

@@ -1,71 +1,65 @@
-use Rattle.std.proofs.Common.{rules, ◌≡◌, ◌∙◌, option_map, subst}
-use Rattle.n2kdec.specs.Machine.{IsOfFile, IsReadable, IsUnreadFile, bytes_named, outside, table_bytes}
-use Rattle.n2kdec.specs.declared.fault.Fault.TheVariants.{StateSize, StateFile}
-use Rattle.n2kdec.specs.declared.found.Reading.TheVariants as reading
-use Rattle.n2kdec.proofs.MachineLemmas.{all_opened, both_opened, called_after, called_more, log_unread, not_begun, performed_over, runs, state_unread, table_is, table_unread}
+use Rattle.std.proofs.Common.{rules, ◌≡◌, ◌∙◌, Err, option_map, refl, subst}
+use Rattle.n2kdec.specs.Machine.{IsOfFile, IsRead, IsUnread, LogAfter, bytes_named, explained, outside, table_bytes}
+use Rattle.n2kdec.specs.declared.fault.Reading.TheVariants as reading
+use Rattle.n2kdec.proofs.MachineLemmas.{all_calls, log_unread, performed, performed_over, state_unread, table_is, table_unread}
 use Rattle.n2kdec.proofs.program.run_on_files.Goals as goal
+
+pub returns-in_err-table-clause-runs : goal.returns-in_err-table-clause-runs
+returns-in_err-table-clause-runs g c =
+    table_unread (g.M.Machine.world c.args.machine.now) c.args.command.now (outside g.M.Output.Sink g.M.Machine.unwritten g.M.Errors.Sink g.K.Keeper (g.M.Machine.calls c.args.machine.now) c.args.outlets.now)
+    (g.M.Machine.calls c.read_file.new.machine) c.in_err-table.field-0.0 c.from_residual.result c.from_residual.ensures.1 c.requires c.in_err-table.ensures.calls
+
+pub returns-in_err-state-clause-runs : goal.returns-in_err-state-clause-runs
+returns-in_err-state-clause-runs g c =
+    let files = c.args.command.now.files in
+    let fault = c.in_err-state.field-0.0 in
+    let state = c.in_err-state.ensures.calls in
+    state_unread (g.M.Machine.world c.args.machine.now) c.args.command.now (outside g.M.Output.Sink g.M.Machine.unwritten g.M.Errors.Sink g.K.Keeper (g.M.Machine.calls c.args.machine.now) c.args.outlets.now)
+    (g.M.Machine.calls c.read_file-2.new.machine) fault c.from_residual-in_err-state.result c.from_residual-in_err-state.ensures.1 (g.M.Machine.calls c.read_file.new.machine) c.requires c.in_ok-table.ensures.calls
+    (state.0, state.1, subst (λ v. IsUnread v files.state reading.State fault state.0) c.in_ok-table.ensures.same state.2)
 
 pub returns-in-Err-clause-runs : goal.returns-in-Err-clause-runs
 returns-in-Err-clause-runs g c =
-    let w = g.M.Machine.world c.args.machine.now in
-    let begun = g.M.Machine.files c.args.machine.now in
-    let used = g.M.Machine.files c.read_file.new.machine in
-    let fault = c.in-Err.fault in
-    not_begun w c.args.files.now c.args.command.now (outside g.M.Output.Sink g.M.Errors.Sink g.K.Keeper begun c.args.outlets.now) reading.Table used _ fault c.note_memory.ensures c.requires
-    (table_unread w c.args.files.now begun used used fault c.in-Err.ensures.reads.answer)
-
-pub returns-in-Err-read_file-clause-runs : goal.returns-in-Err-read_file-clause-runs
-returns-in-Err-read_file-clause-runs g c =
-    let w = g.M.Machine.world c.args.machine.now in
-    let begun = g.M.Machine.files c.args.machine.now in
-    let mid = g.M.Machine.files c.read_file.new.machine in
-    let used = g.M.Machine.files c.read_file-2.new.machine in
-    let fault = c.in-Err-read_file.fault in
-    not_begun w c.args.files.now c.args.command.now (outside g.M.Output.Sink g.M.Errors.Sink g.K.Keeper begun c.args.outlets.now) reading.State used _ fault c.note_memory-in-Err-read_file.ensures c.requires
-    (state_unread w c.args.files.now begun mid used fault c.in-Ok.ensures.reads.answer
-    (c.in-Err-read_file.ensures.reads.answer.0, subst (λ v. IsUnreadFile v c.args.files.now.state StateSize StateFile mid used fault) c.in-Ok.ensures.same c.in-Err-read_file.ensures.reads.answer.1))
-
-pub returns-in-Err-open_log-clause-runs : goal.returns-in-Err-open_log-clause-runs
-returns-in-Err-open_log-clause-runs g c =
-    let w = g.M.Machine.world c.args.machine.now in
-    let begun = g.M.Machine.files c.args.machine.now in
-    let mid = g.M.Machine.files c.read_file-2.new.machine in
-    let used = g.M.Machine.files c.open_log.new.machine in
-    let fault = c.in-Err-open_log.fault in
-    let table = c.in-Ok.ensures.reads.answer in
-    let state = c.in-Ok-read_file.ensures.reads.answer in
-    not_begun w c.args.files.now c.args.command.now (outside g.M.Output.Sink g.M.Errors.Sink g.K.Keeper begun c.args.outlets.now) reading.Log used _ fault c.note_memory-in-Err-open_log.ensures c.requires
-    (log_unread w c.args.files.now begun mid used fault table.0 (subst (λ v. IsReadable v c.args.files.now.state) c.in-Ok.ensures.same state.0) (state.1 ∙ table.1)
-    (both_opened c.args.files.now begun (g.M.Machine.files c.read_file.new.machine) mid table.2 state.2) c.in-Err-open_log.ensures.files.answer)
+    let files = c.args.command.now.files in
+    let state = c.in_ok-state.ensures.calls in
+    log_unread (g.M.Machine.world c.args.machine.now) c.args.command.now (outside g.M.Output.Sink g.M.Machine.unwritten g.M.Errors.Sink g.K.Keeper (g.M.Machine.calls c.args.machine.now) c.args.outlets.now)
+    (g.M.Machine.calls c.open_log.new.machine) c.unopened.result (Err c.unopened.result) refl (g.M.Machine.calls c.read_file.new.machine) (g.M.Machine.calls c.read_file-2.new.machine) c.requires
+    c.in_ok-table.ensures.calls (state.0, state.1, subst (λ v. IsRead v files.state state.0) c.in_ok-table.ensures.same state.2)
+    c.in-Err.error c.in-Err.ensures.calls c.unopened.ensures
 
 pub returns-clause-runs : goal.returns-clause-runs
 returns-clause-runs g c =
     let w = g.M.Machine.world c.args.machine.now in
-    let files = c.args.files.now in
-    let begun = g.M.Machine.files c.args.machine.now in
-    let mid = g.M.Machine.files c.read_file-2.new.machine in
+    let files = c.args.command.now.files in
     let log = c.run_command-answer.new.log in
-    let table = c.in-Ok.ensures in
-    let state = c.in-Ok-read_file.ensures in
-    let opened = c.in-Ok-open_log.ensures in
-    let after = outside g.M.Output.Sink g.M.Errors.Sink g.K.Keeper (g.M.Machine.files c.close.new.self) c.run_command-answer.new.outlets in
-    let table_read = option_map (λ bytes. bytes.items) c.in-Ok.table in
-    let state_read = option_map (λ bytes. bytes.items) c.in-Ok-read_file.state in
-    let is_table : c.deref.result.now ≡ table_bytes table_read = c.deref.ensures.value ∙ table_is (λ bytes. bytes.items) c.in-Ok.table c.new.result c.unwrap_or-table.result c.new.ensures.items c.unwrap_or-table.ensures in
+    let table = c.in_ok-table.ensures in
+    let state = c.in_ok-state.ensures in
+    let opened = c.in-Ok.ensures in
+    let closed = c.close-why.ensures in
+    let before = outside g.M.Output.Sink g.M.Machine.unwritten g.M.Errors.Sink g.K.Keeper (g.M.Machine.calls c.args.machine.now) c.args.outlets.now in
+    let after = outside g.M.Output.Sink g.M.Machine.unwritten g.M.Errors.Sink g.K.Keeper (g.M.Machine.calls c.close-why.new.self) c.run_command-answer.new.outlets in
+    let table_read = option_map (λ bytes. bytes.items) c.in_ok-table.table in
+    let state_read = option_map (λ bytes. bytes.items) c.in_ok-state.state in
+    let is_table : c.deref.result.now ≡ table_bytes table_read = c.deref.ensures.value ∙ table_is (λ bytes. bytes.items) c.in_ok-table.table c.new.result c.unwrap_or-table.result c.new.ensures.items c.unwrap_or-table.ensures in
     let is_state : option_map (λ bytes. bytes.now) c.map-state.result ≡ state_read = search rules in
-    runs w files c.args.command.now _ after c.run_command-answer.result (record {
+    let stands : LogAfter = record { left = g.M.File.Source.remaining log; calls = g.M.File.Source.calls log; failed = g.M.File.Source.failed_calls log } in
+    performed w c.args.command.now before after c.explained.result (record {
       admitted = c.requires;
-      opened = all_opened files begun mid (g.M.Machine.files c.open_log.new.machine) (g.M.Machine.files c.close.new.self)
-          (both_opened files begun (g.M.Machine.files c.read_file.new.machine) mid table.reads.answer.2 state.reads.answer.2) opened.files.answer.1 c.close.ensures.files.none_opened;
       table = table_read;
       is_table = table.bytes;
+      of_table = table.calls.0;
+      table_read = table.calls.2;
       handed = state_read;
       is_state = subst (λ v. IsOfFile v files.state state_read) table.same state.bytes;
-      over = performed_over c.args.command.now (table_bytes table_read) state_read _ after
-          (record { left = g.M.File.Source.remaining log; calls = g.M.File.Source.calls log; failed = g.M.File.Source.failed_calls log }) c.run_command-answer.result
-          _ _ _ (bytes_named w files.log) _ _ _ is_table is_state (subst (λ v. g.M.File.Source.remaining c.in-Ok-open_log.log ≡ bytes_named v files.log) (state.same ∙ table.same) opened.bytes) opened.none_called opened.none_failed
-          (opened.files.answer.0 ∙ state.reads.answer.1 ∙ table.reads.answer.1) c.close.ensures.files.counted
-          (called_more _ _ _ _ _ (called_after _ _ _ table.reads.called state.reads.called) opened.files.no_read c.close.ensures.files.called)
-          c.run_command-answer.ensures.performs c.run_command-answer.ensures.found;
-      none_refused = c.run_command-answer.ensures.admissions;
+      of_state = state.calls.0;
+      state_read = subst (λ v. IsRead v files.state state.calls.0) table.same state.calls.2;
+      log = stands;
+      why = c.close-why.result;
+      is_why = closed.why;
+      calls = all_calls files _ _ _ _ _ table.calls.0 state.calls.0 _ _ table.calls.1 state.calls.1 opened.calls closed.calls;
+      ended = c.run_command-answer.result;
+      over = performed_over c.args.command.now.task (table_bytes table_read) state_read before after stands c.run_command-answer.result
+          _ _ _ (bytes_named w files.log) _ _ is_table is_state (subst (λ v. g.M.File.Source.remaining c.in-Ok.log ≡ bytes_named v files.log) (state.same ∙ table.same) opened.bytes) opened.none_called opened.none_failed
+          c.run_command-answer.ensures.performs c.run_command-answer.ensures.told;
+      told = subst (λ why. c.explained.result ≡ explained c.close-why.result why c.run_command-answer.result) c.failure.ensures c.explained.ensures;
     })

@@ -3,7 +3,7 @@ use Rattle.std.proofs.lemmas.Str.{is_utf8-from_IsUtf8}
 use Rattle.serde_json.specs.Data.{Data}
 use Rattle.serde_json.specs.Read.{read}
 use Rattle.n2k_join.specs.Resumed.{parsed}
-use Rattle.n2kdec.proofs.found.parsed.Goals as goal
+use Rattle.n2kdec.proofs.difference.parsed.Goals as goal
 
 -- what a text in UTF-8 reads as is its value
 parsed_as : (bytes : List ℕ) (d : Data) → IsUtf8 bytes → read bytes ≡ Some d → parsed bytes ≡ Some d

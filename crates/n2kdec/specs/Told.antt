@@ -1,0 +1,80 @@
+-- What is told of a fault besides its name: what a state is of that is refused, how far a log was read, and what was read
+-- when memory was refused.
+use Rattle.std.specs.Prelude.{◌≡◌, ℕ, List, Option, Some, None, IfSome, Ok, codes, option_and_then, option_map}
+use Rattle.std.specs.Io.KnownBytes.{Consumes}
+use Rattle.hex.specs.Hex.{encode_lower}
+use Rattle.serde_json.specs.Data.{Data}
+use Rattle.serde_json.specs.Find.{get, as_str}
+use Rattle.clap.specs.Words.{Text}
+use Rattle.n2k_table.specs.Table.{table as table_of}
+use Rattle.n2k_join.specs.Resumed.{as_int, parsed}
+use Rattle.n2k_join.specs.State.{State as StateOf}
+use Rattle.n2k_join.specs.declared.fault.StateFault.{StateFault}
+use Rattle.n2k_join.specs.declared.fault.StateFault.TheVariants.{TableDiffers, WindowDiffers}
+use Rattle.n2k_run.specs.Lines.{whole_lines}
+use Rattle.n2k_run.specs.Parts.{begun}
+use Rattle.n2k_run.specs.declared.options.Options.{Options}
+use Rattle.n2kdec.specs.Commands.{Effect, decode_from, entries_for, frames_effect, plain_effect, shelf}
+use Rattle.n2kdec.specs.declared.asked.Task.{Task}
+use Rattle.n2kdec.specs.declared.asked.Task.TheVariants.{Plain, Decode, Frames}
+use Rattle.n2kdec.specs.declared.difference.Difference.{Difference}
+use Rattle.n2kdec.specs.declared.difference.Difference.TheVariants.{Tables, Windows}
+use Rattle.n2kdec.specs.declared.fault.Fault.{Fault}
+use Rattle.n2kdec.specs.declared.fault.Fault.TheVariants.{Read, State, Memory}
+use Rattle.n2kdec.specs.declared.fault.Reading.TheVariants as reading
+
+-- ---- a state that is another's
+
+-- a member of a value: a text, or a whole number
+abbrev pub text_in : Text → Data → Option Text
+text_in name d = option_and_then as_str (get name d)
+
+abbrev pub number_in : Text → Data → Option ℕ
+number_in name d = option_and_then as_int (get name d)
+
+-- the table that it was saved under, as it stands there, and the one of this SHA-256 that it is handed in with
+abbrev pub tables : List ℕ → List ℕ → Option Difference
+tables id state =
+    option_map (λ saved. Tables saved (encode_lower id)) (option_and_then (text_in (codes "table")) (parsed state))
+
+-- the lines of the window that it was saved under, and these
+abbrev pub windows : ℕ → List ℕ → Option Difference
+windows lines state =
+    option_map (λ saved. Windows saved lines) (option_and_then (number_in (codes "window")) (parsed state))
+
+-- what a state is of that is refused for it
+abbrev pub difference : List ℕ → Options → Option (List ℕ) → StateFault → Option Difference
+difference id o (Some state) TableDiffers = tables id state
+difference id o (Some state) WindowDiffers = windows o.window.lines state
+difference id o handed _ = None
+
+-- ---- a log of which a read failed
+
+-- Bytes came of a log, and so many lines are counted when those among them are taken whose line feed came.
+abbrev pub Counts : Effect → Option (List ℕ) → Option (List ℕ) → ℕ → Type 0
+Counts c before after lines =
+    (came : List ℕ) × Consumes before after came × (lines ≡ (c.counts (entries_for c (whole_lines came))).lines)
+
+-- so many are counted by a command, with the bytes of a table and from the state that is handed in
+abbrev pub CountsLines : Task → List ℕ → Option (List ℕ) → Option (List ℕ) → Option (List ℕ) → ℕ → Type 0
+CountsLines Plain table handed before after lines = Counts plain_effect before after lines
+CountsLines (Frames interface) table handed before after lines =
+    Counts (frames_effect (table_of table) interface) before after lines
+CountsLines (Decode o save) table handed before after lines =
+    (s : StateOf) → begun (table_of table) o handed ≡ Ok s
+    → Counts (decode_from (table_of table) o s (shelf None None) (shelf None None)) before after lines
+
+-- ---- what is told
+
+-- what a state is of that `decode` refuses for it, unless memory for that is refused; no other command has one
+abbrev pub TellsState : Task → List ℕ → Option (List ℕ) → StateFault → Option Difference → Type 0
+TellsState (Decode o save) table handed fault told =
+    IfSome told (λ is. difference (table_of table).id o handed fault ≡ Some is)
+TellsState _ table handed fault told = told ≡ None
+
+-- By what a command was handed: the lines that were counted, and what the state is of. A command reads its log.
+abbrev pub Tells : Task → List ℕ → Option (List ℕ) → Option (List ℕ) → Option (List ℕ) → Fault → Type 0
+Tells task table handed before after (Read lines why unkept) = CountsLines task table handed before after lines
+Tells task table handed before after (State fault told) = TellsState task table handed fault told
+Tells task table handed before after (Memory read) = read ≡ Some reading.Log
+Tells task table handed before after _ = Unit {0}
