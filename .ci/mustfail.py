@@ -27,20 +27,11 @@ def texts_of(edit):
 
 def misfit(edit, crate):
     """Says why an edit can't be applied to a crate's folder, or nothing where it can."""
-    files, pairs = {}, 0
-    for path, old, new in texts_of(edit):
-        if not path or not old:
-            return "a 'new:' line stands before any 'file:' or 'old:' line"
-        if path not in files:
-            if not (crate / path).is_file():
-                return f"there is no file {path}"
-            files[path] = (crate / path).read_text(encoding="utf-8")
-        found = files[path].count(old)
-        if found != 1:
-            return f"an 'old:' text stands in {path} {found} times, and not once: {old.strip()}"
-        files[path] = files[path].replace(old, new)
-        pairs += 1
-    return None if pairs else "it has no 'old:' and 'new:' pair"
+    try:
+        edited(edit, crate)
+    except ValueError as fault:
+        return str(fault)
+    return None
 
 
 @functools.lru_cache(maxsize=None)
@@ -85,13 +76,21 @@ def opening(lines, at, indent):
 
 def edited(edit, crate):
     """The texts of the files that an edit changes, and the path and the function of each of its pairs; None stands for a place that is
-    in no body."""
+    in no body. A ValueError says why it can't be applied."""
     texts, places = {}, []
     for path, old, new in texts_of(edit):
+        if not path or not old:
+            raise ValueError("a 'new:' line stands before any 'file:' or 'old:' line")
         if path not in texts:
+            if not (crate / path).is_file():
+                raise ValueError(f"there is no file {path}")
             texts[path] = (crate / path).read_text(encoding="utf-8")
-        begin = texts[path].index(old)
+        found, begin = texts[path].count(old), texts[path].find(old)
+        if found != 1:
+            raise ValueError(f"an 'old:' text stands in {path} {found} times, and not once: {old.strip()}")
         inside = [it for it in functions(texts[path]) if path.endswith(".rt") and it.begin <= begin and begin + len(old) <= it.end]
         places.append((path, inside[0] if inside else None))
         texts[path] = texts[path].replace(old, new)
+    if not places:
+        raise ValueError("it has no 'old:' and 'new:' pair")
     return texts, places
