@@ -7,8 +7,8 @@ import collections
 import functools
 import re
 
-# Its impl's head, or nothing; its name and the number of its head's line; where its body begins and ends; all of its text.
-Function = collections.namedtuple("Function", "owner name line begin end text")
+# Its impl's head, or nothing; its name and the numbers of its head's line and its last; where its body begins and ends; all of its text.
+Function = collections.namedtuple("Function", "owner name line last begin end text")
 HEAD = re.compile(r'( *)(?:pub(?:\([^)]*\))? )?(?:default |const |unsafe |extern "C" )*fn (\w+)')
 
 
@@ -57,7 +57,7 @@ def functions(text):
                 while re.match(rf"{head[1]}(#|//)", lines[first - 1]) and first > 0:
                     first -= 1
                 end = begin if closed == opened else starts[closed]
-                found.append(Function(owner if head[1] else "", head[2], at + 1, begin, end, "\n".join(lines[first : closed + 1])))
+                found.append(Function(owner if head[1] else "", head[2], at + 1, closed + 1, begin, end, "\n".join(lines[first : closed + 1])))
                 at = closed
         at += 1
     return found
