@@ -148,6 +148,9 @@ rise-instead least next (f ∷ fs) g h gs e r = (r.0, rise-instead (f.first + 1)
 pub kept-later : (next more : ℕ) (g : OpenGroups) → next ≤ more → IsKept next g → IsKept more g
 kept-later next more g l kept = record { few = kept.few; linked = kept.linked; counted = kept.counted; rise = rise-later 1 next more (listed g) l kept.rise }
 
+pub kept_next : (next : ℕ) (g : OpenGroups) → IsKept next g → IsKept (next + 1) g
+kept_next next g kept = kept-later next (next + 1) g (omega arith) kept
+
 -- ---- an entry more, and one less
 
 pub slice_get-push : {X : Type 0} (xs : List X) (x : X) → slice_get (xs ++ x ∷ []) (length xs) ≡ Some x

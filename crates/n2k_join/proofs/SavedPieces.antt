@@ -10,7 +10,7 @@ use Rattle.n2k_join.specs.declared.piece.OpenGroup.{OpenGroup}
 use Rattle.n2k_join.specs.Frames.{Key, most_frames}
 use Rattle.n2k_join.specs.Open.{Piece, Group, piece_at}
 use Rattle.n2k_join.specs.Saved.{are_waiting, tree_by, group_tree, state_tree, state_text}
-use Rattle.n2k_join.specs.Inner.SavedTokens.{tokens_of, count_tokens, piece_tokens, pieces_tokens, frames_tokens, key_tokens, groups_tokens, open_tokens, front_tokens, lines_tokens, table_tokens, back_tokens, window_tokens}
+use Rattle.n2k_join.specs.Inner.SavedTokens.{tokens_of, count_tokens, piece_tokens, pieces_tokens, frames_tokens, key_tokens, groups_tokens, open_tokens, front_tokens, table_tokens, back_tokens, window_tokens}
 use Rattle.n2k_join.specs.State.{State}
 use Rattle.n2k_join.specs.Inner.Slots.{slot_of, pieces_in, group_in}
 use Rattle.n2k_join.proofs.Rising.{range-push, filter_map-push}
@@ -87,7 +87,8 @@ unfolding state_text
 text_written s before text none ts is nothing is_none all = grind (arith, print-outline)
 
 -- the members behind the open groups, as they are written
-pub back_written : (o o1 o2 o3 o4 : List Token) (with_window : Bool) (id : List ℕ) (window : ℕ) (c : Counts)
-    → o1 ≡ o ++ lines_tokens c → o2 ≡ o1 ++ table_tokens id → o3 ≡ o2 ++ count_tokens (codes "unknown") c.unknown → o4 ≡ o3 ++ window_tokens with_window window
-    → o4 ≡ o ++ back_tokens with_window id window c
-back_written o o1 o2 o3 o4 with_window id window c p1 p2 p3 p4 = grind (arith, append-nil, common_steps)
+pub back_written : (o o1 o2 o3 o4 o5 : List Token) (with_window : Bool) (id : List ℕ) (window : ℕ) (c : Counts)
+    → o1 ≡ o ++ count_tokens (codes "lines") c.lines → o2 ≡ o1 ++ count_tokens (codes "messages") c.messages → o3 ≡ o2 ++ table_tokens id
+    → o4 ≡ o3 ++ count_tokens (codes "unknown") c.unknown → o5 ≡ o4 ++ window_tokens with_window window
+    → o5 ≡ o ++ back_tokens with_window id window c
+back_written o o1 o2 o3 o4 o5 with_window id window c p1 p2 p3 p4 p5 = grind (arith, append-nil, common_steps)

@@ -85,7 +85,7 @@ pub(crate) fn packet_of(entry: Entry) -> Option<Packet>
 }
 
 /// Takes a frame of a fast PGN into the open groups.
-#[tactic(auto, unfolding(crate::specs::Frames::fast_frame))]
+#[tactic(auto, using(crate::proofs::Order::kept_next), unfolding(crate::specs::Frames::fast_frame))]
 fn take_fast<'t>(
     in_order: bool,
     groups: &mut OpenGroups,
@@ -123,6 +123,7 @@ fn take_fast<'t>(
 
 /// Takes the entry of a line into the open groups. Its packet becomes the message of a group
 /// that it completes.
+#[tactic(auto, using(crate::proofs::Order::kept_next))]
 pub(crate) fn take_entry<'t>(
     in_order: bool,
     groups: &mut OpenGroups,

@@ -22,10 +22,7 @@ const FILLER: u8 = 0xff;
 pub(crate) fn byte_or_filler(bytes: &[u8], at: usize) -> u8
     ensures { result ≡ slice_index_or bytes.now at filler }
 {
-    match bytes.get(at) {
-        Some(byte) => *byte,
-        None => FILLER,
-    }
+    bytes.get(at).copied().unwrap_or(FILLER)
 }
 
 /// The bytes after the header, filled up to seven.

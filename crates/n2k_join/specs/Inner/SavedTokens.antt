@@ -52,9 +52,6 @@ front_tokens with_window c =
     count_tokens (codes "bad") c.bad ++ count_tokens (codes "broken") c.broken
     ++ count_tokens (codes "format") (format_by with_window)
 
-abbrev pub lines_tokens : Counts → List Token
-lines_tokens c = count_tokens (codes "lines") c.lines ++ count_tokens (codes "messages") c.messages
-
 abbrev pub table_tokens : List ℕ → List Token
 table_tokens id = Token.key (codes "table") ∷ Token.string (encode_lower id) ∷ []
 
@@ -64,7 +61,8 @@ window_tokens with_window window = if with_window then count_tokens (codes "wind
 
 abbrev pub back_tokens : Bool → List ℕ → ℕ → Counts → List Token
 back_tokens with_window id window c =
-    lines_tokens c ++ table_tokens id ++ count_tokens (codes "unknown") c.unknown ++ window_tokens with_window window
+    count_tokens (codes "lines") c.lines ++ count_tokens (codes "messages") c.messages ++ table_tokens id
+    ++ count_tokens (codes "unknown") c.unknown ++ window_tokens with_window window
 
 -- these tokens were written behind those from before, and nothing else changed
 pub record AppendsTokens {E : Type 0} (result : Result (Unit {0}) E) (old new : Written) (added : List Token)

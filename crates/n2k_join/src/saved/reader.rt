@@ -43,22 +43,16 @@ fn read_key(value: &Value) -> Result<SpelledKey, StateFault>
     })
 }
 
-/// Each of these values as a frame.
-fn each_piece(alloc: Global, values: &Vec<Value>) -> Result<Vec<SpelledPiece>, StateFault>
-    ensures { GivesOrMemory (λ pieces. pieces.items) result (each read_piece (map view values.now.items)) }
-{
-    let mut pieces = Vec::new(alloc);
-    for value in values {
-        pieces.push(read_piece(value)?)?;
-    }
-    Ok(pieces)
-}
-
 #[tactic(auto, unfolding(crate::specs::Resumed::read_pieces))]
 fn read_pieces(alloc: Global, value: &Value) -> Result<Vec<SpelledPiece>, StateFault>
     ensures { GivesOrMemory (λ pieces. pieces.items) result (read_pieces (view value.now)) }
 {
-    each_piece(alloc, elements_of(required("frames", value)?)?)
+    let values = elements_of(required("frames", value)?)?;
+    let mut pieces = Vec::new(alloc);
+    for element in values {
+        pieces.push(read_piece(element)?)?;
+    }
+    Ok(pieces)
 }
 
 #[tactic(auto, unfolding(crate::specs::Resumed::read_group))]
@@ -72,22 +66,16 @@ fn read_group(alloc: Global, value: &Value) -> Result<SpelledGroup, StateFault>
     Ok(SpelledGroup { first, key, pieces })
 }
 
-/// Each of these values as a group.
-fn each_group(alloc: Global, values: &Vec<Value>) -> Result<Vec<SpelledGroup>, StateFault>
-    ensures { GivesOrMemory (λ groups. groups.items) result (each read_group (map view values.now.items)) }
-{
-    let mut groups = Vec::new(alloc);
-    for value in values {
-        groups.push(read_group(alloc, value)?)?;
-    }
-    Ok(groups)
-}
-
 #[tactic(auto, unfolding(crate::specs::Resumed::read_groups))]
 fn read_groups(alloc: Global, value: &Value) -> Result<Vec<SpelledGroup>, StateFault>
     ensures { GivesOrMemory (λ groups. groups.items) result (read_groups (view value.now)) }
 {
-    each_group(alloc, elements_of(required("groups", value)?)?)
+    let values = elements_of(required("groups", value)?)?;
+    let mut groups = Vec::new(alloc);
+    for element in values {
+        groups.push(read_group(alloc, element)?)?;
+    }
+    Ok(groups)
 }
 
 #[tactic(auto, unfolding(crate::specs::Resumed::read_counts))]

@@ -5,7 +5,7 @@ ghost use Rattle.json.specs.Token.{Token};
 ghost use Rattle.n2k_join.specs.Frames.{most_frames};
 ghost use Rattle.n2k_join.specs.Open.{piece_at, is_waiting};
 ghost use Rattle.n2k_join.specs.Saved.{piece_tree, group_tree, state_tree, state_text, IsId};
-ghost use Rattle.n2k_join.specs.Inner.SavedTokens.{AppendsTokens, tokens_of, count_tokens, piece_tokens, pieces_tokens, frames_tokens, key_tokens, groups_tokens, open_tokens, front_tokens, lines_tokens, table_tokens, back_tokens, window_tokens};
+ghost use Rattle.n2k_join.specs.Inner.SavedTokens.{AppendsTokens, tokens_of, count_tokens, piece_tokens, pieces_tokens, frames_tokens, key_tokens, groups_tokens, open_tokens, front_tokens, table_tokens, back_tokens, window_tokens};
 ghost use Rattle.std.specs.List.{list_all};
 ghost use Rattle.n2k_join.specs.Inner.Stored.{key_of};
 ghost use Rattle.n2k_join.specs.Inner.Slots.{slot_of, pieces_in, group_in};
@@ -163,14 +163,6 @@ fn push_table(id: &[u8; 32], out: &mut Writer) -> Result<(), AllocError>
     push_digits::<32, 64>(id, out)
 }
 
-/// Writes the counts of lines and messages.
-fn push_lines(counts: &Counts, out: &mut Writer) -> Result<(), AllocError>
-    ensures { AppendsTokens result out.old out.new (lines_tokens counts.now) }
-{
-    push_count("lines", counts.lines, out)?;
-    push_count("messages", counts.messages, out)
-}
-
 /// Writes the member `window`, where the state has it.
 fn push_window(with_window: bool, window: u32, out: &mut Writer) -> Result<(), AllocError>
     ensures { AppendsTokens result out.old out.new (window_tokens with_window window) }
@@ -192,7 +184,8 @@ fn push_back(
 ) -> Result<(), AllocError>
     ensures { AppendsTokens result out.old out.new (back_tokens with_window id.now window.lines counts.now) }
 {
-    push_lines(counts, out)?;
+    push_count("lines", counts.lines, out)?;
+    push_count("messages", counts.messages, out)?;
     push_table(id, out)?;
     push_count("unknown", counts.unknown, out)?;
     push_window(with_window, window.get(), out)?;

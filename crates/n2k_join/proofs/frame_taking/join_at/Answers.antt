@@ -1,7 +1,7 @@
 use Rattle.std.proofs.Common.{refl, ◌+◌, arith, ◌∙◌, ◌++◌, sym, ap, true, false, Some}
 use Rattle.indexmap.specs.IndexMap.{with_value_at}
 use Rattle.n2k_join.specs.Inner.Stored.{key_of}
-use Rattle.n2k_join.proofs.Order.{written, kept-later}
+use Rattle.n2k_join.proofs.Order.{written, kept_next}
 use Rattle.n2k_join.proofs.Listed.{here}
 use Rattle.n2k_join.proofs.FrameGroups.{says-here, empty-here, joins-message, joins-groups}
 use Rattle.n2k_join.proofs.frame_taking.join_at.Goals as goal
@@ -49,7 +49,7 @@ returns-then-is_complete c =
       message = ap Some (c.write_message.ensures.message (key_of frame.key)) ∙ joins-message order line packet frame g c.args.at l h c.requires.apart c.requires.«open» c.take.new.self free (c.take.ensures.taken (key_of frame.key)) true done;
       groups = c.remove_at.ensures.gone h.xs h.ys (wrote.places ∙ h.is) ∙ (λ i. wrote.front i ++ wrote.rear i)
           ∙ joins-groups order line packet frame g c.args.at l h c.requires.apart c.requires.«open» c.take.new.self free (c.take.ensures.taken (key_of frame.key)) true done;
-      kept = kept-later line (line + 1) c.remove_at.new.self (omega arith) (c.remove_at.ensures.kept line wrote.kept);
+      kept = kept_next line c.remove_at.new.self (c.remove_at.ensures.kept line wrote.kept);
     }
 
 pub returns : goal.returns
@@ -70,5 +70,5 @@ returns c =
       same = refl;
       message = joins-message order line packet frame g c.args.at l h c.requires.apart c.requires.«open» c.take.new.self free (c.take.ensures.taken (key_of frame.key)) false left;
       groups = wrote.listed ∙ joins-groups order line packet frame g c.args.at l h c.requires.apart c.requires.«open» c.take.new.self free (c.take.ensures.taken (key_of frame.key)) false left;
-      kept = kept-later line (line + 1) t (omega arith) wrote.kept;
+      kept = kept_next line t wrote.kept;
     }

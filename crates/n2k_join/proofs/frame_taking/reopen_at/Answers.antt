@@ -2,7 +2,7 @@ use Rattle.std.proofs.Common.{◌≡◌, refl, ◌+◌, ◌∙◌, sym, ap, subs
 use Rattle.n2k_join.specs.Open.{Group}
 use Rattle.n2k_join.specs.Inner.Stored.{key_of}
 use Rattle.n2k_join.specs.Inner.Order.{item, IsKept}
-use Rattle.n2k_join.proofs.Order.{kept-later}
+use Rattle.n2k_join.proofs.Order.{kept_next}
 use Rattle.n2k_join.proofs.Listed.{here}
 use Rattle.n2k_join.proofs.FrameGroups.{says-here, reopens-message, reopens-groups, breaks}
 use Rattle.n2k_join.proofs.frame_taking.reopen_at.Goals as goal
@@ -32,7 +32,7 @@ returns-then-is_complete c =
       message = ap Some (c.write_message.ensures.message (key_of frame.key)) ∙ reopens-message order line packet frame g c.args.at l h c.requires.apart c.requires.«open» w barred (c.open-fresh.ensures packet) true done;
       broken = ap Some c.broken.ensures ∙ breaks order line packet frame g c.args.at l h c.requires.apart c.requires.«open» w barred (c.open-fresh.ensures packet);
       groups = c.remove_at.ensures.gone h.xs h.ys h.is ∙ sym (append-nil _) ∙ reopens-groups order line packet frame g c.args.at l h c.requires.apart c.requires.«open» w barred (c.open-fresh.ensures packet) true done;
-      kept = kept-later line (line + 1) c.remove_at.new.self (omega arith) (c.remove_at.ensures.kept line c.requires.kept);
+      kept = kept_next line c.remove_at.new.self (c.remove_at.ensures.kept line c.requires.kept);
     }
 
 pub returns : goal.returns

@@ -1,0 +1,10 @@
+-- The groups so far, and what reading gives for the values that are left.
+use Rattle.std.proofs.Common.{◌≡◌, drop, map}
+use Rattle.serde_json.specs.View.{view}
+use Rattle.n2k_join.specs.Resumed.{each, read_group}
+use Rattle.n2k_join.proofs.SavedLists.{after}
+use Rattle.n2k_join.proofs.saved.reader.read_groups.Given as goal
+
+abbrev pub invariant-loop-element : goal.invariant-loop-element
+invariant-loop-element l =
+    after l.groups.items (each read_group (map view (drop l.element-index l.element-items))) ≡ each read_group (map view l.element-items)
