@@ -12,7 +12,8 @@ use Rattle.clap.specs.declared.parser.matches.ArgMatches.{ArgMatches}
 use Rattle.clap.specs.declared.error.kind.ErrorKind.{ErrorKind}
 use Rattle.clap.specs.declared.error.kind.ErrorKind.TheVariants.{DisplayHelp, DisplayVersion, OutOfMemory}
 use Rattle.clap.proofs.OnLiterals.{clap_on_literals}
-use Rattle.std.specs.Prelude.{Vec}
+use Rattle.std.specs.Prelude.{◌≢◌, Vec}
+use Rattle.std.specs.declared.alloc.AllocError.{AllocError}
 use Rattle.std.specs.declared.alloc.Global.{Global}
 use Rattle.n2kdec.specs.declared.asked.Command.{Command}
 use Rattle.n2kdec.specs.declared.asked.Request.{Request}
@@ -20,9 +21,9 @@ use Rattle.n2kdec.specs.declared.asked.Request.TheVariants as to
 use Rattle.n2kdec.specs.declared.fault.Fault.{Fault}
 use Rattle.n2kdec.specs.declared.fault.Fault.TheVariants as fault
 use Rattle.n2kdec.specs.Usage.{program_app}
-use Rattle.n2kdec.specs.Asked.{IsAsked, IsOfWords, IsUnasked}
+use Rattle.n2kdec.specs.Asked.{HasLines, IsAsked, IsOfWords, IsUnasked}
 use Rattle.n2kdec.specs.Inner.Parse.{AnswersKind}
-use Rattle.n2kdec.specs.Parser.{AreLinesOf, AreMatchesOf, IsRefusal, Shown, no_window, said_at, said_of}
+use Rattle.n2kdec.specs.Parser.{AreMatchesOf, IsRefusal, Shown, no_window, said_at, said_of}
 use Rattle.n2kdec.specs.Words.{Names, command_of, named}
 
 -- the command is one of those whose matches and faults are known
@@ -74,32 +75,24 @@ said_at_fault : (kinds : Kinds) (kind : ErrorKind) (text : Option Text) → IsAm
 said_at_fault [] kind text among = absurd among
 said_at_fault (k ∷ kinds) kind text among = refl
 
-said_of_words : (one other : Option Text) (lines : Option (Vec ℕ Global)) → one ≡ other → IfSome lines (λ lines. AreLinesOf one lines.items)
-    → IfSome lines (λ lines. (fault.Words ≡ fault.Words) × AreLinesOf other lines.items)
-said_of_words one other None same said = tt
-said_of_words one other (Some lines) same said = (refl, subst (λ t. AreLinesOf t lines.items) same said)
+said_of_words : (one other : Option Text) (lines : Option (Result (Vec ℕ Global) AllocError)) → one ≡ other → HasLines fault.Words one lines → HasLines fault.Words other lines
+said_of_words one other lines same said = subst (λ t. HasLines fault.Words t lines) same said
 
 -- ---- what is asked for
 
--- no other fault is asked for, and nothing is said of it
+-- no other fault is asked for
 module _ (shown : Shown) (words : List Text) where
-  abbrev IsSaidOf : Fault → Option (Vec ℕ Global) → Type 0
-  IsSaidOf f lines = IfSome lines (λ lines. (f ≡ fault.Words) × AreLinesOf (said_of shown words) lines.items)
-
-  unsaid : (f : Fault) → (f ≡ fault.Words → ⊥) → (lines : Option (Vec ℕ Global)) → IsSaidOf f lines → lines ≡ None
-  unsaid f other None said = refl
-  unsaid f other (Some lines) said = absurd (other said.0)
-
-  some_said : (lines : Option (Vec ℕ Global)) → IsSaidOf fault.Words lines → IfSome lines (λ lines. AreLinesOf None lines.items)
+  some_said : (lines : Option (Result (Vec ℕ Global) AllocError)) → HasLines fault.Words (said_of shown words) lines → IfSome lines (λ lines. HasLines fault.Words None (Some lines))
   some_said None said = tt
-  some_said (Some lines) said = (said.1.0, tt, said.1.2)
+  some_said (Some (Ok lines)) said = (said.0, tt, said.2)
+  some_said (Some (Err refused)) said = tt
 
   pub of_words : (r : Request) → IsAsked shown r words → IsOfWords r
   of_words (to.Help text) asked = tt
   of_words (to.Command command) asked = tt
   of_words (to.Refused fault.Words lines) asked = some_said lines asked.1
-  of_words (to.Refused fault.Interface lines) asked = unsaid fault.Interface (λ is. cc) lines asked.1
-  of_words (to.Refused (fault.Memory read) lines) asked = (asked.0, unsaid (fault.Memory read) (λ is. cc) lines asked.1)
+  of_words (to.Refused fault.Interface lines) asked = asked.1
+  of_words (to.Refused (fault.Memory read) lines) asked = asked
   of_words (to.Refused _ lines) asked = absurd asked.0
 
 -- the matches are those of the definition, so what is named in them is what the words name
@@ -117,10 +110,14 @@ module _ (shown : Shown) (words : List Text) (rows : Option (Text × List Row)) 
   unasked (fault.Memory read) names = names
   unasked _ names = absurd names
 
-  pub asked_fault : (f : Fault) → Names (named rows) (Err f) → IsAsked shown (to.Refused f None) words
-  asked_fault f names = (unasked f (named_by_matches (Err f) names), tt)
+  pub asked_fault : (f : Fault) → f ≢ fault.Words → Names (named rows) (Err f) → IsAsked shown (to.Refused f None) words
+  asked_fault f other names = (unasked f (named_by_matches (Err f) names), unsaid f other)
+    where
+      unsaid : (f : Fault) → f ≢ fault.Words → HasLines f (said_of shown words) None
+      unsaid fault.Words other = absurd (other refl)
+      unsaid _ other = refl
 
-  pub asked_words : (lines : Option (Vec ℕ Global)) → Names (named rows) (Err fault.Words) → IfSome lines (λ lines. AreLinesOf (Some no_window) lines.items) → IsAsked shown (to.Refused fault.Words lines) words
+  pub asked_words : (lines : Option (Result (Vec ℕ Global) AllocError)) → Names (named rows) (Err fault.Words) → HasLines fault.Words (Some no_window) lines → IsAsked shown (to.Refused fault.Words lines) words
   asked_words lines names said = (
     unasked fault.Words (named_by_matches (Err fault.Words) names),
     said_of_words (Some no_window) (said_of shown words) lines (sym (said_without_fault shown words none)) said,
@@ -138,7 +135,7 @@ module _ (shown : Shown) (words : List Text) (kind : ErrorKind) (text : Option T
   asked_by_refusal (to.Refused fault.Words lines) (inl memory) answers = absurd (answers.2 memory)
   asked_by_refusal (to.Refused fault.Words lines) (inr (among, same)) answers =
       (inl (kind, among, answers.0, answers.1), said_of_words text (said_of shown words) lines (same ∙ sym (said_at_fault (fault_of program_app words) kind (shown words) among)) answers.3)
-  asked_by_refusal (to.Refused (fault.Memory read) lines) fails answers = (answers.0, subst (λ l. IfSome l (λ lines. (fault.Memory read ≡ fault.Words) × AreLinesOf (said_of shown words) lines.items)) (sym answers.1) tt)
+  asked_by_refusal (to.Refused (fault.Memory read) lines) fails answers = answers
   asked_by_refusal (to.Refused _ lines) fails answers = absurd answers
 
 -- ---- texts, one behind the other

@@ -1,15 +1,15 @@
 -- From what a call leaves to what the program leaves.
-use Rattle.std.proofs.Common.{◌≡◌, ◌⊎◌, ◌∙◌, ◌++◌, append-nil, append_assoc, ap, ℕ, List, [], ◌∷◌, Option, Some, None, Result, Ok, Err, IfErr, IfOk, Bool, true, option_map, inl, inr, refl, subst, sym}
+use Rattle.std.proofs.Common.{◌≡◌, ◌⊎◌, ◌∙◌, ◌++◌, append-nil, append_assoc, ap, ℕ, List, [], ◌∷◌, Option, Some, None, Result, Ok, Err, IfErr, option_map, inl, inr, refl, subst, sym}
 use Rattle.std.specs.Prelude.{◌<◌, ◌≤◌, IfSome, IsErrAnd, IsSome, length}
 use Rattle.std.proofs.lemmas.Bool.{false≢true}
 use Rattle.std.specs.Option.{unwrap_or}
-use Rattle.std.specs.Result.{result_unwrap_or}
+use Rattle.std.specs.declared.alloc.AllocError.{AllocError}
 use Rattle.std.specs.declared.io.Error.{Error}
 use Rattle.clap.specs.Words.{Text}
 use Rattle.n2kdec.specs.Asked.{save_name}
 use Rattle.n2kdec.specs.Commands.{Performs, Place, shelf}
 use Rattle.n2kdec.specs.FaultSentence.{SystemWords}
-use Rattle.n2kdec.specs.Machine.{Calls, DoesAsked, Hints, IsAdmittedSo, IsNotRead, IsPerformed, IsPerformedOver, IsRead, IsReadBefore, IsUnread, LogAfter, Makes, Outside, IsTerminal, IsToldOf, ReadsFile, RunsCommand, RunsRequest, StandsBefore, World, WritesFault, table_bytes, too_large, with_log}
+use Rattle.n2kdec.specs.Machine.{Calls, DoesAsked, Hints, IsAdmittedSo, IsNotRead, IsPerformed, IsPerformedOver, IsRead, IsReadBefore, IsUnread, LogAfter, Makes, Outside, ReadsFile, ReportsFault, RunsCommand, RunsRequest, World, table_bytes, too_large, with_log}
 use Rattle.n2k_run.specs.Device.{IsWhy}
 use Rattle.n2kdec.specs.Fault.{longest_file, status_of, unopened, unread}
 use Rattle.n2kdec.specs.Replacement.{IsOfMemory}
@@ -151,32 +151,23 @@ all_calls files a b c d e of_table of_state reads why table state opened closed 
     makes_then a c e (of_table ++ of_state) (Opened files.log None ∷ Closed reads why ∷ []) (makes_then a b c of_table of_state table state)
     (opened_closed c d e files.log reads why why opened closed refl)
 
--- a fault of what was typed is written behind what stands before its line
-pub reported : (w : World) (words : SystemWords) (request : Request) (before done : Outside) (result : Result Ending Fault) (fault : Fault) (stood : List ℕ) (errors : Place) (status : ℕ)
-    → DoesAsked w request before done result → result ≡ Err fault → StandsBefore w words request fault stood → WritesFault stood fault done.errors errors → status ≡ status_of fault
-    → RunsRequest w words request before (record done { errors = errors }) status
-reported w words request before done result fault stood errors status does is stands writes said = record {
+-- a fault of what was typed is reported
+pub reported : (w : World) (words : SystemWords) (request : Request) (before done : Outside) (result : Result Ending Fault) (fault : Fault) (said : Result (Unit {0}) AllocError) (errors : Place) (status : ℕ)
+    → DoesAsked w request before done result → result ≡ Err fault → ReportsFault w words request fault said done.errors errors → status ≡ status_of fault
+    → RunsRequest w words request before (record done { errors = errors }) status said
+reported w words request before done result fault said errors status does is reports answered = record {
   result = Err fault;
   done = done;
   does = subst (DoesAsked w request before done) is does;
-  concludes = (said, (stood, stands, writes), refl);
+  concludes = (answered, reports, refl);
 }
 
 -- a command that came to its end, of which is said what there is to say
-pub ended : (w : World) (words : SystemWords) (request : Request) (before done : Outside) (result : Result Ending Fault) (ending : Ending) (errors : Place) (status : ℕ)
-    → DoesAsked w request before done result → result ≡ Ok ending → Hints w ending.has_other_form done.errors errors → status ≡ ending.status → RunsRequest w words request before (record done { errors = errors }) status
-ended w words request before done result ending errors status does is hints said = record {
+pub ended : (w : World) (words : SystemWords) (request : Request) (before done : Outside) (result : Result Ending Fault) (ending : Ending) (said : Result (Unit {0}) AllocError) (errors : Place) (status : ℕ)
+    → DoesAsked w request before done result → result ≡ Ok ending → Hints w ending.has_other_form done.errors errors → status ≡ ending.status → RunsRequest w words request before (record done { errors = errors }) status said
+ended w words request before done result ending said errors status does is hints answered = record {
   result = Ok ending;
   done = done;
   does = subst (DoesAsked w request before done) is does;
-  concludes = (said, hints, refl);
+  concludes = (answered, hints, refl);
 }
-
--- on a terminal this stands before the line of a fault, where there is memory for it
-pub spoken : {V E : Type 0} (items : V → List ℕ) (w : World) (words : SystemWords) (request : Request) (fault : Fault) (is_terminal : Bool) (said : Result V E) (none text : V)
-    → IsTerminal w is_terminal → is_terminal ≡ true → items none ≡ [] → IfOk said (λ said. IsToldOf words request fault (items said)) → text ≡ result_unwrap_or said none
-    → StandsBefore w words request fault (items text)
-spoken items w words request fault is_terminal (Ok said) none text terminal is empty told same =
-    (is_terminal, terminal, inr (is, subst (λ (v : _). IsToldOf words request fault (items v)) (sym same) told))
-spoken items w words request fault is_terminal (Err why) none text terminal is empty told same =
-    (is_terminal, terminal, inl (ap items same ∙ empty))

@@ -1,5 +1,7 @@
 -- What words ask for: a text, or a command over files.
-use Rattle.std.specs.Prelude.{◌≡◌, ◌≢◌, ◌⊎◌, List, [], Option, None, Result, Ok, Err, IfSome}
+use Rattle.std.specs.Prelude.{◌≡◌, ◌≢◌, ◌⊎◌, ℕ, List, [], Option, Some, None, Result, Ok, Err, IfOk, IfSome, Vec}
+use Rattle.std.specs.declared.alloc.AllocError.{AllocError}
+use Rattle.std.specs.declared.alloc.Global.{Global}
 use Rattle.clap.specs.Words.{IsAmong, Text, fault_of}
 use Rattle.clap.specs.declared.error.kind.ErrorKind.{ErrorKind}
 use Rattle.clap.specs.declared.error.kind.ErrorKind.TheVariants.{DisplayHelp, DisplayVersion}
@@ -41,9 +43,16 @@ IsHelp shown text words =
     (IsAmong DisplayHelp (fault_of program_app words) × IfSome (shown words) (λ help. text ≡ help))
     ⊎ (IsAmong DisplayVersion (fault_of program_app words) × (text ≡ version_text))
 
--- no other fault comes of words; of refused ones lines may be said, in which control characters are escaped
+-- Of refused words these lines are said, in which control characters are escaped, unless memory for them is refused; of
+-- other faults none.
+abbrev pub HasLines : Fault → Option Text → Option (Result (Vec ℕ Global) AllocError) → Type 0
+HasLines Words known (Some lines) = IfOk lines (λ lines. AreLinesOf known lines.items)
+HasLines Words known None = ⊥
+HasLines _ known lines = lines ≡ None
+
+-- no other fault comes of words; of those that are no texts no line is said
 abbrev pub IsOfWords : Request → Type 0
-IsOfWords (to.Refused Words lines) = IfSome lines (λ lines. AreLinesOf None lines.items)
+IsOfWords (to.Refused Words lines) = IfSome lines (λ lines. HasLines Words None (Some lines))
 IsOfWords (to.Refused Interface lines) = lines ≡ None
 IsOfWords (to.Refused (Memory read) lines) = (read ≡ None) × (lines ≡ None)
 IsOfWords (to.Refused _ lines) = ⊥
@@ -54,4 +63,4 @@ abbrev pub IsAsked : Shown → Request → List Text → Type 0
 IsAsked shown (to.Help text) words = IsHelp shown text words
 IsAsked shown (to.Command command) words = Gives words (Ok command)
 IsAsked shown (to.Refused fault lines) words =
-    IsUnasked fault words × IfSome lines (λ lines. (fault ≡ Words) × AreLinesOf (said_of shown words) lines.items)
+    IsUnasked fault words × HasLines fault (said_of shown words) lines

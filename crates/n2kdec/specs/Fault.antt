@@ -1,5 +1,5 @@
 -- The line that a fault prints, and the status that the program ends with.
-use Rattle.std.specs.Prelude.{◌≡◌, ◌⊎◌, ◌++◌, ℕ, List, Option, Some, None, codes, ◌==◌, if◌then◌else◌}
+use Rattle.std.specs.Prelude.{ℕ, List, Option, Some, None, codes, ◌==◌, if◌then◌else◌}
 use Rattle.std.specs.IoError.{error_kind}
 use Rattle.std.specs.declared.io.Error.{Error}
 use Rattle.n2k_join.specs.declared.counts.Counts.{Counts}
@@ -60,10 +60,6 @@ fault_line Report = codes "n2kdec: report\n"
 fault_line (Memory read) = codes "n2kdec: memory\n"
 fault_line Lines = codes "n2kdec: lines\n"
 fault_line (Save why) = codes "n2kdec: save\n"
-
--- What is written on standard error at a fault: its line, behind this text or, where memory is refused, alone.
-abbrev pub IsFaultMessage : List ℕ → Fault → List ℕ → Type 0
-IsFaultMessage before fault text = (text ≡ before ++ fault_line fault) ⊎ (text ≡ fault_line fault)
 
 abbrev pub table_status : TableFault → ℕ
 table_status table.Memory = 3

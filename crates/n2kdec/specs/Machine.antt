@@ -1,7 +1,8 @@
 -- What the program meets, and what comes of the words that were typed: the files that they name are read, their command
 -- is performed, its state is kept under the name that they have for it, and a fault is reported.
 use Rattle.std.specs.Prelude.{◌≡◌, ◌⊎◌, ◌<◌, ◌≤◌, ◌++◌, ℕ, Bool, List, [], ◌∷◌, Option, Some, None}
-use Rattle.std.specs.Prelude.{IfErr, IfSome, IsSome, MatchResult, Result, Ok, Err, length, true, false}
+use Rattle.std.specs.Prelude.{IfErr, IfSome, IsOkAnd, IsSome, MatchResult, Result, Ok, Err, length, true, false}
+use Rattle.std.specs.declared.alloc.AllocError.{AllocError}
 use Rattle.std.specs.declared.io.Error.{Error}
 use Rattle.clap.specs.Words.{Text}
 use Rattle.n2k_run.specs.declared.device.Sink.{Ghosts as OfSink}
@@ -10,7 +11,7 @@ use Rattle.n2k_run.specs.Runs.{Devices, devices}
 use Rattle.n2kdec.specs.Asked.{IsAsked, IsOfWords, save_name}
 use Rattle.n2kdec.specs.Commands.{IsCutOff, IsWritten, IsWrittenUnlessFailed, Kept, Performs, Place, place, shelf}
 use Rattle.n2kdec.specs.Ending.{hint}
-use Rattle.n2kdec.specs.Fault.{IsFaultMessage, longest_file, status_of, unopened, unread}
+use Rattle.n2kdec.specs.Fault.{fault_line, longest_file, status_of, unopened, unread}
 use Rattle.n2kdec.specs.FaultSentence.{IsSentence, SystemWords}
 use Rattle.n2kdec.specs.Keeper.{Admission}
 use Rattle.n2kdec.specs.Replacement.{IsOfMemory}
@@ -257,25 +258,30 @@ abbrev pub command_of : Request → Option Command
 command_of (to.Command command) = Some command
 command_of _ = None
 
--- what is said of a fault: the lines that are said of refused words, else its sentence
+-- what is said of a fault: the lines that are said of refused words, for which memory is not refused, else its sentence
 abbrev pub IsToldOf : SystemWords → Request → Fault → List ℕ → Type 0
-IsToldOf words (to.Refused refused (Some lines)) fault text = text ≡ lines.items
+IsToldOf words (to.Refused refused (Some lines)) fault text = IsOkAnd lines (λ lines. text ≡ lines.items)
 IsToldOf words request fault text = IsSentence words (command_of request) fault text
 
--- This may stand before the line of a fault: on a terminal what is said of it; off it nothing.
+-- This stands before the line of a fault: on a terminal what is said of it; off it nothing.
+abbrev pub IsSaidOn : Bool → SystemWords → Request → Fault → List ℕ → Type 0
+IsSaidOn true words request fault text = IsToldOf words request fault text
+IsSaidOn false words request fault text = text ≡ []
+
 abbrev pub StandsBefore : World → SystemWords → Request → Fault → List ℕ → Type 0
 StandsBefore w words request fault text =
-    (is_terminal : Bool) × IsTerminal w is_terminal
-    × ((text ≡ []) ⊎ ((is_terminal ≡ true) × IsToldOf words request fault text))
+    (is_terminal : Bool) × IsTerminal w is_terminal × IsSaidOn is_terminal words request fault text
 
--- what is said of a fault is written behind this text, whole unless the place fails
-abbrev pub WritesFault : List ℕ → Fault → Place → Place → Type 0
-WritesFault stood fault before after =
-    (text : List ℕ) × IsFaultMessage stood fault text × IsWrittenUnlessFailed before after text
+-- what is written at a fault: its line, behind this
+abbrev pub IsMessage : World → SystemWords → Request → Fault → List ℕ → Type 0
+IsMessage w words request fault text =
+    (stood : List ℕ) × StandsBefore w words request fault stood × (text ≡ stood ++ fault_line fault)
 
-abbrev pub ReportsFault : World → SystemWords → Request → Fault → Place → Place → Type 0
-ReportsFault w words request fault before after =
-    (stood : List ℕ) × StandsBefore w words request fault stood × WritesFault stood fault before after
+-- It is written whole, unless the place fails. Only where memory is refused, which is answered, the line is written alone.
+abbrev pub ReportsFault : World → SystemWords → Request → Fault → Result (Unit {0}) AllocError → Place → Place → Type 0
+ReportsFault w words request fault (Ok said) before after =
+    (text : List ℕ) × IsMessage w words request fault text × IsWrittenUnlessFailed before after text
+ReportsFault w words request fault (Err refused) before after = IsWrittenUnlessFailed before after (fault_line fault)
 
 -- On a terminal it is said behind all that a log has another form, unless the place fails; off it nothing is.
 abbrev pub HintsOn : Bool → Place → Place → Type 0
@@ -291,24 +297,25 @@ Hints w true before after = HintsOnTerminal w before after
 Hints w false before after = after ≡ before
 
 -- the status of a result, and what is said of it
-abbrev pub Concludes : World → SystemWords → Request → Result Ending Fault → Outside → Outside → ℕ → Type 0
-Concludes w words request (Ok ending) before after status =
+abbrev pub Concludes : World → SystemWords → Request → Result Ending Fault → Outside → Outside → ℕ → Result (Unit {0}) AllocError → Type 0
+Concludes w words request (Ok ending) before after status said =
     (status ≡ ending.status) × Hints w ending.has_other_form before.errors after.errors
     × (after ≡ record before { errors = after.errors })
-Concludes w words request (Err fault) before after status =
-    (status ≡ status_of fault) × ReportsFault w words request fault before.errors after.errors
+Concludes w words request (Err fault) before after status said =
+    (status ≡ status_of fault) × ReportsFault w words request fault said before.errors after.errors
     × (after ≡ record before { errors = after.errors })
 
 -- what is asked for is done, and the status is that of it
 pub record RunsRequest (w : World) (words : SystemWords) (request : Request) (before after : Outside) (status : ℕ)
-    : Type 0 where
+    (said : Result (Unit {0}) AllocError) : Type 0 where
   pub result : Result Ending Fault
   pub done : Outside
   pub does : DoesAsked w request before done result
-  pub concludes : Concludes w words request result done after status
+  pub concludes : Concludes w words request result done after status said
 
 -- The program: what was typed is done.
-pub record RunsTyped (shown : Shown) (w : World) (words : SystemWords) (before after : Outside) (status : ℕ) : Type 0 where
+pub record RunsTyped (shown : Shown) (w : World) (words : SystemWords) (before after : Outside) (status : ℕ)
+    (said : Result (Unit {0}) AllocError) : Type 0 where
   pub request : Request
   pub asks : AsksFor shown w request
-  pub runs : RunsRequest w words request before after status
+  pub runs : RunsRequest w words request before after status said

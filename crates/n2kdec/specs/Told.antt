@@ -18,7 +18,7 @@ use Rattle.n2kdec.specs.Commands.{Effect, decode_from, entries_for, frames_effec
 use Rattle.n2kdec.specs.declared.asked.Task.{Task}
 use Rattle.n2kdec.specs.declared.asked.Task.TheVariants.{Plain, Decode, Frames}
 use Rattle.n2kdec.specs.declared.difference.Difference.{Difference}
-use Rattle.n2kdec.specs.declared.difference.Difference.TheVariants.{Tables, Windows}
+use Rattle.n2kdec.specs.declared.difference.Difference.TheVariants.{Tables, Windows, Unknown}
 use Rattle.n2kdec.specs.declared.fault.Fault.{Fault}
 use Rattle.n2kdec.specs.declared.fault.Fault.TheVariants.{Read, State, Memory}
 use Rattle.n2kdec.specs.declared.fault.Reading.TheVariants as reading
@@ -42,11 +42,17 @@ abbrev pub windows : ℕ → List ℕ → Option Difference
 windows lines state =
     option_map (λ saved. Windows saved lines) (option_and_then (number_in (codes "window")) (parsed state))
 
--- what a state is of that is refused for it
-abbrev pub difference : List ℕ → Options → Option (List ℕ) → StateFault → Option Difference
-difference id o (Some state) TableDiffers = tables id state
-difference id o (Some state) WindowDiffers = windows o.window.lines state
-difference id o handed _ = None
+-- this is told, or memory for it was refused
+abbrev pub IsUnlessUnknown : Option Difference → Option Difference → Type 0
+IsUnlessUnknown known None = ⊥
+IsUnlessUnknown known (Some Unknown) = Unit {0}
+IsUnlessUnknown known (Some told) = known ≡ Some told
+
+-- what a state is of that is refused for it; no other fault tells anything
+abbrev pub Differs : List ℕ → Options → Option (List ℕ) → StateFault → Option Difference → Type 0
+Differs id o (Some state) TableDiffers told = IsUnlessUnknown (tables id state) told
+Differs id o (Some state) WindowDiffers told = IsUnlessUnknown (windows o.window.lines state) told
+Differs id o handed _ told = told ≡ None
 
 -- ---- a log of which a read failed
 
@@ -66,10 +72,9 @@ CountsLines (Decode o save) table handed before after lines =
 
 -- ---- what is told
 
--- what a state is of that `decode` refuses for it, unless memory for that is refused; no other command has one
+-- what a state is of that `decode` refuses for it; no other command has one
 abbrev pub TellsState : Task → List ℕ → Option (List ℕ) → StateFault → Option Difference → Type 0
-TellsState (Decode o save) table handed fault told =
-    IfSome told (λ is. difference (table_of table).id o handed fault ≡ Some is)
+TellsState (Decode o save) table handed fault told = Differs (table_of table).id o handed fault told
 TellsState _ table handed fault told = told ≡ None
 
 -- By what a command was handed: the lines that were counted, and what the state is of. A command reads its log.

@@ -1,5 +1,5 @@
 -- The run of a command, from the bytes of a table and of a state, and why it stops.
-use Rattle.std.specs.Prelude.{◌≡◌, ◌≢◌, ◌⊎◌, ℕ, List, [], Option, Some, None, Result, Ok, Err, IfSome, Contains}
+use Rattle.std.specs.Prelude.{◌≡◌, ◌≢◌, ◌⊎◌, ℕ, List, [], Option, Some, None, Result, Ok, Err, Contains}
 use Rattle.n2k_table.specs.Table.{TableParts, faults, kind, table}
 use Rattle.n2k_table.specs.declared.fault.TableFault.{TableFault}
 use Rattle.n2k_table.specs.declared.fault.TableFault.TheVariants as table_faults
@@ -16,7 +16,7 @@ use Rattle.n2k_run.specs.declared.part.PartFault.TheVariants as part_faults
 use Rattle.n2kdec.specs.Fault.{fault_of_run}
 use Rattle.n2kdec.specs.declared.asked.Task.{Task}
 use Rattle.n2kdec.specs.declared.asked.Task.TheVariants.{Plain, Decode, Frames}
-use Rattle.n2kdec.specs.Told.{difference}
+use Rattle.n2kdec.specs.Told.{Differs}
 use Rattle.n2kdec.specs.declared.difference.Difference.{Difference}
 use Rattle.n2kdec.specs.declared.fault.Fault.{Fault}
 use Rattle.n2kdec.specs.declared.fault.Reading.TheVariants as reading
@@ -48,12 +48,9 @@ answer_of_part of (Ok part) = Ok part
 answer_of_part of (Err fault) = Err (stop_of_part of fault)
 
 -- what a refused state is of, which no other fault has
-abbrev pub IsOfEnded : List ℕ → Options → Option (List ℕ) → Result Part PartFault → Difference → Type 0
-IsOfEnded id o handed (Err (part_faults.State fault)) is = difference id o handed fault ≡ Some is
-IsOfEnded id o handed ended is = ⊥
-
 abbrev pub IsOfFault : List ℕ → Options → Option (List ℕ) → Result Part PartFault → Option Difference → Type 0
-IsOfFault id o handed ended of = IfSome of (IsOfEnded id o handed ended)
+IsOfFault id o handed (Err (part_faults.State fault)) of = Differs id o handed fault of
+IsOfFault id o handed ended of = of ≡ None
 
 abbrev pub AnswersPart : List ℕ → Options → Option (List ℕ) → Result Part PartFault → Result Part Stop → Type 0
 AnswersPart id o handed ended result =

@@ -6,6 +6,7 @@ use crate::fault::Fault;
 use crate::words::Word;
 use n2k_run::Options;
 use n2k_wire::is_interface;
+use std::alloc::AllocError;
 use std::marker::Model;
 
 /// The name of an interface: 1 to 15 bytes from `!` to `~`.
@@ -101,6 +102,7 @@ pub enum Request {
     Help(Word),
     /// A command.
     Command(Command),
-    /// Words that ask for nothing that can be done, and what is said of refused ones on a terminal, in whole lines.
-    Refused(Fault, Option<Vec<u8>>),
+    /// Words that ask for nothing that can be done, and what is said on a terminal of those that a parser has seen, in
+    /// whole lines; an error where memory for these is refused.
+    Refused(Fault, Option<Result<Vec<u8>, AllocError>>),
 }

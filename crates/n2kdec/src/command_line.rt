@@ -230,15 +230,15 @@ fn help_of<T: Display>(alloc: Global, kind: ErrorKind, shown: &T) -> Request
         ErrorKind::DisplayHelp => help(shown_text(alloc, shown)),
         ErrorKind::DisplayVersion => help(version(alloc)),
         ErrorKind::OutOfMemory => Request::Refused(Fault::Memory(None), None),
-        _ => Request::Refused(Fault::Words, lines_of(alloc, shown).ok()),
+        _ => Request::Refused(Fault::Words, Some(lines_of(alloc, shown))),
     }
 }
 
 /// What the words of a command line ask for, the program's name first, as a parser reads them by the command's
 /// definition: `["n2kdec", "plain", "trip.log"]` gives `plain` with that log. `Help` where they ask for help, with the
 /// text that it shows of them, or for the version, with `n2kdec`, the version and an LF. An interface that is none is
-/// `Fault::Interface`; words that are refused for any other cause are `Fault::Words`, with what is said of them unless
-/// memory for that is refused; want of memory is `Fault::Memory`.
+/// `Fault::Interface`; words that are refused for any other cause are `Fault::Words`, with what is said of them, or
+/// an error where memory for that is refused; want of memory is `Fault::Memory`.
 pub fn request<P: Parser>(alloc: Global, parser: &P, words: &[&str]) -> Request
     ensures asked { IsAsked (P.shown parser.now) result (texts words.now) }
     ensures faults { IsOfWords result }
@@ -247,7 +247,7 @@ pub fn request<P: Parser>(alloc: Global, parser: &P, words: &[&str]) -> Request
     match parser.parse(alloc, words) {
         Ok(matches) => match command_of(alloc, &matches) {
             Ok(command) => Request::Command(command),
-            Err(Fault::Words) => Request::Refused(Fault::Words, lines_of(alloc, &NO_WINDOW).ok()),
+            Err(Fault::Words) => Request::Refused(Fault::Words, Some(lines_of(alloc, &NO_WINDOW))),
             Err(fault) => Request::Refused(fault, None),
         },
         Err(refusal) => help_of(alloc, refusal.kind, &refusal.text),

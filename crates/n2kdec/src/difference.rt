@@ -1,9 +1,10 @@
 //! What a state is of that is refused for it.
-ghost use Rattle.std.specs.Prelude.{◌≡◌, IfSome, Some, option_map};
+ghost use Rattle.std.specs.Prelude.{◌≡◌, IfSome, Some, option_map, unwrap_or};
 ghost use Rattle.hex.specs.Hex.{encode_lower};
 ghost use Rattle.serde_json.specs.View.{view};
 ghost use Rattle.n2k_join.specs.Resumed.{parsed};
-ghost use Rattle.n2kdec.specs.Told.{difference, number_in, tables, text_in, windows};
+ghost use Rattle.n2kdec.specs.Told.{Differs, number_in, tables, text_in, windows};
+ghost use Rattle.n2kdec.specs.declared.difference.Difference.TheVariants.{Unknown};
 
 use n2k_join::StateFault;
 use n2k_run::Options;
@@ -18,6 +19,8 @@ pub enum Difference {
     Tables([u8; 64], [u8; 64]),
     /// The lines of the window that it was saved under, and those of the window that was asked for.
     Windows(u64, u64),
+    /// Memory for it is refused.
+    Unknown,
 }
 
 /// The value of a state. None where memory is refused.
@@ -83,7 +86,14 @@ fn windows(alloc: Global, options: &Options, state: &[u8]) -> Option<Difference>
     Some(Difference::Windows(saved, u64::from(options.window.get())))
 }
 
-/// What a state is of that is refused by this fault. None where it is refused for another cause, or memory is.
+/// What was found out, if anything.
+fn or_unknown(found: Option<Difference>) -> Difference
+    ensures { result ≡ unwrap_or found Unknown }
+{
+    found.unwrap_or(Difference::Unknown)
+}
+
+/// What a state is of that is refused by this fault. None where it is refused for another cause.
 pub fn difference_of(
     alloc: Global,
     table: &Table,
@@ -91,12 +101,11 @@ pub fn difference_of(
     state: Option<&[u8]>,
     fault: StateFault,
 ) -> Option<Difference>
-    ensures { IfSome result (λ is. difference table.now.id options.now
-        (option_map (λ bytes. bytes.now) state.entry) fault ≡ Some is) }
+    ensures { Differs table.now.id options.now (option_map (λ bytes. bytes.now) state.entry) fault result }
 {
     match fault {
-        StateFault::TableDiffers => tables(alloc, table, state?),
-        StateFault::WindowDiffers => windows(alloc, options, state?),
+        StateFault::TableDiffers => Some(or_unknown(tables(alloc, table, state?))),
+        StateFault::WindowDiffers => Some(or_unknown(windows(alloc, options, state?))),
         _ => None,
     }
 }

@@ -1,19 +1,59 @@
 //! What is written at a fault: its line, and on a terminal before it what is said of it.
 ghost use Rattle.std.specs.Prelude.{◌≡◌, IfOk};
 ghost use Rattle.n2kdec.specs.Commands.{IsWrittenUnlessFailed, place};
-ghost use Rattle.n2kdec.specs.Fault.{IsFaultMessage};
-ghost use Rattle.n2kdec.specs.Machine.{WritesFault};
+ghost use Rattle.n2kdec.specs.Machine.{IsMessage, IsToldOf, ReportsFault, StandsBefore};
 
+use crate::asked::Request;
 use crate::fault::{Fault, fault_line, fault_text};
+use crate::fault_sentence::fault_sentence;
+use crate::machine::Machine;
 use n2k_run::{Sink, write_all};
 use std::alloc::{AllocError, Global};
 
-/// What is written at a fault.
-fn fault_message(alloc: Global, fault: &Fault, before: Vec<u8>) -> Result<Vec<u8>, AllocError>
-    ensures { IfOk result (λ text. IsFaultMessage before.items fault.now text.items) }
+/// What is said on a terminal of a fault: of refused words what their parser shows, else the sentence of the fault.
+fn told_of<M: Machine>(
+    alloc: Global,
+    machine: &M,
+    request: &Request,
+    fault: Fault,
+) -> Result<Vec<u8>, AllocError>
+    ensures { IfOk result (λ text. IsToldOf M.words request.now fault text.items) }
 {
-    let mut text = before;
-    fault_text(alloc, fault, &mut text)?;
+    match request {
+        Request::Refused(_, Some(Ok(lines))) => lines.clone(),
+        Request::Refused(_, Some(Err(refused))) => Err(*refused),
+        Request::Command(command) => fault_sentence(alloc, machine, Some(command), fault),
+        _ => fault_sentence(alloc, machine, None, fault),
+    }
+}
+
+/// What stands before the line of a fault.
+fn text_before<M: Machine>(
+    alloc: Global,
+    machine: &M,
+    request: &Request,
+    fault: Fault,
+) -> Result<Vec<u8>, AllocError>
+    ensures { IfOk result (λ text. StandsBefore (M.world machine.now) M.words request.now fault text.items) }
+{
+    if machine.is_terminal() {
+        told_of(alloc, machine, request, fault)
+    } else {
+        Ok(Vec::new(alloc))
+    }
+}
+
+/// What is written at a fault.
+fn fault_message<M: Machine>(
+    alloc: Global,
+    machine: &M,
+    request: &Request,
+    fault: Fault,
+) -> Result<Vec<u8>, AllocError>
+    ensures { IfOk result (λ text. IsMessage (M.world machine.now) M.words request.now fault text.items) }
+{
+    let mut text = text_before(alloc, machine, request, fault)?;
+    fault_text(alloc, &fault, &mut text)?;
     Ok(text)
 }
 
@@ -25,14 +65,27 @@ pub fn write_text<E: Sink>(text: &[u8], errors: &mut E)
     let _ = write_all(errors, text);
 }
 
-/// Writes on standard error the line of a fault, as `fault_text` gives it, behind what stands before it. Where memory for
-/// that is refused the line is written alone.
-pub fn write_fault<E: Sink>(alloc: Global, fault: &Fault, before: Vec<u8>, errors: &mut E)
-    ensures { WritesFault before.items fault.now (place (E.contents errors.old) (E.failed_calls errors.old))
+/// Writes on standard error the line of a fault, as `fault_text` gives it, behind what stands before it. An error where
+/// memory for that is refused: the line is written alone then.
+pub fn write_fault<M: Machine, E: Sink>(
+    alloc: Global,
+    machine: &M,
+    request: &Request,
+    fault: Fault,
+    errors: &mut E,
+) -> Result<(), AllocError>
+    ensures { ReportsFault (M.world machine.now) M.words request.now fault result
+        (place (E.contents errors.old) (E.failed_calls errors.old))
         (place (E.contents errors.new) (E.failed_calls errors.new)) }
 {
-    match fault_message(alloc, fault, before) {
-        Ok(text) => write_text(&text, errors),
-        Err(_) => write_text(fault_line(*fault), errors),
+    match fault_message(alloc, machine, request, fault) {
+        Ok(text) => {
+            write_text(&text, errors);
+            Ok(())
+        }
+        Err(refused) => {
+            write_text(fault_line(fault), errors);
+            Err(refused)
+        }
     }
 }

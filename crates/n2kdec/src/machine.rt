@@ -50,6 +50,9 @@ pub trait Machine {
     /// The calls by which files were opened and closed, where they are known.
     ghost calls: { Self → Calls };
 
+    /// Why the last read of a file failed that did.
+    ghost unread: { Self.File → Option Error };
+
     /// Why the last call of an output failed that did.
     ghost unwritten: { Self.Output → Option Error };
 
@@ -82,6 +85,7 @@ pub trait Machine {
     /// Closes a file, and answers the error of the last read of it that failed.
     fn close(&mut self, file: Self::File) -> Option<Error>
         ensures same { world self.new ≡ world self.old }
+        ensures told { result ≡ unread file }
         ensures why { IsWhy (Self.File.failed_calls file) result }
         ensures calls { Makes (Closed (Self.File.calls file) result ∷ []) (calls self.old) (calls self.new) };
 

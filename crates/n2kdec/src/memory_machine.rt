@@ -2,7 +2,7 @@
 ghost use Rattle.std.specs.Prelude.{◌≡◌, ◌∷◌, ◌++◌, [], IfOk, OnOk, map, option_map, string_bytes};
 ghost use Rattle.clap.specs.Walk.{texts};
 ghost use Rattle.n2kdec.specs.Machine.{Makes};
-ghost use Rattle.n2kdec.specs.MemoryMachine.{bytes_under, kept_text, words_of};
+ghost use Rattle.n2kdec.specs.MemoryMachine.{bytes_under, kept_text, why_of, words_of};
 ghost use Rattle.n2kdec.specs.declared.machine.FileCall.TheVariants.{Opened};
 
 use crate::asked::Files;
@@ -81,6 +81,7 @@ pub struct MemoryFile<'a> {
     source: MemorySource<'a>,
     calls: u64,
     failed_calls: u64,
+    error: Error,
 }
 
 impl<'a> MemoryFile<'a> {
@@ -96,6 +97,18 @@ impl<'a> MemoryFile<'a> {
             source: MemorySource::new(bytes, PIECE, fails_at),
             calls: 0,
             failed_calls: 0,
+            error: Error::from(ErrorKind::Other),
+        }
+    }
+
+    /// Why the last call failed that did.
+    fn failure(&self) -> Option<Error>
+        ensures { result ≡ why_of self.now.failed_calls self.now.error }
+    {
+        if self.failed_calls == 0 {
+            None
+        } else {
+            Some(self.error)
         }
     }
 }
@@ -177,6 +190,8 @@ impl<'a> Machine for MemoryMachine<'a> {
 
     ghost calls = { λ m. option_map (λ all. all.items) m.calls };
 
+    ghost unread = { λ f. why_of f.failed_calls f.error };
+
     // Why a write of it fails a sink in memory does not tell.
     ghost unwritten = { λ _. None };
 
@@ -206,11 +221,7 @@ impl<'a> Machine for MemoryMachine<'a> {
     }
 
     fn close(&mut self, file: MemoryFile<'a>) -> Option<Error> {
-        let why = if file.failed_calls == 0 {
-            None
-        } else {
-            Some(Error::from(ErrorKind::Other))
-        };
+        let why = file.failure();
         note(&mut self.calls, FileCall::Closed(file.calls, why));
         why
     }

@@ -4,8 +4,8 @@ ghost use Rattle.std.specs.Process.{exit_status};
 ghost use Rattle.clap.specs.Walk.{texts};
 ghost use Rattle.n2kdec.specs.Asked.{save_name};
 ghost use Rattle.n2kdec.specs.Commands.{place};
-ghost use Rattle.n2kdec.specs.Machine.{AsksFor, DoesAsked, Hints, HintsOnTerminal, IsAdmittedSo, IsOfFile, IsToldOf, Makes};
-ghost use Rattle.n2kdec.specs.Machine.{Opens, ReadsFile, RunsCommand, RunsRequest, RunsTyped, Shows, StandsBefore};
+ghost use Rattle.n2kdec.specs.Machine.{AsksFor, DoesAsked, Hints, HintsOnTerminal, IsAdmittedSo, IsOfFile, Makes};
+ghost use Rattle.n2kdec.specs.Machine.{Opens, ReadsFile, RunsCommand, RunsRequest, RunsTyped, Shows};
 ghost use Rattle.n2kdec.specs.Machine.{bytes_named, explained, outside, too_large as too_large_of};
 ghost use Rattle.n2kdec.specs.declared.machine.FileCall.{FileCall};
 
@@ -15,7 +15,6 @@ use crate::commands::run_command;
 use crate::ending::{Ending, hint};
 use crate::fault::{Fault, Reading, status, unopened, unread};
 use crate::fault_message::{write_fault, write_text};
-use crate::fault_sentence::fault_sentence;
 use crate::keeper::{Keeper, Unkept};
 use crate::machine::{Machine, Outlets};
 use crate::parser::Parser;
@@ -242,33 +241,6 @@ fn do_request<M: Machine, K: Keeper>(
     }
 }
 
-/// What is said on a terminal of a fault: of refused words what their parser shows, else the sentence of the fault.
-fn told_of<M: Machine>(
-    alloc: Global,
-    machine: &M,
-    request: &Request,
-    fault: Fault,
-) -> Result<Vec<u8>, AllocError>
-    ensures { IfOk result (λ text. IsToldOf M.words request.now fault text.items) }
-{
-    match request {
-        Request::Refused(_, Some(lines)) => lines.clone(),
-        Request::Command(command) => fault_sentence(alloc, machine, Some(command), fault),
-        _ => fault_sentence(alloc, machine, None, fault),
-    }
-}
-
-/// What stands before the line of a fault. Where memory for it is refused, that is nothing.
-fn text_before<M: Machine>(alloc: Global, machine: &M, request: &Request, fault: Fault) -> Vec<u8>
-    ensures { StandsBefore (M.world machine.now) M.words request.now fault result.items }
-{
-    if !machine.is_terminal() {
-        return Vec::new(alloc);
-    }
-    let none = Vec::new(alloc);
-    told_of(alloc, machine, request, fault).unwrap_or(none)
-}
-
 /// Says on a terminal what to do with a log of another form.
 fn hint_on_terminal<M: Machine, E: Sink>(machine: &M, errors: &mut E)
     ensures { HintsOnTerminal (M.world machine.now) (place (E.contents errors.old) (E.failed_calls errors.old))
@@ -290,41 +262,44 @@ fn say_hint<M: Machine, E: Sink>(machine: &M, ending: Ending, errors: &mut E)
     }
 }
 
-/// Does what is asked for, says what there is to say of it, and answers the status that the program ends with.
+/// Does what is asked for, says what there is to say of it, and answers the status that the program ends with. An error
+/// beside it where memory for what is said of a fault is refused.
 #[tactic(auto, using(crate::proofs::MachineLemmas::reported, crate::proofs::MachineLemmas::ended))]
 fn run_request<M: Machine, K: Keeper>(
     alloc: Global,
     machine: &mut M,
     request: &Request,
     outlets: &mut Outlets<M::Output, M::Errors, K>,
-) -> ExitCode
+) -> (ExitCode, Result<(), AllocError>)
     ensures { RunsRequest (M.world machine.old) M.words request.now
         (outside M.Output.Sink M.unwritten M.Errors.Sink K.Keeper (M.calls machine.old) outlets.old)
-        (outside M.Output.Sink M.unwritten M.Errors.Sink K.Keeper (M.calls machine.new) outlets.new) (exit_status result) }
+        (outside M.Output.Sink M.unwritten M.Errors.Sink K.Keeper (M.calls machine.new) outlets.new)
+        (exit_status result.0) result.1 }
 {
     match do_request(alloc, machine, request, outlets) {
         Ok(ending) => {
             say_hint(machine, ending, &mut outlets.errors);
-            ExitCode::from(ending.status)
+            (ExitCode::from(ending.status), Ok(()))
         }
         Err(fault) => {
-            let before = text_before(alloc, machine, request, fault);
-            write_fault(alloc, &fault, before, &mut outlets.errors);
-            ExitCode::from(status(&fault))
+            let said = write_fault(alloc, machine, request, fault, &mut outlets.errors);
+            (ExitCode::from(status(&fault)), said)
         }
     }
 }
 
-/// Does what was typed, and answers the status that the program ends with.
+/// Does what was typed, and answers the status that the program ends with. An error beside it where memory for what is
+/// said of a fault is refused.
 pub fn run<P: Parser, M: Machine, K: Keeper>(
     alloc: Global,
     parser: &P,
     machine: &mut M,
     outlets: &mut Outlets<M::Output, M::Errors, K>,
-) -> ExitCode
+) -> (ExitCode, Result<(), AllocError>)
     ensures { RunsTyped (P.shown parser.now) (M.world machine.old) M.words
         (outside M.Output.Sink M.unwritten M.Errors.Sink K.Keeper (M.calls machine.old) outlets.old)
-        (outside M.Output.Sink M.unwritten M.Errors.Sink K.Keeper (M.calls machine.new) outlets.new) (exit_status result) }
+        (outside M.Output.Sink M.unwritten M.Errors.Sink K.Keeper (M.calls machine.new) outlets.new)
+        (exit_status result.0) result.1 }
 {
     let request = typed_request(alloc, parser, machine);
     run_request(alloc, machine, &request, outlets)

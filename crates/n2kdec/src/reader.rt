@@ -14,11 +14,14 @@ pub enum Reader<F, I> {
 }
 
 impl<F: Read, I: Read> Reader<StdSource<F>, StdSource<I>> {
+    ghost use Rattle.std.specs.Prelude.{◌≡◌};
     ghost use Rattle.n2k_run.specs.Device.{IsWhy};
+    ghost use Rattle.n2k_run.specs.Inner.Failures.{last_of};
 
     /// The error of the last call that failed.
     pub fn failure(&self) -> Option<Error>
-        ensures { IsWhy (⟦<Reader<StdSource<F>, StdSource<I>> as Source>⟧.failed_calls self.now) result }
+        ensures last { result ≡ of_either (λ f. last_of f.failures) (λ i. last_of i.failures) self.now }
+        ensures told { IsWhy (⟦<Reader<StdSource<F>, StdSource<I>> as Source>⟧.failed_calls self.now) result }
     {
         match self {
             Reader::File(file) => file.failure(),

@@ -250,7 +250,7 @@ fn other_words_are_refused(rt: HostRuntime) {
     for given in &REFUSED {
         let answer = request(rt.alloc(), &ClapParser, given);
         assert!(rt;
-            matches!(&answer, Request::Refused(Fault::Words, Some(_))),
+            matches!(&answer, Request::Refused(Fault::Words, Some(Ok(_)))),
             "{given:?}: {answer:?}"
         );
     }
@@ -287,7 +287,7 @@ fn what_is_shown_is_of_these_words(rt: HostRuntime) -> Result<(), Fail> {
         (["n2kdec", "print"].as_slice(), "n2kdecprint\n"),
         (window.as_slice(), "error: a window is "),
     ] {
-        let Request::Refused(_, Some(lines)) = request(alloc, &EchoParser, given) else {
+        let Request::Refused(_, Some(Ok(lines))) = request(alloc, &EchoParser, given) else {
             return Err("they are refused".into());
         };
         assert!(rt; lines.starts_with(said.as_bytes()));
@@ -502,7 +502,7 @@ fn what_was_typed_is_run(rt: HostRuntime) -> Result<(), Fail> {
         keeper: MemoryKeeper::new(alloc),
     };
     assert_eq!(rt;
-        run(alloc, &ClapParser, &mut machine, &mut outlets),
+        run(alloc, &ClapParser, &mut machine, &mut outlets).0,
         ExitCode::SUCCESS
     );
     assert_eq!(rt; outlets.output.bytes(), EXAMPLES[2].text.as_bytes());
@@ -518,7 +518,7 @@ fn what_was_typed_is_run(rt: HostRuntime) -> Result<(), Fail> {
     machine.calls = Some(Vec::new(alloc));
     machine.fails_at = 2;
     assert_eq!(rt;
-        run(alloc, &ClapParser, &mut machine, &mut outlets),
+        run(alloc, &ClapParser, &mut machine, &mut outlets).0,
         ExitCode::from(3)
     );
     assert!(rt; outlets.errors.bytes().ends_with(b"n2kdec: table file\n"));

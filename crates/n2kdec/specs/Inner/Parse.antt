@@ -6,7 +6,7 @@ use Rattle.clap.specs.declared.error.kind.ErrorKind.TheVariants.{DisplayHelp, Di
 use Rattle.n2kdec.specs.declared.asked.Request.{Request}
 use Rattle.n2kdec.specs.declared.asked.Request.TheVariants.{Help, Command, Refused}
 use Rattle.n2kdec.specs.declared.fault.Fault.TheVariants as fault
-use Rattle.n2kdec.specs.Parser.{AreLinesOf}
+use Rattle.n2kdec.specs.Asked.{HasLines}
 use Rattle.n2kdec.specs.Words.{version_text}
 
 -- By its kind, and by the text that it shows, where that is known: a request for help, which gets that text, or for the
@@ -17,6 +17,6 @@ AnswersKind kind shown (Help text) =
 AnswersKind kind shown (Command command) = ⊥
 AnswersKind kind shown (Refused fault.Words lines) =
     (kind ≢ DisplayHelp) × (kind ≢ DisplayVersion) × (kind ≢ OutOfMemory)
-    × IfSome lines (λ lines. AreLinesOf shown lines.items)
+    × HasLines fault.Words shown lines
 AnswersKind kind shown (Refused (fault.Memory read) lines) = (read ≡ None) × (lines ≡ None)
 AnswersKind kind shown (Refused _ lines) = ⊥

@@ -1,5 +1,5 @@
 -- The parse is that of the definition, so the lemmas on the definition say what is asked.
-use Rattle.std.proofs.Common.{rules, None, Ok, Err}
+use Rattle.std.proofs.Common.{rules, None, Some, Ok, Err}
 use Rattle.clap.specs.Walk.{texts}
 use Rattle.n2kdec.specs.declared.asked.Request.TheVariants as to
 use Rattle.n2kdec.specs.declared.fault.Fault.TheVariants as fault
@@ -16,7 +16,7 @@ returns-in-Ok-command_of-clause-taken g c takes =
 
 pub returns-in-Err-Words-clause-asked : goal.returns-in-Err-Words-clause-asked
 returns-in-Err-Words-clause-asked g c =
-    asked_words (g.P.Parser.shown c.args.parser.now) _ _ c.in-Ok.ensures.matches.1 c.in-Ok.ensures.matches.0 _ (search rules) (search rules)
+    asked_words (g.P.Parser.shown c.args.parser.now) _ _ c.in-Ok.ensures.matches.1 c.in-Ok.ensures.matches.0 (Some c.lines_of.result) (search rules) c.lines_of.ensures
 
 pub returns-in-Err-Words-clause-taken : goal.returns-in-Err-Words-clause-taken
 returns-in-Err-Words-clause-taken g c takes =
@@ -24,7 +24,7 @@ returns-in-Err-Words-clause-taken g c takes =
 
 pub returns-in-Ok : goal.returns-in-Ok
 returns-in-Ok g c =
-    let words = asked_fault (g.P.Parser.shown c.args.parser.now) _ _ c.in-Ok.ensures.matches.1 c.in-Ok.ensures.matches.0 c.in-Err-command_of.fault c.in-Err-command_of.ensures in
+    let words = asked_fault (g.P.Parser.shown c.args.parser.now) _ _ c.in-Ok.ensures.matches.1 c.in-Ok.ensures.matches.0 c.in-Err-command_of.fault (search rules) c.in-Err-command_of.ensures in
     record { asked = words; faults = of_words (g.P.Parser.shown c.args.parser.now) (texts c.args.words.now) (to.Refused c.in-Err-command_of.fault None) words; taken = λ takes. named_by_matches (g.P.Parser.shown c.args.parser.now) _ _ c.in-Ok.ensures.matches.1 c.in-Ok.ensures.matches.0 (Err c.in-Err-command_of.fault) c.in-Err-command_of.ensures }
 
 pub returns-clause-asked : goal.returns-clause-asked
@@ -32,7 +32,7 @@ returns-clause-asked g c =
     asked_by_refusal (g.P.Parser.shown c.args.parser.now) _ _ _ c.help_of.result c.in-Err.ensures.refusal c.help_of.ensures.answers
 
 pub returns-in-Err-Words-clause-faults : goal.returns-in-Err-Words-clause-faults
-returns-in-Err-Words-clause-faults g c = of_words (g.P.Parser.shown c.args.parser.now) (texts c.args.words.now) (to.Refused fault.Words c.ok.result) (returns-in-Err-Words-clause-asked g c)
+returns-in-Err-Words-clause-faults g c = of_words (g.P.Parser.shown c.args.parser.now) (texts c.args.words.now) (to.Refused fault.Words (Some c.lines_of.result)) (returns-in-Err-Words-clause-asked g c)
 
 pub returns-clause-faults : goal.returns-clause-faults
 returns-clause-faults g c = of_words (g.P.Parser.shown c.args.parser.now) (texts c.args.words.now) c.help_of.result (returns-clause-asked g c)
