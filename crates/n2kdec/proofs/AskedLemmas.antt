@@ -1,5 +1,5 @@
 -- From what `clap` says of a parse to what the words ask for.
-use Rattle.std.proofs.Common.{◌≡◌, ◌∙◌, ℕ, List, [], ◌∷◌, Bool, cond, true, false, Option, Some, None, Result, Ok, Err, IfErr, IfOk, IfSome, IsErrOf, ap, sym, subst, refl, inl, inr, codes, true≢false}
+use Rattle.std.proofs.Common.{◌≡◌, ◌⊎◌, ◌∙◌, ℕ, List, [], ◌∷◌, Bool, cond, true, false, Option, Some, None, Result, Ok, Err, IfErr, IfOk, IfSome, IsErrOf, ap, sym, subst, refl, inl, inr, codes, true≢false}
 use Rattle.std.specs.Option.{option_and_then, option_map}
 use Rattle.std.specs.Borrow.{Bor}
 use Rattle.std.specs.List.{flat_map}
@@ -21,7 +21,8 @@ use Rattle.n2kdec.specs.declared.asked.Request.TheVariants as to
 use Rattle.n2kdec.specs.declared.fault.Fault.{Fault}
 use Rattle.n2kdec.specs.declared.fault.Fault.TheVariants as fault
 use Rattle.n2kdec.specs.Usage.{program_app}
-use Rattle.n2kdec.specs.Asked.{HasLines, IsAsked, IsOfWords, IsUnasked}
+use Rattle.n2kdec.specs.Asked.{HasLines, IsAsked, IsUnasked}
+use Rattle.n2kdec.specs.Machine.{AsksFor, World}
 use Rattle.n2kdec.specs.Inner.Parse.{AnswersKind}
 use Rattle.n2kdec.specs.Parser.{AreMatchesOf, IsRefusal, Shown, no_window, said_at, said_of}
 use Rattle.n2kdec.specs.Words.{Names, command_of, named}
@@ -80,20 +81,25 @@ said_of_words one other lines same said = subst (λ t. HasLines fault.Words t li
 
 -- ---- what is asked for
 
--- no other fault is asked for
-module _ (shown : Shown) (words : List Text) where
-  some_said : (lines : Option (Result (Vec ℕ Global) AllocError)) → HasLines fault.Words (said_of shown words) lines → IfSome lines (λ lines. HasLines fault.Words None (Some lines))
-  some_said None said = tt
-  some_said (Some (Ok lines)) said = (said.0, tt, said.2)
-  some_said (Some (Err refused)) said = tt
+-- what was typed asks for this
+module _ (shown : Shown) (w : World) (r : Request) where
+  pub typed_asks : (typed : List Text) → IfSome w.typed (λ known. typed ≡ known) → IsAsked shown r typed → AsksFor shown w r
+  typed_asks typed is asked = inl (typed, is, asked)
 
-  pub of_words : (r : Request) → IsAsked shown r words → IsOfWords r
-  of_words (to.Help text) asked = tt
-  of_words (to.Command command) asked = tt
-  of_words (to.Refused fault.Words lines) asked = some_said lines asked.1
-  of_words (to.Refused fault.Interface lines) asked = asked.1
-  of_words (to.Refused (fault.Memory read) lines) asked = asked
-  of_words (to.Refused _ lines) asked = absurd asked.0
+  -- memory was refused
+  pub memory_asks : r ≡ to.Refused (fault.Memory None) None → AsksFor shown w r
+  memory_asks is = inl (some w.typed)
+    where
+      some : (known : Option (List Text)) → (typed : List Text) × IfSome known (λ known. typed ≡ known) × IsAsked shown r typed
+      some None = ([], tt, subst (λ r. IsAsked shown r []) (sym is) (refl, refl))
+      some (Some typed) = (typed, refl, subst (λ r. IsAsked shown r typed) (sym is) (refl, refl))
+
+pub ruleset asks = (typed_asks, memory_asks)
+
+-- they are no texts, or memory was refused
+pub refused_asks : (shown : Shown) (w : World) (f : Fault) → (f ≡ fault.Words) ⊎ (f ≡ fault.Memory None) → (f ≡ fault.Words → w.typed ≡ None) → AsksFor shown w (to.Refused f None)
+refused_asks shown w f (inl is) unknown = inr (unknown is, ap (λ f. to.Refused f None) is)
+refused_asks shown w f (inr is) unknown = memory_asks shown w (to.Refused f None) (ap (λ f. to.Refused f None) is)
 
 -- the matches are those of the definition, so what is named in them is what the words name
 module _ (shown : Shown) (words : List Text) (rows : Option (Text × List Row)) (same : rows ≡ subcommand_of program_app words) (none : fault_of program_app words ≡ []) where

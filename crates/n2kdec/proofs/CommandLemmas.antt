@@ -36,13 +36,6 @@ more_after old mid new text more first then = (
   subst (λ t. Appends old new t) (append_assoc text first.0 more) (Appends-trans old mid new (text ++ first.0) more first.1 then),
 )
 
-pub few : (counts : Counts) → exit_status counts ≤ 1
-few counts = go (counts.bad == 0)
-  where
-    go : (b : Bool) → cond b 0 1 ≤ 1
-    go true = omega arith
-    go false = omega arith
-
 -- a text that was written, or cut off, followed what stood there
 pub some_written : (before after : Place) (text : List ℕ) → IsWrittenUnlessFailed before after text → (more : List ℕ) × Appends before.text after.text more
 some_written before after text (inl whole) = (text, whole.written)
@@ -219,7 +212,6 @@ module _ (c : Effect) (stands : List Entry → Type 0) (before after : Devices) 
           ran.ends.gained.reported (subst (λ n. Appends errors.text after.reported (summary_text n)) counted.0 whole.written);
       status = ap (λ (e : Ending). e.status) is ∙ ap exit_status counted.0;
       form = ap (λ (e : Ending). e.has_other_form) is ∙ ap has_other_form counted.0;
-      at_most_one = subst (λ n. n ≤ 1) (sym (ap (λ (e : Ending). e.status) is)) (few counts);
       none_failed = record { reads = ran.device.reads; writes = ran.device.writes; reports = whole.none_failed ∙ ran.device.reports };
       saved = saved None keeps;
     }

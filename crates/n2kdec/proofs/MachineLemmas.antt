@@ -46,29 +46,32 @@ opened_closed a b c name reads why known opened closed is =
     subst (λ w. Makes (Opened name None ∷ Closed reads w ∷ []) a c) is (makes_then a b c (Opened name None ∷ []) (Closed reads why ∷ []) opened closed)
 
 -- a file that was opened and closed
-module _ (w : World) (name : Text) (read : Reading) (a b c : Calls) (reads failed : ℕ) (why : Option Error) (is_why : IsWhy failed why)
+module _ (w : World) (named : Option Text) (name : Text) (is_name : named ≡ Some name) (read : Reading) (a b c : Calls) (reads failed : ℕ) (why : Option Error) (is_why : IsWhy failed why)
     (opened : Makes (Opened (Some name) None ∷ []) a b) (closed : Makes (Closed reads why ∷ []) b c) where
   abbrev pub Comes : (T : Type 0) → Result T Fault → Type 0
-  Comes T result = (made : List FileCall) × Makes made a c × ReadsFile w (Some name) read result made
+  Comes T result = (made : List FileCall) × Makes made a c × ReadsFile w named read result made
+
+  so : (T : Type 0) (result : Result T Fault) → (made : List FileCall) × Makes made a c × ReadsFile w (Some name) read result made → Comes T result
+  so T result comes = subst (λ n. (made : List FileCall) × Makes made a c × ReadsFile w n read result made) (sym is_name) comes
 
   taken : failed ≡ 0 → Makes (Opened (Some name) None ∷ Closed reads None ∷ []) a c
   taken none = opened_closed a b c (Some name) reads why None opened closed (is_why.0 none)
 
   pub was_read : (T : Type 0) (bytes : T) → failed ≡ 0 → IfSome (w.file name) (λ bytes. length bytes ≤ longest_file) → Comes T (Ok bytes)
-  was_read T bytes none few = (_, taken none, (few, (reads, refl)))
+  was_read T bytes none few = so T (Ok bytes) (_, taken none, (few, (reads, refl)))
 
   pub was_too_large : (T : Type 0) (fault : Fault) → too_large read ≡ Some fault → failed ≡ 0 → IfSome (w.file name) (λ bytes. longest_file < length bytes) → Comes T (Err fault)
-  was_too_large T fault is none many = (_, taken none, inl (is, many, (reads, refl)))
+  was_too_large T fault is none many = so T (Err fault) (_, taken none, inl (is, many, (reads, refl)))
 
   pub was_unread : (T : Type 0) (fault : Fault) → fault ≡ unread read why → 0 < failed → Comes T (Err fault)
   was_unread T fault is some = subst (λ f. Comes T (Err f)) (sym is) (go why (is_why.1 some) closed)
     where
       go : (told : Option Error) → IsSome told → Makes (Closed reads told ∷ []) b c → Comes T (Err (unread read told))
       go None is closed = absurd (false≢true is)
-      go (Some error) is closed = (_, opened_closed a b c (Some name) reads (Some error) (Some error) opened closed refl, inr (inr (inl (error, refl, (reads, refl)))))
+      go (Some error) is closed = so T (Err (unread read (Some error))) (_, opened_closed a b c (Some name) reads (Some error) (Some error) opened closed refl, inr (inr (inl (error, refl, (reads, refl)))))
 
   pub was_refused_memory : (T : Type 0) → failed ≡ 0 → Comes T (Err (Memory (Some read)))
-  was_refused_memory T none = (_, taken none, inr (inr (inr (refl, (reads, refl)))))
+  was_refused_memory T none = so T (Err (Memory (Some read))) (_, taken none, inr (inr (inr (refl, (reads, refl)))))
 
 -- ---- a command
 

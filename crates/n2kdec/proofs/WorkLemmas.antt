@@ -23,7 +23,7 @@ use Rattle.n2k_table.specs.Table.{faults, kind, table as table_of}
 use Rattle.clap.specs.Words.{Text}
 use Rattle.n2k_join.specs.declared.counts.Counts.{Counts}
 use Rattle.n2kdec.specs.Asked.{save_name}
-use Rattle.n2kdec.specs.Commands.{Effect, EndsByTable, IsDone, IsRefusal, Kept, Performs, Place, Shelf, HasStatus, decode_effect, entries_for, frames_effect, place, plain_effect, shelf}
+use Rattle.n2kdec.specs.Commands.{Effect, EndsByTable, IsDone, IsRefusal, Kept, Performs, Place, Shelf, decode_effect, entries_for, frames_effect, place, plain_effect, shelf}
 use Rattle.n2kdec.specs.Fault.{exit_status, fault_of_run}
 use Rattle.n2kdec.specs.Inner.Closing.{Closes, ClosesPart, FollowsStop, SumsUp}
 use Rattle.n2kdec.specs.Work.{AnswersWhole, DoesDecode, DoesFrames, IsOfFault, RefusesTable, Works, answer_of_part}
@@ -151,31 +151,6 @@ tells task bytes handed before after keeper kept errors summed (Err stop) r does
     told_after None f is follows = subst TellsIt (sym follows.0) is
     told_after (Some part) (fault.Read lines why _) is follows = subst TellsIt (sym follows.1) is
     told_after (Some part) f is follows = subst TellsIt (sym follows.0) is
-
--- ---- the status
-
-status_of : (c : Effect) (before after : Devices) (ending : Ending) (P : List ℕ → Type 0) → ((came : List ℕ) → ending.status ≡ exit_status (c.counts (entries_for c came)) → P came) → IsDone c before after ending → IfSome before.left P
-status_of c before after ending P follows done = all_came P before.left after.left done.came done.given done.at_end (follows done.came done.status)
-
-known_for_all : {A : Type 0} (left : Option (List ℕ)) (P : A → List ℕ → Type 0) → ((a : A) → IfSome left (P a)) → IfSome left (λ all. (a : A) → P a all)
-known_for_all None P each = tt
-known_for_all (Some log) P each = each
-
-pub tells_status : (task : Task) (bytes : List ℕ) (handed : Option (List ℕ)) (before after : Devices) (keeper kept : Shelf) (r : Result Ending Fault) → Performs task bytes handed before after keeper kept r
-    → IfOk r (λ ending. IfSome before.left (λ all. HasStatus task bytes handed all ending.status))
-tells_status task bytes handed before after keeper kept (Err f) done = tt
-tells_status Plain bytes handed before after keeper kept (Ok ending) done =
-    status_of plain_effect before after ending (λ all. HasStatus Plain bytes handed all ending.status) (λ came is. is) done.1
-tells_status (Frames interface) bytes handed before after keeper kept (Ok ending) done =
-    status_of (frames_effect (table_of bytes) interface) before after ending (λ all. HasStatus (Frames interface) bytes handed all ending.status) (λ came is. is) done.1.1
-tells_status (Decode o save) bytes handed before after keeper kept (Ok ending) done =
-    known_for_all before.left _ (λ (front : List Entry). known_if before.left _ _ (λ begins.
-    status_of (decode_effect (table_of bytes) o front keeper kept) before after ending
-    (λ all. ending.status ≡ exit_status (counts o.window (kind (table_of bytes)) (front ++ entries o.packing all))) (λ came is. is) (done.log front begins)))
-  where
-    known_if : (left : Option (List ℕ)) (Q : Type 0) (P : List ℕ → Type 0) → (Q → IfSome left P) → IfSome left (λ all. Q → P all)
-    known_if None Q P each = tt
-    known_if (Some all) Q P each = each
 
 -- ---- what a refusal leaves
 

@@ -50,14 +50,6 @@ HasLines Words known (Some lines) = IfOk lines (λ lines. AreLinesOf known lines
 HasLines Words known None = ⊥
 HasLines _ known lines = lines ≡ None
 
--- no other fault comes of words; of those that are no texts no line is said
-abbrev pub IsOfWords : Request → Type 0
-IsOfWords (to.Refused Words lines) = IfSome lines (λ lines. HasLines Words None (Some lines))
-IsOfWords (to.Refused Interface lines) = lines ≡ None
-IsOfWords (to.Refused (Memory read) lines) = (read ≡ None) × (lines ≡ None)
-IsOfWords (to.Refused _ lines) = ⊥
-IsOfWords _ = Unit {0}
-
 -- What these words ask for, as a parser shows them: a text, the command that they name, or a fault.
 abbrev pub IsAsked : Shown → Request → List Text → Type 0
 IsAsked shown (to.Help text) words = IsHelp shown text words

@@ -17,12 +17,12 @@ use Rattle.n2k_join.specs.State.{State as StateOf, state}
 use Rattle.n2k_run.specs.Decoded.{join_fold, out, output_after, reports}
 use Rattle.n2k_run.specs.Device.{HasFailed}
 use Rattle.n2k_run.specs.Entries.{entries}
-use Rattle.n2k_run.specs.FramesOut.{frame_counts_of, frames_counts, frames_output}
+use Rattle.n2k_run.specs.FramesOut.{frame_counts_of, frames_output}
 use Rattle.n2k_run.specs.Lines.{whole_lines}
 use Rattle.n2k_run.specs.Fold.{after_all}
 use Rattle.n2k_run.specs.Headline.{save, state_after}
 use Rattle.n2k_run.specs.Parts.{IsFront, begun}
-use Rattle.n2k_run.specs.Plain.{plain_counts, plain_counts_of, plain_output}
+use Rattle.n2k_run.specs.Plain.{plain_counts_of, plain_output}
 use Rattle.n2k_run.specs.Reading.{OutlastsReads}
 use Rattle.n2k_run.specs.Reports.{summary_text}
 use Rattle.n2k_run.specs.Runs.{AreNumbered, Devices, HasFronts, NoneFailed, Output, ReadFails, ReportFails}
@@ -73,7 +73,8 @@ pub record Kept : Type 0 where
 
 -- This text was to be kept under the name, once, and no other was, while the errors held so much, and it could not for
 -- this, or could; without a name none was. What a keeper can't keep it may be unable to note.
-abbrev pub Keeps : Option (List ℕ) → Option (List Kept) → Option (List Kept) → List ℕ → Option (List ℕ) → Option Unkept → Type 0
+abbrev pub Keeps : Option (List ℕ) → Option (List Kept) → Option (List Kept) → List ℕ → Option (List ℕ) → Option Unkept
+    → Type 0
 Keeps None before after text held unkept = (unkept ≡ None) × (after ≡ before)
 Keeps (Some name) None after text held unkept = Unit {0}
 Keeps (Some name) (Some had) None text held unkept = IsSome unkept
@@ -178,7 +179,6 @@ pub record IsDone (c : Effect) (before after : Devices) (ending : Ending) : Type
   pub report : Appends before.reported after.reported (summed_up c (entries_for c came))
   pub status : ending.status ≡ exit_status (c.counts (entries_for c came))
   pub form : ending.has_other_form ≡ has_other_form (c.counts (entries_for c came))
-  pub at_most_one : ending.status ≤ 1
   pub none_failed : NoneFailed before after
   pub saved : IsSaved c before None (entries_for c came)
 
@@ -364,13 +364,3 @@ Performs (Decode o save) bytes handed before after keeper kept result =
     Decodes bytes o handed before after keeper kept result
 Performs (Frames interface) bytes handed before after keeper kept result =
     (kept ≡ keeper) × EndsByTable (faults bytes) (frames_effect (table_of bytes) interface) before after result
-
--- the status with which it comes to its end, where all bytes of its log are known
-abbrev pub HasStatus : Task → List ℕ → Option (List ℕ) → List ℕ → ℕ → Type 0
-HasStatus Plain bytes handed all status = status ≡ exit_status (plain_counts all)
-HasStatus (Decode o save) bytes handed all status =
-    (front : List Entry)
-    → begun (table_of bytes) o handed ≡ Ok (state (table_of bytes).id o.window (kind (table_of bytes)) front)
-    → status ≡ exit_status (counts o.window (kind (table_of bytes)) (front ++ entries o.packing all))
-HasStatus (Frames interface) bytes handed all status =
-    status ≡ exit_status (frames_counts (table_of bytes) interface all)

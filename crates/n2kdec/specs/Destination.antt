@@ -1,5 +1,6 @@
 -- Where a state goes: the file to which a name leads, over links, what that is, and the new file beside it.
-use Rattle.std.specs.Prelude.{◌++◌, ◌&&◌, ◌||◌, ◌==◌, ℕ, zero, suc, Bool, true, false, [], ◌∷◌, if◌then◌else◌, nat_eq, nat_lt}
+use Rattle.std.specs.Prelude.{◌++◌, ◌&&◌, ◌||◌, ◌==◌, ℕ, zero, suc, Bool, true, false, [], ◌∷◌, if◌then◌else◌}
+use Rattle.std.specs.Prelude.{nat_eq, nat_lt}
 use Rattle.std.specs.Prelude.{Option, Some, None, Result, Ok, Err, codes, bit_and, unwrap_or, option_map}
 use Rattle.std.specs.List.{starts_with}
 use Rattle.std.specs.Str.{bytes_eq}
@@ -106,14 +107,15 @@ placed_at name was (Some path) = (path, if is_shared was then Shared else Alone)
 
 unfoldable pub target_of : Answers → Text → Option Found → Result (Text × Kind) ErrorKind
 target_of a name was =
-    if is_file was then (behind (suc most_links) a name >>= λ path. Ok (placed_at name was path)) else Ok (name, Special)
+    if is_file was then (behind (suc most_links) a name >>= λ path. Ok (placed_at name was path))
+    else Ok (name, Special)
 
 -- those bits of a mode that say who may read, write and run a file
 abbrev pub permissions : Found → ℕ
 permissions found = bit_and found.mode 0o777
 
--- A state under this name goes there; or it can't be found out where, by the first answer of this kind, or since the name
--- ends with no name of a file.
+-- A state under this name goes there; or it can't be found out where, by the first answer of this kind, or since the
+-- name ends with no name of a file.
 unfoldable pub destination : Answers → Text → Result Destination ErrorKind
 destination a name = do
   was ← if_there (a.found name)

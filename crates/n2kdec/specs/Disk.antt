@@ -45,8 +45,8 @@ pub data Call (P : Type 0) : Type 0 where
   -- the folder at this path, or in which this name is
   sync_folder : P → Call P
 
--- A call that was made, and the kind of error that it answered; none where it is done. One that answered an error may be
--- done, done in part, or not done.
+-- A call that was made, and the kind of error that it answered; none where it is done. One that answered an error may
+-- be done, done in part, or not done.
 pub record Act (P : Type 0) : Type 0 where
   pub call : Call P
   pub failed : Option ErrorKind

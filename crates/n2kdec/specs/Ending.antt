@@ -1,5 +1,5 @@
 -- What a command that comes to its end tells the program, and what is said of a log that has another form.
-use Rattle.std.specs.Prelude.{◌==◌, ◌&&◌, nat_lt, ℕ, Bool, List, codes}
+use Rattle.std.specs.Prelude.{◌==◌, ◌&&◌, ◌++◌, nat_lt, ℕ, Bool, List, codes}
 use Rattle.n2k_join.specs.declared.counts.Counts.{Counts}
 use Rattle.n2kdec.specs.Fault.{exit_status}
 use Rattle.n2kdec.specs.declared.ending.Ending.{Ending}
@@ -14,7 +14,8 @@ has_other_form counts =
 abbrev pub ending_of : Counts → Ending
 ending_of counts = record { status = exit_status counts; has_other_form = has_other_form counts }
 
--- What is said on a terminal behind the summary of such a log. Counts can't tell it from one whose table is wrong (B7, B8),
--- so it is said of neither that it is so.
+-- What is said on a terminal behind the summary of such a log. Counts can't tell it from one whose table is wrong (B7,
+-- B8), so it is said of neither that it is so.
 abbrev pub hint : List ℕ
-hint = codes "n2kdec: no line was good: if the log has another form, n2k FILE names it; docs/GUIDE.md, under All lines are bad, says what to do\n"
+hint = codes "n2kdec: no line was good: if the log has another form, n2k FILE names it; "
+    ++ codes "docs/GUIDE.md, under All lines are bad, says what to do\n"

@@ -1,4 +1,4 @@
--- What is said of a fault on a terminal, in one line: the file or the stream that it is of, what is wrong, and what to do.
+-- What is said of a fault on a terminal, in a line: the file or the stream that it is of, what is wrong, what to do.
 use Rattle.std.specs.Prelude.{◌≡◌, ◌==◌, ◌++◌, ◌∷◌, ℕ, false, List, [], Option, Some, None}
 use Rattle.std.specs.Prelude.{codes, decimal, if◌then◌else◌, IfSome, option_and_then, option_map}
 use Rattle.std.specs.Option.{unwrap_or}
@@ -110,7 +110,8 @@ line_of text = codes "n2kdec: " ++ escaped false text ++ codes "\n"
 abbrev pub IsSaidOf : SystemWords → Option Text → Option Command → Fault → List ℕ → Type 0
 IsSaidOf system None command fault text = text ≡ []
 IsSaidOf system (Some subject) command fault text =
-    (words : Text) × (advice : Text) × AreWords system fault words × (text ≡ line_of (told_of command subject words fault advice))
+    (words : Text) × (advice : Text) × AreWords system fault words
+    × (text ≡ line_of (told_of command subject words fault advice))
 
 -- the line of a fault; and of a failed read, behind which the state could not be kept, that of this
 abbrev pub IsLine : SystemWords → Option Command → Fault → List ℕ → Type 0

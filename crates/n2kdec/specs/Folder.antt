@@ -2,7 +2,8 @@
 -- after calls of the disk, and what a cut of the power may leave of it.
 use Rattle.std.specs.Prelude.{◌≡◌, ◌⊎◌, ◌++◌, ◌||◌, ℕ, Bool, true, false, List, [], ◌∷◌, Option, Some, None}
 use Rattle.std.specs.Prelude.{if◌then◌else◌}
-use Rattle.std.specs.Fs.{asks_create_new, asks_truncate, new_options, with_append, with_create, with_create_new, with_truncate, with_write}
+use Rattle.std.specs.Fs.{asks_create_new, asks_truncate, new_options, with_append, with_create, with_create_new}
+use Rattle.std.specs.Fs.{with_truncate, with_write}
 use Rattle.std.specs.declared.fs.OpenOptions.{OpenOptions}
 use Rattle.std.specs.declared.io.ErrorKind.{ErrorKind}
 use Rattle.std.specs.declared.io.ErrorKind.TheVariants.{AlreadyExists, PermissionDenied, ReadOnlyFilesystem}
@@ -63,7 +64,8 @@ is_taken (Some AlreadyExists) = true
 is_taken _ = false
 
 -- The folder does not allow what was asked of it: who may write there, a system that is read alone, a name that is too
--- long for it, a file that something is mounted on, or a folder in its place. By any other kind of error the call failed.
+-- long for it, a file that something is mounted on, or a folder in its place. By any other kind of error the call
+-- failed.
 abbrev pub is_refusal : ErrorKind → Bool
 is_refusal PermissionDenied = true
 is_refusal ReadOnlyFilesystem = true
@@ -126,10 +128,12 @@ Where Temp (Some Target) same other = other
 -- What a name may be found to have after a call that is done, where each may have had this: a file that is opened is
 -- empty then, but for one that is written to behind what it has.
 abbrev pub HasDone : Call Name → Option Name → (Name → Content → Type 0) → Name → Content → Type 0
-HasDone (open_at of how) current had name c = Where name (changed_by (open_at of how) current) (c ≡ Some []) (had name c)
+HasDone (open_at of how) current had name c =
+    Where name (changed_by (open_at of how) current) (c ≡ Some []) (had name c)
 HasDone (write text) current had name c =
     Where name current ((front : List ℕ) × had name (Some front) × (c ≡ Some (front ++ text))) (had name c)
-HasDone (rename from to) current had name c = Where name (Some to) (had from c) (Where name (Some from) (c ≡ None) (had name c))
+HasDone (rename from to) current had name c =
+    Where name (Some to) (had from c) (Where name (Some from) (c ≡ None) (had name c))
 HasDone (remove old) current had name c = Where name (Some old) (c ≡ None) (had name c)
 HasDone _ current had name c = had name c
 
@@ -159,7 +163,8 @@ FileAfter extent call current had left name text = Where name (changed_by call c
 abbrev pub FileMayBeLeft : (Name → Content) → List (Act Name) → Name → List ℕ → Type 0
 FileMayBeLeft first [] name text = first name ≡ Some text
 FileMayBeLeft first (act ∷ acts) name text =
-    FileAfter (extent_of act.call act.failed) act.call (opened acts) (MayHave first acts) (FileMayBeLeft first acts) name text
+    FileAfter (extent_of act.call act.failed) act.call (opened acts) (MayHave first acts) (FileMayBeLeft first acts)
+    name text
 
 -- What a cut may leave under a name: until the folder is synced a rename is there or not, and what is made, changed or
 -- taken away may be there, or anything else.

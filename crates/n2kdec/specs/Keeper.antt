@@ -1,5 +1,6 @@
 -- Which states are kept, and why others are not.
-use Rattle.std.specs.Prelude.{◌≡◌, ◌⊎◌, ◌&&◌, ◌||◌, List, ℕ, Bool, true, false, Option, Some, None, IfSome, codes, Result, Ok, Err}
+use Rattle.std.specs.Prelude.{◌≡◌, ◌⊎◌, ◌&&◌, ◌||◌, List, ℕ, Bool, true, false, Option, Some, None, IfSome, codes}
+use Rattle.std.specs.Prelude.{Result, Ok, Err}
 use Rattle.std.specs.IoError.{error_kind}
 use Rattle.std.specs.declared.io.ErrorKind.{ErrorKind}
 use Rattle.clap.specs.Words.{Text}
@@ -28,7 +29,8 @@ read_log (Some path) = path
 
 -- a file is the table, the log or standard error, to which the summary goes later
 abbrev pub meets_files : Answers → Text → Files → Bool
-meets_files a own files = meets a own files.table || leads a own (read_log files.log) || leads a own (codes "/dev/stderr")
+meets_files a own files =
+    meets a own files.table || leads a own (read_log files.log) || leads a own (codes "/dev/stderr")
 
 -- a text that is kept there takes the place of what the file has: what is special is written to behind that
 abbrev pub replaces : Kind → Bool

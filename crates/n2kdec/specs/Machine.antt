@@ -8,7 +8,7 @@ use Rattle.clap.specs.Words.{Text}
 use Rattle.n2k_run.specs.declared.device.Sink.{Ghosts as OfSink}
 use Rattle.n2k_run.specs.Device.{IsWhy}
 use Rattle.n2k_run.specs.Runs.{Devices, devices}
-use Rattle.n2kdec.specs.Asked.{IsAsked, IsOfWords, save_name}
+use Rattle.n2kdec.specs.Asked.{IsAsked, save_name}
 use Rattle.n2kdec.specs.Commands.{IsCutOff, IsWritten, IsWrittenUnlessFailed, Kept, Performs, Place, place, shelf}
 use Rattle.n2kdec.specs.Ending.{hint}
 use Rattle.n2kdec.specs.Fault.{fault_line, longest_file, status_of, unopened, unread}
@@ -24,7 +24,7 @@ use Rattle.n2kdec.specs.declared.asked.Task.{Task}
 use Rattle.n2kdec.specs.declared.asked.Files.{Files}
 use Rattle.n2kdec.specs.declared.ending.Ending.{Ending}
 use Rattle.n2kdec.specs.declared.fault.Fault.{Fault}
-use Rattle.n2kdec.specs.declared.fault.Fault.TheVariants.{TableSize, StateSize, Read, Memory, Save, Write}
+use Rattle.n2kdec.specs.declared.fault.Fault.TheVariants.{Words, TableSize, StateSize, Read, Memory, Save, Write}
 use Rattle.n2kdec.specs.declared.fault.Reading.{Reading}
 use Rattle.n2kdec.specs.declared.fault.Reading.TheVariants as reading
 use Rattle.n2kdec.specs.declared.keeper.Keeper.{Ghosts as OfKeeper}
@@ -65,7 +65,8 @@ Makes made (Some had) (Some all) = all ≡ had ++ made
 -- a file of this name is opened, or is not, by this error: standard input for want of memory alone
 abbrev pub Opens : {T : Type 0} → Option Text → Calls → Calls → Result T Error → Type 0
 Opens name before after (Ok file) = Makes (Opened name None ∷ []) before after
-Opens name before after (Err error) = (IsSome name ⊎ IsOfMemory error) × Makes (Opened name (Some error) ∷ []) before after
+Opens name before after (Err error) =
+    (IsSome name ⊎ IsOfMemory error) × Makes (Opened name (Some error) ∷ []) before after
 
 -- What the program changes: the output, and why its last call that failed did; the errors; what was to be kept; and the
 -- calls of files. Which states may be kept, where that is known, it does not change.
@@ -77,7 +78,8 @@ pub record Outside : Type 0 where
   pub calls : Calls
   pub admits : Admission
 
-abbrev pub outside : {W E K : Type 0} → OfSink W → (W → Option Error) → OfSink E → OfKeeper K → Calls → Outlets W E K → Outside
+abbrev pub outside : {W E K : Type 0} → OfSink W → (W → Option Error) → OfSink E → OfKeeper K → Calls → Outlets W E K
+    → Outside
 outside w why e k calls outlets = record {
   output = place (w.contents outlets.output) (w.failed_calls outlets.output);
   unwritten = why outlets.output;
@@ -115,14 +117,15 @@ too_large reading.Table = Some TableSize
 too_large reading.State = Some StateSize
 too_large reading.Log = None
 
--- Why a file that is named is not read whole: it has too many bytes, where they are known; it is not opened, or the last
--- read of it that failed did, by this error; or memory was refused.
+-- Why a file that is named is not read whole: it has too many bytes, where they are known; it is not opened, or the
+-- last read of it that failed did, by this error; or memory was refused.
 abbrev pub IsUnread : World → Option Text → Reading → Fault → List FileCall → Type 0
 IsUnread w None read fault made = ⊥
 IsUnread w (Some name) read fault made =
     ((too_large read ≡ Some fault) × IfSome (w.file name) (λ bytes. longest_file < length bytes) × IsTaken name made)
     ⊎ ((error : Error) × (fault ≡ unopened read error) × (made ≡ Opened (Some name) (Some error) ∷ []))
-    ⊎ ((error : Error) × (fault ≡ unread read (Some error)) × ((reads : ℕ) × (made ≡ Opened (Some name) None ∷ Closed reads (Some error) ∷ [])))
+    ⊎ ((error : Error) × (fault ≡ unread read (Some error))
+    × ((reads : ℕ) × (made ≡ Opened (Some name) None ∷ Closed reads (Some error) ∷ [])))
     ⊎ ((fault ≡ Memory (Some read)) × IsTaken name made)
 
 -- the one or the other
@@ -161,9 +164,9 @@ abbrev pub IsAdmittedSo : Admission → Command → Result (Unit {0}) Unkept →
 IsAdmittedSo admits command answer =
     IfSome (save_name command.task) (λ name. IfSome (admits name command.files) (λ known. answer ≡ known))
 
--- The command is performed by the bytes of its files, each of which was read and closed before the next was opened, over
--- its log, and its state is kept under the name that it has for it, which was admitted. Of its log and of its output the
--- fault has the error of the last call that failed.
+-- The command is performed by the bytes of its files, each of which was read and closed before the next was opened,
+-- over its log, and its state is kept under the name that it has for it, which was admitted. Of its log and of its
+-- output the fault has the error of the last call that failed.
 pub record IsPerformed (w : World) (command : Command) (before after : Outside) (result : Result Ending Fault)
     : Type 0 where
   pub admitted : IsAdmittedSo before.admits command (Ok tt)
@@ -178,9 +181,11 @@ pub record IsPerformed (w : World) (command : Command) (before after : Outside) 
   pub log : LogAfter
   pub why : Option Error
   pub is_why : IsWhy log.failed why
-  pub calls : Makes (of_table ++ of_state ++ Opened command.files.log None ∷ Closed log.calls why ∷ []) before.calls after.calls
+  pub calls : Makes (of_table ++ of_state ++ Opened command.files.log None ∷ Closed log.calls why ∷ []) before.calls
+      after.calls
   pub ended : Result Ending Fault
-  pub over : IsPerformedOver command.task (table_bytes table) handed (bytes_named w command.files.log) log before after ended
+  pub over : IsPerformedOver command.task (table_bytes table) handed (bytes_named w command.files.log) log before after
+      ended
   pub told : result ≡ explained why after.unwritten ended
 
 -- The state may not be kept under the name that the command has for it, for this, and all is as it was.
@@ -245,9 +250,11 @@ DoesAsked w (to.Help text) before after result =
 DoesAsked w (to.Command command) before after result = RunsCommand w command before after result
 DoesAsked w (to.Refused fault lines) before after result = (result ≡ Err fault) × (after ≡ before)
 
--- what was typed asks for this
+-- what was typed asks for this; of words that are no texts nothing is said
 abbrev pub AsksFor : Shown → World → Request → Type 0
-AsksFor shown w request = IsOfWords request × IfSome w.typed (IsAsked shown request)
+AsksFor shown w request =
+    ((typed : List Text) × IfSome w.typed (λ known. typed ≡ known) × IsAsked shown request typed)
+    ⊎ ((w.typed ≡ None) × (request ≡ to.Refused Words None))
 
 -- this is whether standard error is a terminal
 abbrev pub IsTerminal : World → Bool → Type 0
@@ -263,21 +270,17 @@ abbrev pub IsToldOf : SystemWords → Request → Fault → List ℕ → Type 0
 IsToldOf words (to.Refused refused (Some lines)) fault text = IsOkAnd lines (λ lines. text ≡ lines.items)
 IsToldOf words request fault text = IsSentence words (command_of request) fault text
 
--- This stands before the line of a fault: on a terminal what is said of it; off it nothing.
-abbrev pub IsSaidOn : Bool → SystemWords → Request → Fault → List ℕ → Type 0
-IsSaidOn true words request fault text = IsToldOf words request fault text
-IsSaidOn false words request fault text = text ≡ []
+-- what is written at a fault: its line, which stands on a terminal behind what is said of it
+abbrev pub IsMessageOn : Bool → SystemWords → Request → Fault → List ℕ → Type 0
+IsMessageOn true words request fault text =
+    (told : List ℕ) × IsToldOf words request fault told × (text ≡ told ++ fault_line fault)
+IsMessageOn false words request fault text = text ≡ fault_line fault
 
-abbrev pub StandsBefore : World → SystemWords → Request → Fault → List ℕ → Type 0
-StandsBefore w words request fault text =
-    (is_terminal : Bool) × IsTerminal w is_terminal × IsSaidOn is_terminal words request fault text
-
--- what is written at a fault: its line, behind this
 abbrev pub IsMessage : World → SystemWords → Request → Fault → List ℕ → Type 0
 IsMessage w words request fault text =
-    (stood : List ℕ) × StandsBefore w words request fault stood × (text ≡ stood ++ fault_line fault)
+    (is_terminal : Bool) × IsTerminal w is_terminal × IsMessageOn is_terminal words request fault text
 
--- It is written whole, unless the place fails. Only where memory is refused, which is answered, the line is written alone.
+-- It is written whole, unless the place fails; only where memory is refused, which is answered, the line alone is.
 abbrev pub ReportsFault : World → SystemWords → Request → Fault → Result (Unit {0}) AllocError → Place → Place → Type 0
 ReportsFault w words request fault (Ok said) before after =
     (text : List ℕ) × IsMessage w words request fault text × IsWrittenUnlessFailed before after text
@@ -288,16 +291,14 @@ abbrev pub HintsOn : Bool → Place → Place → Type 0
 HintsOn true before after = IsWrittenUnlessFailed before after hint
 HintsOn false before after = after ≡ before
 
-abbrev pub HintsOnTerminal : World → Place → Place → Type 0
-HintsOnTerminal w before after = (is_terminal : Bool) × IsTerminal w is_terminal × HintsOn is_terminal before after
-
 -- and of no other log anything
 abbrev pub Hints : World → Bool → Place → Place → Type 0
-Hints w true before after = HintsOnTerminal w before after
+Hints w true before after = (is_terminal : Bool) × IsTerminal w is_terminal × HintsOn is_terminal before after
 Hints w false before after = after ≡ before
 
 -- the status of a result, and what is said of it
-abbrev pub Concludes : World → SystemWords → Request → Result Ending Fault → Outside → Outside → ℕ → Result (Unit {0}) AllocError → Type 0
+abbrev pub Concludes : World → SystemWords → Request → Result Ending Fault → Outside → Outside → ℕ
+    → Result (Unit {0}) AllocError → Type 0
 Concludes w words request (Ok ending) before after status said =
     (status ≡ ending.status) × Hints w ending.has_other_form before.errors after.errors
     × (after ≡ record before { errors = after.errors })

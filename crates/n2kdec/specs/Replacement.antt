@@ -1,7 +1,7 @@
 -- How a text comes to a name: it takes the place of another, so that at each moment one of the two is there, whole; or,
 -- where the folder does not allow that or the file has other names, it is written over the file itself.
-use Rattle.std.specs.Prelude.{◌≡◌, ◌⊎◌, ◌++◌, ℕ, Bool, true, false, List, [], ◌∷◌, Option, Some, None, IfSome, Result, Ok, Err}
-use Rattle.std.specs.Prelude.{IsErrAnd, OnOk, if◌then◌else◌}
+use Rattle.std.specs.Prelude.{◌≡◌, ◌⊎◌, ◌++◌, ℕ, Bool, true, false, List, [], ◌∷◌, Option, Some, None, IfSome}
+use Rattle.std.specs.Prelude.{IsErrAnd, OnOk, Result, Ok, Err, if◌then◌else◌}
 use Rattle.std.specs.Option.{is_none}
 use Rattle.std.specs.IoError.{error_kind}
 use Rattle.std.specs.declared.io.Error.{Error}
@@ -9,9 +9,10 @@ use Rattle.std.specs.declared.io.ErrorKind.{ErrorKind}
 use Rattle.std.specs.declared.io.ErrorKind.TheVariants.{OutOfMemory}
 use Rattle.clap.specs.Words.{Text}
 use Rattle.n2kdec.specs.Destination.{destination, is_missing}
-use Rattle.n2kdec.specs.Disk.{Act, Acts, Answers, Call, acted, failure, open_at, set_mode, write, sync, rename, remove, sync_folder}
-use Rattle.n2kdec.specs.Folder.{Content, FileMayBeLeft, MayBeLeft, MayHave, Name, Target, Temp, behind, cut_short, is_refusal}
-use Rattle.n2kdec.specs.Folder.{is_taken, makes_new, writes_behind, writes_over}
+use Rattle.n2kdec.specs.Disk.{Act, Acts, Answers, Call, acted, failure, open_at, set_mode, write, sync, rename, remove}
+use Rattle.n2kdec.specs.Disk.{sync_folder}
+use Rattle.n2kdec.specs.Folder.{Content, FileMayBeLeft, MayBeLeft, MayHave, Name, Target, Temp, behind, cut_short}
+use Rattle.n2kdec.specs.Folder.{is_refusal, is_taken, makes_new, writes_behind, writes_over}
 use Rattle.n2kdec.specs.declared.destination.Destination.{Destination}
 use Rattle.n2kdec.specs.declared.destination.Kind.{Kind}
 use Rattle.n2kdec.specs.declared.destination.Kind.TheVariants.{Alone, Special}
@@ -60,8 +61,10 @@ abbrev pub IsMadeAnew : Doing Unplaced
 IsMadeAnew result made = Then (By judged (IsOne (remove Temp))) (By failed (IsOne make)) result made
 
 abbrev pub IsMade : Doing Unplaced
-IsMade result made = (answer : Result (Unit {0}) Error) × (((is_taken (failure answer) ≡ false) × (result ≡ judged answer) × IsOne make answer made)
-    ⊎ ((later : List (Act Name)) × (is_taken (failure answer) ≡ true) × IsMadeAnew result later × (made ≡ later ++ acted make answer ∷ [])))
+IsMade result made = (answer : Result (Unit {0}) Error)
+    × (((is_taken (failure answer) ≡ false) × (result ≡ judged answer) × IsOne make answer made)
+    ⊎ ((later : List (Act Name)) × (is_taken (failure answer) ≡ true) × IsMadeAnew result later
+    × (made ≡ later ++ acted make answer ∷ [])))
 
 -- it gets the permissions of the file in whose place it comes, if one is there, and the text, and is synced
 abbrev pub IsModed : Option ℕ → Doing Error
@@ -74,8 +77,8 @@ IsPoured mode text result made = Then (Then (IsModed mode) (IsOne (write text)))
 abbrev pub IsFilled : Destination → List ℕ → Doing Unplaced
 IsFilled d text result made = Then IsMade (By failed (IsPoured d.mode text)) result made
 
--- Then it gets the name, if that is its file's one name. Where the file has others, the new one only shows that there is
--- room.
+-- Then it gets the name, if that is its file's one name. Where the file has others, the new one only shows that there
+-- is room.
 abbrev pub IsNamed : Kind → Doing Unplaced
 IsNamed Alone result made = By judged (IsOne (rename Temp Target)) result made
 IsNamed _ result made = (result ≡ Err Refused) × (made ≡ [])
@@ -102,7 +105,8 @@ abbrev pub IsWritten : Destination → List ℕ → Doing Error
 IsWritten d text result made = Then (IsOne (empty d)) (IsPoured None text) result made
 
 abbrev pub EndsWith : Result (Unit {0}) Error → List (Act Name) → List (Act Name) → Type 0
-EndsWith (Ok done) written made = (gone : Option ErrorKind) × (made ≡ record { call = remove Temp; failed = gone } ∷ written)
+EndsWith (Ok done) written made =
+    (gone : Option ErrorKind) × (made ≡ record { call = remove Temp; failed = gone } ∷ written)
 EndsWith (Err error) written made = made ≡ written
 
 abbrev pub IsOver : Destination → List ℕ → Doing Error
@@ -126,17 +130,19 @@ pub record IsAsBefore (first : Name → Content) (before : List (Act Name)) (nam
   pub found : (c : Content) → MayHave first acts name c → MayHave first before name c
   pub left : (c : Content) → MayBeLeft first acts name c → MayBeLeft first before name c
 
--- The name has what it had before them or, if that is its file's one name, the new text, whole; and so it has after a cut.
+-- The name has what it had before them or, if that is its file's one name, the new text, whole; so it has after a cut.
 pub record HasOldOrNew (kind : Kind) (first : Name → Content) (before : List (Act Name)) (text : List ℕ)
     (acts : List (Act Name)) : Type 0 where
-  pub found : (c : Content) → MayHave first acts Target c → MayHave first before Target c ⊎ ((kind ≡ Alone) × (c ≡ Some text))
+  pub found : (c : Content) → MayHave first acts Target c
+      → MayHave first before Target c ⊎ ((kind ≡ Alone) × (c ≡ Some text))
   pub left : (c : Content) → MayBeLeft first acts Target c
       → MayBeLeft first before Target c ⊎ ((kind ≡ Alone) × (c ≡ Some text))
 
 -- nothing stands beside the name, unless it could not be taken away
 abbrev pub IsAlone : (Name → Content) → List (Act Name) → List (Act Name) → Type 0
 IsAlone first made before = (c : Content) → MayHave first (made ++ before) Temp c → (c ≡ None)
-    ⊎ ((why : ErrorKind) × (rest : List (Act Name)) × (is_missing why ≡ false) × (made ≡ record { call = remove Temp; failed = Some why } ∷ rest))
+    ⊎ ((why : ErrorKind) × (rest : List (Act Name)) × (is_missing why ≡ false)
+    × (made ≡ record { call = remove Temp; failed = Some why } ∷ rest))
 
 -- At each moment the name has the old text or the new one; after Ok the new one, and after each cut from then on.
 pub record LeavesOne (kind : Kind) (first : Name → Content) (made before : List (Act Name)) (text : List ℕ)
@@ -157,7 +163,7 @@ pub record LeavesWritten (first : Name → Content) (tried written made before :
   pub left : OnOk result ((kept : List ℕ) → FileMayBeLeft first (made ++ tried ++ before) Target kept → kept ≡ text)
   pub beside : OnOk result (IsAlone first made (tried ++ before))
 
--- A regular file, or none, is replaced; or it is written over, where the folder refuses that or the file has other names.
+-- A regular file, or none, is replaced; or it is written over, where the folder refuses it or the file has other names.
 -- Whatever calls were made before, each of them leaves what it should.
 abbrev pub IsKept : Destination → List ℕ → Doing Error
 IsKept d text result made = ((IsSynced d text result made ⊎ IsGivenUp d text result made)

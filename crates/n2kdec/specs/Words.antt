@@ -69,13 +69,16 @@ abbrev pub plain_command : List Row → Result Command Fault
 plain_command rows = Ok (over None None (first_of (codes "log") rows) Plain)
 
 abbrev pub decode_by : Option Text → Option Window → List Row → Result Command Fault
-decode_by (Some table) (Some window) rows = Ok (over (Some table) (first_of (codes "resume") rows) (first_of (codes "log") rows)
-    (Decode (options_of (flag_of (codes "empty") rows) (flag_of (codes "whole") rows) window) (first_of (codes "save") rows)))
+decode_by (Some table) (Some window) rows =
+    let options = options_of (flag_of (codes "empty") rows) (flag_of (codes "whole") rows) window in
+    Ok (over (Some table) (first_of (codes "resume") rows) (first_of (codes "log") rows)
+    (Decode options (first_of (codes "save") rows)))
 decode_by _ _ rows = Err Words
 
 abbrev pub frames_by : Option Text → Result (Option Text) Fault → List Row → Result Command Fault
 frames_by None interface rows = Err Words
-frames_by (Some table) (Ok interface) rows = Ok (over (Some table) None (first_of (codes "log") rows) (Frames interface))
+frames_by (Some table) (Ok interface) rows =
+    Ok (over (Some table) None (first_of (codes "log") rows) (Frames interface))
 frames_by (Some table) (Err fault) rows = Err fault
 
 -- the command of that name, with the values of its words

@@ -6,7 +6,7 @@ ghost use Rattle.clap.specs.Walk.{texts};
 ghost use Rattle.clap.specs.Words.{first_of, found_of, rows_of, subcommand_rows_of, takes};
 ghost use Rattle.n2kdec.specs.declared.asked.Request.TheVariants.{Help, Refused};
 ghost use Rattle.n2kdec.specs.declared.fault.Fault.TheVariants.{Memory};
-ghost use Rattle.n2kdec.specs.Asked.{IsAsked, IsOfWords};
+ghost use Rattle.n2kdec.specs.Asked.{IsAsked};
 ghost use Rattle.n2kdec.specs.Inner.Parse.{AnswersKind};
 ghost use Rattle.n2kdec.specs.Parser.{AreLinesOf};
 ghost use Rattle.n2kdec.specs.Usage.{program_app};
@@ -241,7 +241,6 @@ fn help_of<T: Display>(alloc: Global, kind: ErrorKind, shown: &T) -> Request
 /// an error where memory for that is refused; want of memory is `Fault::Memory`.
 pub fn request<P: Parser>(alloc: Global, parser: &P, words: &[&str]) -> Request
     ensures asked { IsAsked (P.shown parser.now) result (texts words.now) }
-    ensures faults { IsOfWords result }
     ensures taken { takes program_app (texts words.now) ≡ true → NamesIn (command_of (texts words.now)) result }
 {
     match parser.parse(alloc, words) {

@@ -1,9 +1,9 @@
 //! A command over its devices: what is printed, what is saved, and the status of it.
-ghost use Rattle.std.specs.Prelude.{◌≡◌, ◌≤◌, IfErr, IfOk, IfSome, None, option_map};
+ghost use Rattle.std.specs.Prelude.{◌≡◌, IfErr, None, option_map};
 ghost use Rattle.std.specs.Result.{result_err};
 ghost use Rattle.n2k_run.specs.Runs.{seen};
 ghost use Rattle.n2kdec.specs.Asked.{save_name};
-ghost use Rattle.n2kdec.specs.Commands.{HasStatus, IsRefusal, Performs, Replaces, place, shelf};
+ghost use Rattle.n2kdec.specs.Commands.{IsRefusal, Performs, Replaces, place, shelf};
 ghost use Rattle.n2kdec.specs.Told.{Tells};
 ghost use Rattle.n2kdec.specs.Inner.Closing.{ClosesPart, SumsUp};
 
@@ -58,7 +58,6 @@ fn close<K: Keeper, E: Sink>(
         (place (E.contents errors.old) (E.failed_calls errors.old))
         (place (E.contents errors.new) (E.failed_calls errors.new)) ended result }
     ensures untouched { IfErr ended (λ stop. stop.part ≡ None → (keeper.new ≡ keeper.old) × (errors.new ≡ errors.old)) }
-    ensures at_most_one { IfOk result (λ ending. ending.status ≤ 1) }
 {
     let stop = match ended {
         Ok(part) => {
@@ -112,9 +111,6 @@ pub fn run_command<R: Source, W: Sink, E: Sink, K: Keeper>(
         (shelf (save_name task.now) (K.kept outlets.new.keeper)) result }
     ensures told { IfErr result (Tells task.now table.now (option_map (λ bytes. bytes.now) state.entry)
         (R.remaining log.old) (R.remaining log.new)) }
-    ensures status { IfOk result (λ ending. IfSome (R.remaining log.old)
-        (λ all. HasStatus task.now table.now (option_map (λ bytes. bytes.now) state.entry) all ending.status)) }
-    ensures at_most_one { IfOk result (λ ending. ending.status ≤ 1) }
     ensures untouched { IfErr result (λ fault. IsRefusal fault
         → (log.new ≡ log.old) × (outlets.new.output ≡ outlets.old.output) × (outlets.new.errors ≡ outlets.old.errors)
         × (outlets.new.keeper ≡ outlets.old.keeper)) }

@@ -1,7 +1,7 @@
 //! What is written at a fault: its line, and on a terminal before it what is said of it.
 ghost use Rattle.std.specs.Prelude.{◌≡◌, IfOk};
 ghost use Rattle.n2kdec.specs.Commands.{IsWrittenUnlessFailed, place};
-ghost use Rattle.n2kdec.specs.Machine.{IsMessage, IsToldOf, ReportsFault, StandsBefore};
+ghost use Rattle.n2kdec.specs.Machine.{IsMessage, IsToldOf, ReportsFault};
 
 use crate::asked::Request;
 use crate::fault::{Fault, fault_line, fault_text};
@@ -27,23 +27,7 @@ fn told_of<M: Machine>(
     }
 }
 
-/// What stands before the line of a fault.
-fn text_before<M: Machine>(
-    alloc: Global,
-    machine: &M,
-    request: &Request,
-    fault: Fault,
-) -> Result<Vec<u8>, AllocError>
-    ensures { IfOk result (λ text. StandsBefore (M.world machine.now) M.words request.now fault text.items) }
-{
-    if machine.is_terminal() {
-        told_of(alloc, machine, request, fault)
-    } else {
-        Ok(Vec::new(alloc))
-    }
-}
-
-/// What is written at a fault.
+/// What is written at a fault: its line, on a terminal behind what is said of it.
 fn fault_message<M: Machine>(
     alloc: Global,
     machine: &M,
@@ -52,7 +36,10 @@ fn fault_message<M: Machine>(
 ) -> Result<Vec<u8>, AllocError>
     ensures { IfOk result (λ text. IsMessage (M.world machine.now) M.words request.now fault text.items) }
 {
-    let mut text = text_before(alloc, machine, request, fault)?;
+    if !machine.is_terminal() {
+        return fault_line(fault).to_vec(alloc);
+    }
+    let mut text = told_of(alloc, machine, request, fault)?;
     fault_text(alloc, &fault, &mut text)?;
     Ok(text)
 }

@@ -1,8 +1,8 @@
 //! What is said of a fault on a terminal, in one line: the file or the stream that it is of, what is wrong, what to do.
 ghost use Rattle.std.specs.Prelude.{◌≡◌, ◌++◌, IfOk, OnOk, decimal, option_map};
 ghost use Rattle.n2kdec.specs.FaultSentence.{AreWords, IsLine, IsNextLine, IsSentence, cause_text, error_of, line_of};
-ghost use Rattle.n2kdec.specs.FaultSentence.{lines_text, log_of, named, save_of, unkept_of};
-ghost use Rattle.n2kdec.specs.FaultSentence.{some_lines_text, state_of, subject_of, table_of, tables_text, told_of};
+ghost use Rattle.n2kdec.specs.FaultSentence.{lines_text, named, unkept_of};
+ghost use Rattle.n2kdec.specs.FaultSentence.{some_lines_text, subject_of, table_of, tables_text, told_of};
 ghost use Rattle.n2kdec.specs.FaultSentence.{windows_text};
 
 use crate::asked::{Command, Task};
@@ -220,30 +220,6 @@ fn table_of(command: Option<&Command>) -> Option<&str>
     text_of(&command?.files.table)
 }
 
-/// That of the state that it goes on from.
-fn state_of(command: Option<&Command>) -> Option<&str>
-    ensures { option_map (λ text. text.now) result ≡ state_of (option_map (λ c. c.now) command.entry) }
-{
-    text_of(&command?.files.state)
-}
-
-/// Its log as it is called.
-fn log_of(command: Option<&Command>) -> Option<&str>
-    ensures { option_map (λ text. text.now) result ≡ log_of (option_map (λ c. c.now) command.entry) }
-{
-    Some(text_of(&command?.files.log).unwrap_or("standard input"))
-}
-
-/// The name of the file that gets the state after it.
-fn save_of(command: Option<&Command>) -> Option<&str>
-    ensures { option_map (λ text. text.now) result ≡ save_of (option_map (λ c. c.now) command.entry) }
-{
-    match &command?.task {
-        Task::Decode { save, .. } => text_of(save),
-        _ => None,
-    }
-}
-
 /// What a fault is of: the name that was typed, or that of a stream.
 fn subject_of(command: Option<&Command>, fault: Fault) -> Option<&str>
     ensures { option_map (λ text. text.now) result ≡ subject_of (option_map (λ c. c.now) command.entry) fault }
@@ -259,10 +235,15 @@ fn subject_of(command: Option<&Command>, fault: Fault) -> Option<&str>
         Fault::StateSize
         | Fault::State(..)
         | Fault::StateFile(_)
-        | Fault::Memory(Some(Reading::State)) => state_of(command),
-        Fault::Read(..) | Fault::Lines | Fault::Memory(Some(Reading::Log)) => log_of(command),
+        | Fault::Memory(Some(Reading::State)) => text_of(&command?.files.state),
+        Fault::Read(..) | Fault::Lines | Fault::Memory(Some(Reading::Log)) => {
+            Some(text_of(&command?.files.log).unwrap_or("standard input"))
+        }
         Fault::Write(_) => Some("standard output"),
-        Fault::Save(_) => save_of(command),
+        Fault::Save(_) => match &command?.task {
+            Task::Decode { save, .. } => text_of(save),
+            _ => None,
+        },
     }
 }
 

@@ -4,7 +4,7 @@ ghost use Rattle.std.specs.Process.{exit_status};
 ghost use Rattle.clap.specs.Walk.{texts};
 ghost use Rattle.n2kdec.specs.Asked.{save_name};
 ghost use Rattle.n2kdec.specs.Commands.{place};
-ghost use Rattle.n2kdec.specs.Machine.{AsksFor, DoesAsked, Hints, HintsOnTerminal, IsAdmittedSo, IsOfFile, Makes};
+ghost use Rattle.n2kdec.specs.Machine.{AsksFor, DoesAsked, Hints, IsAdmittedSo, IsOfFile, Makes};
 ghost use Rattle.n2kdec.specs.Machine.{Opens, ReadsFile, RunsCommand, RunsRequest, RunsTyped, Shows};
 ghost use Rattle.n2kdec.specs.Machine.{bytes_named, explained, outside, too_large as too_large_of};
 ghost use Rattle.n2kdec.specs.declared.machine.FileCall.{FileCall};
@@ -39,6 +39,7 @@ fn texts_of(alloc: Global, words: &[String]) -> Result<Vec<&str>, AllocError>
 }
 
 /// What was typed asks for this.
+#[tactic(auto, using(crate::proofs::AskedLemmas::asks))]
 fn typed_request<P: Parser, M: Machine>(alloc: Global, parser: &P, machine: &M) -> Request
     ensures { AsksFor (P.shown parser.now) (M.world machine.now) result }
 {
@@ -51,37 +52,8 @@ fn typed_request<P: Parser, M: Machine>(alloc: Global, parser: &P, machine: &M) 
     }
 }
 
-/// The bytes of the file of this name; or the fault of one that is too large, of one that can't be opened or read, or of
-/// memory.
-fn read_named<M: Machine>(
-    alloc: Global,
-    machine: &mut M,
-    name: &Word,
-    reading: Reading,
-    too_large: Fault,
-) -> Result<Vec<u8>, Fault>
-    requires { too_large_of reading ≡ Some too_large }
-    ensures same { M.world machine.new ≡ M.world machine.old }
-    ensures bytes { IfOk result (λ read. IfSome ((M.world machine.old).file name.now) (λ known. read.items ≡ known)) }
-    ensures calls { (made : List FileCall) × Makes made (M.calls machine.old) (M.calls machine.new)
-        × ReadsFile (M.world machine.old) (Some name.now) reading result made }
-{
-    let mut file = match machine.open(name) {
-        Ok(file) => file,
-        Err(error) => return Err(unopened(reading, error)),
-    };
-    let read = read_bytes(alloc, &mut file, LONGEST_FILE);
-    let why = machine.close(file);
-    match read {
-        Ok(bytes) => Ok(bytes),
-        Err(BytesFault::TooLong) => Err(too_large),
-        Err(BytesFault::Read) => Err(unread(reading, why)),
-        Err(BytesFault::Memory) => Err(Fault::Memory(Some(reading))),
-    }
-}
-
-/// The same where there is a name.
-#[tactic(auto, using(crate::proofs::MachineLemmas::makes_none))]
+/// The bytes of the file of this name, where one is named; or the fault of one that is too large, of one that can't be
+/// opened or read, or of memory.
 fn read_file<M: Machine>(
     alloc: Global,
     machine: &mut M,
@@ -96,12 +68,20 @@ fn read_file<M: Machine>(
     ensures calls { (made : List FileCall) × Makes made (M.calls machine.old) (M.calls machine.new)
         × ReadsFile (M.world machine.old) name.now reading result made }
 {
-    match name {
-        Some(own) => match read_named(alloc, machine, own, reading, too_large) {
-            Ok(bytes) => Ok(Some(bytes)),
-            Err(fault) => Err(fault),
-        },
-        None => Ok(None),
+    let Some(path) = name else {
+        return Ok(None);
+    };
+    let mut file = match machine.open(path) {
+        Ok(file) => file,
+        Err(error) => return Err(unopened(reading, error)),
+    };
+    let read = read_bytes(alloc, &mut file, LONGEST_FILE);
+    let why = machine.close(file);
+    match read {
+        Ok(bytes) => Ok(Some(bytes)),
+        Err(BytesFault::TooLong) => Err(too_large),
+        Err(BytesFault::Read) => Err(unread(reading, why)),
+        Err(BytesFault::Memory) => Err(Fault::Memory(Some(reading))),
     }
 }
 
@@ -241,24 +221,16 @@ fn do_request<M: Machine, K: Keeper>(
     }
 }
 
-/// Says on a terminal what to do with a log of another form.
-fn hint_on_terminal<M: Machine, E: Sink>(machine: &M, errors: &mut E)
-    ensures { HintsOnTerminal (M.world machine.now) (place (E.contents errors.old) (E.failed_calls errors.old))
-        (place (E.contents errors.new) (E.failed_calls errors.new)) }
-{
-    if machine.is_terminal() {
-        write_text(hint(), errors);
-    }
-}
-
-/// Says so where a command has come to the end of such a log.
+/// Says on a terminal what to do with a log of another form, where a command has come to the end of one.
 fn say_hint<M: Machine, E: Sink>(machine: &M, ending: Ending, errors: &mut E)
     ensures { Hints (M.world machine.now) ending.has_other_form
         (place (E.contents errors.old) (E.failed_calls errors.old))
         (place (E.contents errors.new) (E.failed_calls errors.new)) }
 {
     if ending.has_other_form {
-        hint_on_terminal(machine, errors);
+        if machine.is_terminal() {
+            write_text(hint(), errors);
+        }
     }
 }
 

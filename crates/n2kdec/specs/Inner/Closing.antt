@@ -40,4 +40,5 @@ FollowsStop keeper kept errors summed (Some part) fault result =
 abbrev pub ClosesPart : Shelf → Shelf → Place → Place → Result Part Stop → Result Ending Fault → Type 0
 ClosesPart keeper kept errors summed (Ok part) result =
     Closes keeper kept errors summed part.state.items part.counts result
-ClosesPart keeper kept errors summed (Err stop) result = FollowsStop keeper kept errors summed stop.part stop.fault result
+ClosesPart keeper kept errors summed (Err stop) result =
+    FollowsStop keeper kept errors summed stop.part stop.fault result

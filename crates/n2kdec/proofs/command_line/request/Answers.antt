@@ -1,9 +1,7 @@
 -- The parse is that of the definition, so the lemmas on the definition say what is asked.
-use Rattle.std.proofs.Common.{rules, None, Some, Ok, Err}
-use Rattle.clap.specs.Walk.{texts}
-use Rattle.n2kdec.specs.declared.asked.Request.TheVariants as to
+use Rattle.std.proofs.Common.{rules, Some, Ok, Err}
 use Rattle.n2kdec.specs.declared.fault.Fault.TheVariants as fault
-use Rattle.n2kdec.proofs.AskedLemmas.{asked_by_refusal, asked_command, asked_fault, asked_words, named_by_matches, of_words}
+use Rattle.n2kdec.proofs.AskedLemmas.{asked_by_refusal, asked_command, asked_fault, asked_words, named_by_matches}
 use Rattle.n2kdec.proofs.command_line.request.Goals as goal
 
 pub returns-in-Ok-command_of-clause-asked : goal.returns-in-Ok-command_of-clause-asked
@@ -23,16 +21,11 @@ returns-in-Err-Words-clause-taken g c takes =
     named_by_matches (g.P.Parser.shown c.args.parser.now) _ _ c.in-Ok.ensures.matches.1 c.in-Ok.ensures.matches.0 (Err fault.Words) (search rules)
 
 pub returns-in-Ok : goal.returns-in-Ok
-returns-in-Ok g c =
-    let words = asked_fault (g.P.Parser.shown c.args.parser.now) _ _ c.in-Ok.ensures.matches.1 c.in-Ok.ensures.matches.0 c.in-Err-command_of.fault (search rules) c.in-Err-command_of.ensures in
-    record { asked = words; faults = of_words (g.P.Parser.shown c.args.parser.now) (texts c.args.words.now) (to.Refused c.in-Err-command_of.fault None) words; taken = λ takes. named_by_matches (g.P.Parser.shown c.args.parser.now) _ _ c.in-Ok.ensures.matches.1 c.in-Ok.ensures.matches.0 (Err c.in-Err-command_of.fault) c.in-Err-command_of.ensures }
+returns-in-Ok g c = record {
+  asked = asked_fault (g.P.Parser.shown c.args.parser.now) _ _ c.in-Ok.ensures.matches.1 c.in-Ok.ensures.matches.0 c.in-Err-command_of.fault (search rules) c.in-Err-command_of.ensures;
+  taken = λ takes. named_by_matches (g.P.Parser.shown c.args.parser.now) _ _ c.in-Ok.ensures.matches.1 c.in-Ok.ensures.matches.0 (Err c.in-Err-command_of.fault) c.in-Err-command_of.ensures;
+}
 
 pub returns-clause-asked : goal.returns-clause-asked
 returns-clause-asked g c =
     asked_by_refusal (g.P.Parser.shown c.args.parser.now) _ _ _ c.help_of.result c.in-Err.ensures.refusal c.help_of.ensures.answers
-
-pub returns-in-Err-Words-clause-faults : goal.returns-in-Err-Words-clause-faults
-returns-in-Err-Words-clause-faults g c = of_words (g.P.Parser.shown c.args.parser.now) (texts c.args.words.now) (to.Refused fault.Words (Some c.lines_of.result)) (returns-in-Err-Words-clause-asked g c)
-
-pub returns-clause-faults : goal.returns-clause-faults
-returns-clause-faults g c = of_words (g.P.Parser.shown c.args.parser.now) (texts c.args.words.now) c.help_of.result (returns-clause-asked g c)

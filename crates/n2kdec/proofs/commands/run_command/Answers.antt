@@ -2,7 +2,7 @@ use Rattle.std.proofs.Common.{◌≡◌, ◌∙◌}
 use Rattle.n2k_run.specs.Runs.{seen}
 use Rattle.n2kdec.specs.Asked.{save_name}
 use Rattle.n2kdec.specs.Commands.{place, shelf}
-use Rattle.n2kdec.proofs.WorkLemmas.{performs, tells, tells_status, unless_refused}
+use Rattle.n2kdec.proofs.WorkLemmas.{performs, tells, unless_refused}
 use Rattle.n2kdec.proofs.commands.run_command.Goals as goal
 
 -- Each place is written out, so that a body which leaves another one is refused at once.
@@ -20,9 +20,6 @@ returns-clause-told g c =
     let after = seen g.R.Source g.W.Sink g.E.Sink c.work-ended.new.log c.work-ended.new.output c.work-ended.new.errors in
     tells c.args.task.now c.args.table.now _ before after (shelf _ _) (shelf _ _) (place _ _) (place _ _) c.work-ended.result c.close.result
     c.work-ended.ensures.works c.close.ensures.closes
-
-pub returns-clause-status : goal.returns-clause-status
-returns-clause-status g c = tells_status c.args.task.now c.args.table.now _ _ _ (shelf _ _) (shelf _ _) c.close.result (returns-clause-performs g c)
 
 pub returns-clause-untouched : goal.returns-clause-untouched
 returns-clause-untouched g c =
