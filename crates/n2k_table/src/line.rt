@@ -387,7 +387,7 @@ pub fn json_line(
 }
 
 /// Appends what `json_line` does. It is put together in a buffer that the caller keeps from line to line, which costs
-/// less than a new one for each.
+/// less than a new one for each. What the buffer held is let go first.
 ///
 /// ```rust
 /// let table = sample_table(alloc)?;
