@@ -1,4 +1,4 @@
 pub mod Feeding
-pub mod Grips
-pub mod Holds
 pub mod Opening
+pub mod RawBoxes
+pub mod RawDecoders

@@ -19,7 +19,8 @@ use Rattle.n2k_c.specs.declared.Counted.{Counted}
 use Rattle.n2k_c.specs.declared.Settings.{Settings}
 use Rattle.n2k_c.specs.declared.decoder.Decoder.{Decoder}
 use Rattle.n2k_c.specs.declared.refusal.Refusal.{Refusal}
-use Rattle.n2k_c.specs.declared.refusal.Refusal.TheVariants.{Room, Memory, Window, TooMuch, Closed, Open, Ended, Reserved}
+use Rattle.n2k_c.specs.declared.refusal.Refusal.TheVariants.{Room, Memory, Window, TooMuch, Closed, Open, Ended}
+use Rattle.n2k_c.specs.declared.refusal.Refusal.TheVariants.{Reserved}
 use Rattle.n2k_c.specs.declared.refusal.Refusal.TheVariants.{Table, State}
 use Rattle.n2k_c.specs.Stands.{Stands, taken_of}
 

@@ -5,7 +5,8 @@ use Rattle.n2k_table.specs.declared.fault.TableFault.TheVariants as of_table
 use Rattle.n2k_join.specs.declared.fault.StateFault.{StateFault}
 use Rattle.n2k_join.specs.declared.fault.StateFault.TheVariants as of_state
 use Rattle.n2k_c.specs.declared.refusal.Refusal.{Refusal}
-use Rattle.n2k_c.specs.declared.refusal.Refusal.TheVariants.{Room, Memory, Window, TooMuch, Closed, Open, Ended, Reserved}
+use Rattle.n2k_c.specs.declared.refusal.Refusal.TheVariants.{Room, Memory, Window, TooMuch, Closed, Open, Ended}
+use Rattle.n2k_c.specs.declared.refusal.Refusal.TheVariants.{Reserved}
 use Rattle.n2k_c.specs.declared.refusal.Refusal.TheVariants.{Table, State}
 
 -- a refused table: 100, and the number that the program's fault line has

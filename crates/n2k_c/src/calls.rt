@@ -6,8 +6,8 @@ ghost use Rattle.n2k_c.specs.declared.Counted.{Counted as Counts};
 ghost use Rattle.n2k_c.specs.declared.refusal.Refusal.TheVariants.{Closed, Window as NoWindow};
 
 use crate::decoder::{self, Decoder, put};
-use crate::grip::Grip;
-use crate::hold::Hold;
+use crate::raw_box::RawBox;
+use crate::raw_decoder::RawDecoder;
 use crate::refusal::Refusal;
 use crate::{Counted, Handle, Settings};
 use n2k_join::Window;
@@ -61,11 +61,11 @@ fn taken(alloc: Global, h: &mut Handle) -> Result<Box<Decoder, Global>, Refusal>
 {
     let closed = Handle {
         live: false,
-        hold: Hold::none(),
+        hold: RawDecoder::none(),
     };
     let was = replace(h, closed);
     if was.live {
-        Ok(was.hold.into_grip(alloc).into_box())
+        Ok(was.hold.into_raw_box(alloc).into_box())
     } else {
         Err(Refusal::Closed)
     }
@@ -78,7 +78,7 @@ fn keep(h: &mut Handle, decoder: Box<Decoder, Global>)
 {
     *h = Handle {
         live: true,
-        hold: Hold::of(Grip::of(decoder)),
+        hold: RawDecoder::of(RawBox::of(decoder)),
     };
 }
 

@@ -8,11 +8,11 @@ ghost use Rattle.n2k_c.specs.Status.{Says};
 
 mod calls;
 mod decoder;
-mod grip;
-mod hold;
+mod raw_box;
+mod raw_decoder;
 mod refusal;
 
-use crate::hold::Hold;
+use crate::raw_decoder::RawDecoder;
 use crate::refusal::status;
 use std::alloc::Global;
 
@@ -46,7 +46,7 @@ pub struct Counted {
 #[derive(Drop)]
 pub struct Handle {
     pub live: bool,
-    pub hold: Hold,
+    pub hold: RawDecoder,
     pub ghost tied: { live ≡ is_some hold.holds },
 }
 

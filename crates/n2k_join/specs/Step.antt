@@ -1,5 +1,6 @@
 -- What a line answers, as the definitions see it.
-use Rattle.std.specs.Prelude.{◌≡◌, ◌≤◌, ◌<◌, ◌↔◌, ℕ, ◌+◌, ◌-◌, ◌==◌, is_some, Bool, true, false, not, if◌then◌else◌, List, drop}
+use Rattle.std.specs.Prelude.{◌≡◌, ◌≤◌, ◌<◌, ◌↔◌, ℕ, ◌+◌, ◌-◌, ◌==◌, is_some, Bool, true, false, not, if◌then◌else◌}
+use Rattle.std.specs.Prelude.{List, drop}
 use Rattle.std.specs.Prelude.{length, slice_get, Option, Some, None, option_to_list, Result, IfOk, OnOk}
 use Rattle.std.specs.Prelude.{OnErr, IsErrOf}
 use Rattle.std.specs.List.{list_any}
@@ -40,7 +41,11 @@ IsOwn t (Some known) (Some packet) = known ≡ record { table = t; pgn = packet.
 
 -- the step of a line that left this entry, without its number
 abbrev pub step_in : Entry → LentStep → Step
-step_in e step = record { message = message_in (is_some step.message) (packet_in e); bad = step.bad; broken = step.broken }
+step_in e step = record {
+  message = message_in (is_some step.message) (packet_in e);
+  bad = step.bad;
+  broken = step.broken;
+}
 
 abbrev pub opens_by : List Group → Option Frame → Bool
 opens_by groups None = false

@@ -1,5 +1,6 @@
 -- What a call of a device says of failure: each failed call is counted, and a device's count shows whether it failed.
-use Rattle.std.specs.Prelude.{◌≡◌, ◌⊎◌, ◌==◌, ◌<◌, ◌+◌, ◌-◌, ◌^◌, ℕ, if◌then◌else◌, IsSome, None, Option, Result, MatchResult}
+use Rattle.std.specs.Prelude.{◌≡◌, ◌⊎◌, ◌==◌, ◌<◌, ◌+◌, ◌-◌, ◌^◌, ℕ, if◌then◌else◌, IsSome, None, Option, Result}
+use Rattle.std.specs.Prelude.{MatchResult}
 
 -- one more failed call; at 2^64 - 1 the number stays
 abbrev pub one_more : ℕ → ℕ

@@ -273,22 +273,12 @@ impl Blocks {
             self.end = 0;
             self.feed = None;
         } else {
-            self.shift();
+            self.line_start = 0;
+            self.line_end = 0;
+            self.block.copy_within(self.start..self.end, 0);
+            self.end -= self.start;
+            self.start = 0;
         }
-    }
-
-    /// Moves what is kept to the front of the block.
-    fn shift(&mut self)
-        ensures kept { self.new.kept ≡ self.old.kept }
-        ensures passing { self.new.is_passing ≡ self.old.is_passing }
-        ensures room { self.new.room + length self.old.kept ≡ BLOCK }
-        ensures reads { self.new.reads ≡ self.old.reads }
-    {
-        self.line_start = 0;
-        self.line_end = 0;
-        self.block.copy_within(self.start..self.end, 0);
-        self.end -= self.start;
-        self.start = 0;
     }
 
     /// One read, behind what is kept: how many bytes came.

@@ -1,13 +1,12 @@
 //! The run of `frames`: each whole message of a log as the lines of its frames.
-ghost use Rattle.std.specs.Prelude.{◌≡◌, ◌≤◌, length, option_map, IfOk, IfSome, OnErr, OnOk, Some};
+ghost use Rattle.std.specs.Prelude.{◌≡◌, ◌≤◌, length, IfOk, IfSome, OnErr, OnOk};
 ghost use Rattle.std.specs.Io.KnownBytes.{Appends};
 ghost use Rattle.n2k_wire.specs.Candump.{frame_payload};
 ghost use Rattle.n2k_wire.specs.Texts as texts;
 ghost use Rattle.n2k_table.specs.Table.{kind};
 ghost use Rattle.n2k_join.specs.Pieces.{first_sequences};
 ghost use Rattle.n2k_join.specs.Splitter.{sequences};
-ghost use Rattle.n2k_run.specs.declared.frames.Outcome.TheVariants.{Bad};
-ghost use Rattle.n2k_run.specs.FramesOut.{IsInterface, interface_of, fault_cause, frames_counts, frames_out, frames_output, frames_reports, frame_counts_of};
+ghost use Rattle.n2k_run.specs.FramesOut.{IsInterface, interface_of, frames_counts, frames_out, frames_output, frames_reports, frame_counts_of};
 ghost use Rattle.n2k_run.specs.Runs.{Runs, seen};
 ghost use Rattle.n2k_run.specs.Inner.Sending.{SentLine, SentMessage, frame_line};
 
@@ -46,17 +45,6 @@ fn append_line(
     match lines {
         Some(lines) => lines.append(alloc, frame, text),
         None => plain_text(alloc, frame, text).map_err(|_| WireFault::Memory),
-    }
-}
-
-/// What becomes of a message whose frames have no lines.
-fn refused(fault: WireFault) -> Result<Outcome, AllocError>
-    ensures { IfOk result (λ made. Some made ≡ option_map Bad (fault_cause fault)) }
-{
-    match fault {
-        WireFault::NoStamp => Ok(Outcome::Bad(BadCause::Time)),
-        WireFault::NoId => Ok(Outcome::Bad(BadCause::Address)),
-        WireFault::Memory => Err(AllocError),
     }
 }
 
@@ -131,7 +119,11 @@ impl<'a> FrameLines<'a> {
             let frame = frames.frame(number, &mut sender.frame);
             if let Err(fault) = append_line(alloc, &mut sender.lines, frame, text) {
                 text.truncate(before);
-                return refused(fault);
+                return match fault {
+                    WireFault::NoStamp => Ok(Outcome::Bad(BadCause::Time)),
+                    WireFault::NoId => Ok(Outcome::Bad(BadCause::Address)),
+                    WireFault::Memory => Err(AllocError),
+                };
             }
         }
         Ok(Outcome::Written)
@@ -256,7 +248,7 @@ pub fn run_frames<R: Source, W: Sink, E: Sink>(
         × (counts ≡ frames_counts table.now (interface_of interface.entry) log))) }
 {
     let mut counts = Counts::NONE;
-    match run_frames_counted(
+    run_frames_counted(
         alloc,
         table,
         interface,
@@ -264,10 +256,8 @@ pub fn run_frames<R: Source, W: Sink, E: Sink>(
         reader,
         writer,
         reporter,
-    ) {
-        Ok(()) => Ok(counts),
-        Err(fault) => Err(fault),
-    }
+    )?;
+    Ok(counts)
 }
 
 /// What `run_frames` does, with the counts at hand after a fault too: `counts` gets what the log counts, after `Read` and

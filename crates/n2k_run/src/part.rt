@@ -117,11 +117,9 @@ fn finish(alloc: Global, join: &Join, ran: Result<(), RunFault>) -> Result<Part,
 {
     match ran {
         Ok(()) => Ok(part_of(alloc, join)?),
-        Err(RunFault::Read) => Err(PartFault::Stopped(RunFault::Read, part_of(alloc, join)?)),
-        Err(RunFault::TooManyLines) => Err(PartFault::Stopped(
-            RunFault::TooManyLines,
-            part_of(alloc, join)?,
-        )),
+        Err(fault @ (RunFault::Read | RunFault::TooManyLines)) => {
+            Err(PartFault::Stopped(fault, part_of(alloc, join)?))
+        }
         Err(fault) => Err(PartFault::Run(fault)),
     }
 }
@@ -180,8 +178,7 @@ fn empty_part(alloc: Global, table: &Table, options: &Options) -> Result<Part, A
     laws::groups_stay_fast();
     know_id(table);
     know_window(options);
-    let join = Join::new(alloc, table, options.window);
-    part_of(alloc, &join)
+    part_of(alloc, &Join::new(alloc, table, options.window))
 }
 
 /// Runs the next part, which lies in memory.

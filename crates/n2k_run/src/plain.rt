@@ -93,10 +93,8 @@ pub fn run_plain<R: Source, W: Sink, E: Sink>(
         × (counts ≡ plain_counts log))) }
 {
     let mut counts = Counts::NONE;
-    match run_plain_counted(alloc, &mut counts, reader, writer, reporter) {
-        Ok(()) => Ok(counts),
-        Err(fault) => Err(fault),
-    }
+    run_plain_counted(alloc, &mut counts, reader, writer, reporter)?;
+    Ok(counts)
 }
 
 /// What `run_plain` does, with the counts at hand after a fault too: `counts` gets what the log counts, after `Read` and

@@ -73,13 +73,6 @@ fn note(answer: io::Result<usize>, failures: &mut Option<Failures>) -> Result<us
     answer.map_err(|_| Failed)
 }
 
-/// The error of the last call that failed.
-fn last(failures: &Option<Failures>) -> Option<Error>
-    ensures { result ≡ last_of failures.now }
-{
-    Some(failures.as_ref()?.last)
-}
-
 /// A reader of the standard library as a source.
 #[derive(Drop)]
 pub struct StdSource<R> {
@@ -123,7 +116,7 @@ impl<R: Read> StdSource<R> {
         ensures last { result ≡ last_of self.now.failures }
         ensures told { IsWhy (⟦<StdSource<R> as Source>⟧.failed_calls self.now) result }
     {
-        last(&self.failures)
+        Some(self.failures.as_ref()?.last)
     }
 }
 
@@ -182,7 +175,7 @@ impl<W: Write> StdSink<W> {
         ensures last { result ≡ last_of self.now.failures }
         ensures told { IsWhy (⟦<StdSink<W> as Sink>⟧.failed_calls self.now) result }
     {
-        last(&self.failures)
+        Some(self.failures.as_ref()?.last)
     }
 }
 

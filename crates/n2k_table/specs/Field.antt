@@ -212,7 +212,8 @@ lookup_named lookups f = do
   ok_or (find (λ l. bytes_eq name l.name) lookups) Lookup
 
 abbrev pub named_form : List ℕ → Result Form TableFault
-named_form name = if bytes_eq name (codes "lau") then Ok Lau else (if bytes_eq name (codes "lz") then Ok Lz else Err Text)
+named_form name =
+    if bytes_eq name (codes "lau") then Ok Lau else (if bytes_eq name (codes "lz") then Ok Lz else Err Text)
 
 -- how a string says how long it is
 abbrev pub form_of : Members → Result Form TableFault

@@ -13,7 +13,8 @@ each read (d ∷ ds) = do
   Ok (x ∷ xs)
 
 -- each of a list read in turn, by what was read before it; with that at its front
-abbrev pub each_by_earlier : {D A : Type 0} → (List A → D → Result A TableFault) → List A → List D → Result (List A) TableFault
+abbrev pub each_by_earlier : {D A : Type 0} → (List A → D → Result A TableFault) → List A → List D
+    → Result (List A) TableFault
 each_by_earlier read before [] = Ok before
 each_by_earlier read before (d ∷ ds) = do
   x ← read before d

@@ -1,5 +1,5 @@
--- What repeats in a message: a set of fields that stands again and again, one behind the other, as often as it lies wholly
--- in the data.
+-- What repeats in a message: a set of fields that stands again and again, one behind the other, as often as it lies
+-- wholly in the data.
 use Rattle.std.specs.Prelude.{ℕ, zero, suc, ◌+◌, ◌/◌, Bool, ◌||◌, nat_le, List, [], ◌∷◌, length, map, take, drop}
 use Rattle.std.specs.Prelude.{Option, Some, None, option_map, unwrap_or, Result, Ok, if◌then◌else◌, codes}
 use Rattle.std.specs.List.{list_any}
@@ -19,17 +19,17 @@ use Rattle.n2k_table.specs.Field.{Meaning, string, FieldParts, is_string, first_
 use Rattle.n2k_table.specs.Fields.{fields}
 use Rattle.n2k_table.specs.Shown.{ShownParts, all_shown}
 
--- What repeats: the first bit of the first set, the bits of a set beside those of its strings, the strings of the message
--- behind which the sets stand, from the first on, and the fields of a set, whose places count from the set's first bit.
--- Where the sets stand behind strings, their first bit counts from the end of the last.
+-- What repeats: the first bit of the first set, the bits of a set beside those of its strings, the strings of the
+-- message behind which the sets stand, from the first on, and the fields of a set, whose places count from the set's
+-- first bit. Where the sets stand behind strings, their first bit counts from the end of the last.
 pub record RepeatParts : Type 0 where
   pub at : ℕ
   pub bits : ℕ
   pub behind : List Step
   pub fields : List FieldParts
 
--- how many bytes a field of that meaning, at that bit of these data, adds to the bits of its set: a string its own, if it
--- is proper, and any other field 0
+-- how many bytes a field of that meaning, at that bit of these data, adds to the bits of its set: a string its own, if
+-- it is proper, and any other field 0
 abbrev pub own_bytes : Meaning → ℕ → Option (List ℕ) → Option ℕ
 own_bytes (string form) at rest = option_and_then (λ bytes. taken form (drop (at / 8) bytes)) rest
 own_bytes _ at rest = Some 0
@@ -38,7 +38,8 @@ own_bytes _ at rest = Some 0
 abbrev pub strings_size : List FieldParts → List ℕ → Option ℕ
 strings_size [] bytes = Some 0
 strings_size (f ∷ fs) bytes =
-    option_and_then (λ n. option_map (λ m. n + m) (strings_size fs bytes)) (own_bytes f.meaning f.at (data_behind f.behind bytes))
+    option_and_then (λ n. option_map (λ m. n + m) (strings_size fs bytes))
+    (own_bytes f.meaning f.at (data_behind f.behind bytes))
 
 -- the first number, if it is at most the second
 abbrev pub if_inside : ℕ → ℕ → Option ℕ
@@ -48,14 +49,15 @@ if_inside n all = if nat_le n all then Some n else None
 abbrev pub set_size : RepeatParts → List ℕ → Option ℕ
 set_size r bytes = option_and_then (λ n. if_inside (r.bits / 8 + n) (length bytes)) (strings_size r.fields bytes)
 
--- the sets with which these bytes begin, so many at most: one behind the other, up to the first that does not lie wholly
--- in the bytes
+-- the sets with which these bytes begin, so many at most: one behind the other, up to the first that does not lie
+-- wholly in the bytes
 abbrev pub sets_from : RepeatParts → ℕ → List ℕ → List (List ℕ)
 sets_from r zero bytes = []
 sets_from r (suc most) bytes =
     unwrap_or (option_map (λ n. take n bytes ∷ sets_from r most (drop n bytes)) (set_size r bytes)) []
 
--- All sets with which these bytes begin. Each set that a table spells has a byte, so there are no more of them than bytes.
+-- All sets with which these bytes begin. Each set that a table spells has a byte, so there are no more of them than
+-- bytes.
 abbrev pub sets_in : RepeatParts → List ℕ → List (List ℕ)
 sets_in r bytes = sets_from r (length bytes) bytes
 

@@ -8,8 +8,9 @@ use Rattle.n2k_table.specs.declared.string_place.Form.TheVariants.{Lau, Lz}
 use Rattle.n2k_table.specs.declared.string_place.Step.{Step}
 use Rattle.n2k_table.specs.Text.{character}
 
--- How many of the bytes are a string that begins with the first of them, its length; none where it is not proper. Of the
--- form `lau` the length counts itself, a byte that names the encoding, and the characters; of `lz` the characters alone.
+-- How many of the bytes are a string that begins with the first of them, its length; none where it is not proper. Of
+-- the form `lau` the length counts itself, a byte that names the encoding, and the characters; of `lz` the characters
+-- alone.
 abbrev pub taken : Form → List ℕ → Option ℕ
 taken form [] = None
 taken Lau (l ∷ bs) = if nat_le 2 l && nat_le l (length (l ∷ bs)) then Some l else None

@@ -97,7 +97,8 @@ is_key (Definition format) key =
     is_among key (codes "number" ∷ codes "kind" ∷ codes "description" ∷ codes "fields" ∷ [])
     || (has_sets format && bytes_eq key (codes "repeat"))
 is_key (Repeat format) key =
-    is_among key (codes "at" ∷ codes "bits" ∷ codes "fields" ∷ []) || (is_extended format && bytes_eq key (codes "after"))
+    is_among key (codes "at" ∷ codes "bits" ∷ codes "fields" ∷ [])
+    || (is_extended format && bytes_eq key (codes "after"))
 is_key (Field format kind holder) key =
     is_among key (codes "name" ∷ codes "kind" ∷ place_keys kind)
     || is_among key (own_keys kind)

@@ -83,7 +83,8 @@ impl StoredDefinition {
         self.description.as_str()
     }
 
-    fn label(&self) -> &[u8]
+    /// What stands in a line between who sent the message and the members.
+    pub(crate) fn label(&self) -> &[u8]
         ensures { result.now ≡ label_json self.now.pgn self.now.description }
     {
         self.label.as_slice()
@@ -142,7 +143,6 @@ impl<'a> Model for Definition<'a> {
 }
 
 impl<'a> Definition<'a> {
-    ghost use Rattle.n2k_table.specs.Inner.Line.{label_json};
     ghost use Rattle.n2k_table.specs.Shown.{all_shown};
     ghost use Rattle.n2k_table.specs.Repeat.{all_sets};
 
@@ -167,25 +167,11 @@ impl<'a> Definition<'a> {
         self.stored.description()
     }
 
-    /// What stands in a line between who sent the message and the members.
-    pub(crate) fn label(&self) -> &[u8]
-        ensures { result.now ≡ label_json self.now.pgn self.now.description }
+    /// As the table keeps it.
+    pub(crate) fn stored(&self) -> &StoredDefinition
+        ensures { result.now ≡ self.now }
     {
-        self.stored.label()
-    }
-
-    /// The fields, as the table keeps them.
-    pub(crate) fn stored_fields(&self) -> &[Field]
-        ensures { result.now ≡ self.now.fields }
-    {
-        self.stored.fields()
-    }
-
-    /// What repeats behind the fields, as the table keeps it.
-    pub(crate) fn stored_repeat(&self) -> Option<&Repeat>
-        ensures { option_map (λ r. r.now) result ≡ self.now.repeat }
-    {
-        self.stored.repeat()
+        self.stored
     }
 
     /// What each field of the definition's own shows of the data of a message (the bytes in the order of the bus),

@@ -105,10 +105,7 @@ impl Field {
     pub(crate) fn is_string(&self) -> bool
         ensures { result ≡ is_string self.now.meaning }
     {
-        match self.meaning {
-            Meaning::String(_) => true,
-            _ => false,
-        }
+        matches!(self.meaning, Meaning::String(_))
     }
 
     /// The bytes that the set that begins with the first of these has for the field beside its bits: those of a string, and

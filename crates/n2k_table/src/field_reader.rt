@@ -156,10 +156,7 @@ fn bits_of(kind: FieldKind, table: &Table) -> Result<u32, TableFault>
 fn is_string_named(field: &Field, name: &str) -> bool
     ensures { result ≡ is_string_named name.now field.now }
 {
-    match field.meaning {
-        Meaning::String(_) => name == field.name(),
-        _ => false,
-    }
+    field.is_string() && name == field.name()
 }
 
 /// The string of that name among these fields.

@@ -1,18 +1,18 @@
 //! The JSON line of a message.
 ghost use Rattle.std.specs.Prelude.{◌≡◌, [], ◌++◌, ◌+◌, ◌*◌, ◌≤◌, ◌||◌, true, is_some, nat_lt, codes, if◌then◌else◌};
 ghost use Rattle.std.specs.Prelude.{decimal, length, map, IfOk, IfSome, OnOk, OnErr, Some};
-ghost use Rattle.n2k_table.specs.Shown.{shown, all_shown, flags_left};
+ghost use Rattle.n2k_table.specs.Shown.{shown, shown_parts, all_shown, flags_left};
 ghost use Rattle.std.specs.List.{flat_map, join_with_byte};
 ghost use Rattle.n2k_table.specs.Repeat.{all_sets};
 ghost use Rattle.n2k_table.specs.Inner.FieldValue.{named_bit};
-ghost use Rattle.n2k_table.specs.Json.{array, flag_json};
+ghost use Rattle.n2k_table.specs.Json.{array, flag_json, value_json};
 ghost use Rattle.n2k_table.specs.Json.{comma, member_json, members, set_json, list_json, message_members};
 ghost use Rattle.n2k_table.specs.Json.{unmatched_json, chosen_json, json};
 ghost use Rattle.n2k_table.specs.Inner.Line.{are_null, has_members, key_json, member_text};
-ghost use Rattle.n2k_table.specs.Text.{text_json, character, hex_pairs, two_digits};
+ghost use Rattle.n2k_table.specs.Text.{text_json, character, hex_pairs};
 
 use crate::decimal::{push_decimal, push_number};
-use crate::definition::Definition;
+use crate::definition::{Definition, StoredDefinition};
 use crate::field::Field;
 use crate::field_value::FieldValue;
 use crate::flags::{Flags, NamedBit};
@@ -59,8 +59,8 @@ fn push_pgn(pgn: u32, line: &mut LineBuffer) -> Result<(), AllocError>
     line.extend_from_slice(buffer.format(pgn).as_bytes())
 }
 
-/// Appends the value of a member that is there, behind its key: `null`, a text, bytes, flags, or digits. They are
-/// not inlined: most fields are numbers and names.
+/// Appends a member that is there, its key and its value: `null`, a text, or bytes. They are not inlined: most fields
+/// are numbers and names.
 #[inline(never)]
 fn push_null(field: &Field, later: bool, line: &mut LineBuffer) -> Result<(), AllocError>
     ensures { OnOk result (line.new.items ≡ line.old.items ++ (key_json later field.now.name ++ codes "null")) }
@@ -97,20 +97,6 @@ fn push_bytes(
     push_pairs(bytes, line)
 }
 
-#[inline(never)]
-fn push_number_text(
-    field: &Field,
-    bytes: &[u8],
-    later: bool,
-    line: &mut LineBuffer,
-) -> Result<(), AllocError>
-    ensures { OnOk result (line.new.items
-        ≡ line.old.items ++ (key_json later field.now.name ++ text_json (flat_map two_digits bytes.now))) }
-{
-    field.push_key(later, line)?;
-    push_digits(bytes, line)
-}
-
 /// Appends a bit by its name or its number, after a comma where one stands before.
 fn push_bit(bit: NamedBit<'_>, later: bool, line: &mut LineBuffer) -> Result<(), AllocError>
     ensures { OnOk result (line.new.items ≡ line.old.items ++ member_text later (Some (flag_json (named_bit bit.entry)))) }
@@ -141,20 +127,30 @@ fn push_bits(flags: Flags<'_>, line: &mut LineBuffer) -> Result<(), AllocError>
     Ok(())
 }
 
-#[inline(never)]
-fn push_flags(
-    field: &Field,
-    flags: Flags<'_>,
-    later: bool,
-    line: &mut LineBuffer,
-) -> Result<(), AllocError>
-    ensures { OnOk result (line.new.items
-        ≡ line.old.items ++ (key_json later field.now.name ++ array (map flag_json (flags_left flags.entry)))) }
+/// Appends an array of the bits that are left.
+fn push_flags(flags: Flags<'_>, line: &mut LineBuffer) -> Result<(), AllocError>
+    ensures { OnOk result (line.new.items ≡ line.old.items ++ array (map flag_json (flags_left flags.entry))) }
 {
-    field.push_key(later, line)?;
     line.push(b'[')?;
     push_bits(flags, line)?;
     line.push(b']')
+}
+
+/// Appends what a field of any kind shows as a value, which is `null` where that is nothing.
+fn push_shown(shown: Shown<'_>, line: &mut LineBuffer) -> Result<(), AllocError>
+    ensures { OnOk result (IfSome (value_json true (shown_parts shown.entry))
+        (λ value. line.new.items ≡ line.old.items ++ value)) }
+{
+    match shown {
+        Shown::Absent => line.extend_from_slice(b"null"),
+        Shown::Number { value, decimals } => push_decimal(value, decimals, line),
+        Shown::Name(text) | Shown::Utf8(text) => text::push_text(text.as_bytes(), line),
+        Shown::Text(text) => push_characters(text, line),
+        Shown::Wide(bytes) => push_wide(bytes, line),
+        Shown::Bytes(bytes) => push_pairs(bytes, line),
+        Shown::Flags(flags) => push_flags(flags, line),
+        Shown::Digits(bytes) => push_digits(bytes, line),
+    }
 }
 
 /// Appends a field of any kind as a member, as `push_member` does. It is not inlined: few fields come here.
@@ -171,33 +167,15 @@ fn push_seldom(
         IfOk result (λ more. (line.new.items ≡ line.old.items ++ member_text later member)
         × (more ≡ (later || is_some member))) }
 {
-    match field.shown(data) {
-        Shown::Absent => match absent {
-            AbsentFields::LeftOut => return Ok(later),
-            AbsentFields::Null => push_null(field, later, line)?,
-        },
-        Shown::Number { value, decimals } => {
+    let shown = field.shown(data);
+    match (shown, absent) {
+        (Shown::Absent, AbsentFields::LeftOut) => Ok(later),
+        _ => {
             field.push_key(later, line)?;
-            push_decimal(value, decimals, line)?;
+            push_shown(shown, line)?;
+            Ok(true)
         }
-        Shown::Name(name) => {
-            field.push_key(later, line)?;
-            text::push_text(name.as_bytes(), line)?;
-        }
-        Shown::Text(text) => push_text(field, text, later, line)?,
-        Shown::Utf8(text) => {
-            field.push_key(later, line)?;
-            text::push_text(text.as_bytes(), line)?;
-        }
-        Shown::Wide(bytes) => {
-            field.push_key(later, line)?;
-            push_wide(bytes, line)?;
-        }
-        Shown::Bytes(bytes) => push_bytes(field, bytes, later, line)?,
-        Shown::Flags(flags) => push_flags(field, flags, later, line)?,
-        Shown::Digits(bytes) => push_number_text(field, bytes, later, line)?,
     }
-    Ok(true)
 }
 
 /// Appends a field as a member of an object, after a comma where a member stands before, and answers whether one stands
@@ -317,7 +295,7 @@ fn push_list(
 
 /// Appends the members of a message: the fields, and last what repeats behind them.
 fn push_fields(
-    definition: &Definition<'_>,
+    definition: &StoredDefinition,
     data: &[u8],
     absent: AbsentFields,
     line: &mut LineBuffer,
@@ -325,8 +303,8 @@ fn push_fields(
     ensures { let ms = message_members (are_null absent) definition.now «data».now in
         OnOk result (line.new.items ≡ line.old.items ++ join_with_byte comma ms) }
 {
-    let later = push_members(definition.stored_fields(), data, absent, line)?;
-    match definition.stored_repeat() {
+    let later = push_members(definition.fields(), data, absent, line)?;
+    match definition.repeat() {
         None => Ok(()),
         Some(repeat) => push_list(repeat, data, absent, later, line),
     }
@@ -334,7 +312,7 @@ fn push_fields(
 
 /// Appends the line of a message under a definition of its PGN.
 fn push_matched(
-    definition: &Definition<'_>,
+    definition: &StoredDefinition,
     packet: &Packet,
     absent: AbsentFields,
     line: &mut LineBuffer,
@@ -372,7 +350,7 @@ fn push_line(
         ≡ line.old.items ++ chosen_json definition.entry packet.now (are_null absent)) }
 {
     match definition {
-        Some(definition) => push_matched(&definition, packet, absent, line),
+        Some(definition) => push_matched(definition.stored(), packet, absent, line),
         None => push_unmatched(packet, line),
     }
 }
@@ -409,7 +387,7 @@ pub fn json_line(
 }
 
 /// Appends what `json_line` does. It is put together in a buffer that the caller keeps from line to line, which costs
-/// less than a new one for each.
+/// less than a new one for each. What the buffer held is let go first.
 ///
 /// ```rust
 /// let table = sample_table(alloc)?;

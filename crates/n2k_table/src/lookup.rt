@@ -58,7 +58,7 @@ impl Name {
     pub(crate) fn push_json(&self, line: &mut LineBuffer) -> Result<(), AllocError>
         ensures { OnOk result (line.new.items ≡ line.old.items ++ text_json self.now) }
     {
-        self.json.push(line)
+        self.json.push_from(0, line)
     }
 }
 

@@ -57,14 +57,6 @@ impl PaddedText {
         })
     }
 
-    /// Appends the text.
-    #[inline(always)]
-    pub(crate) fn push(&self, line: &mut LineBuffer) -> Result<(), AllocError>
-        ensures { OnOk result (line.new.items ≡ line.old.items ++ self.now) }
-    {
-        self.push_from(0, line)
-    }
-
     /// Appends the text from its first byte on, or from its second.
     #[inline(always)]
     pub(crate) fn push_from(&self, from: usize, line: &mut LineBuffer) -> Result<(), AllocError>

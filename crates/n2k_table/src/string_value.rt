@@ -13,10 +13,7 @@ use std::str::from_utf8;
 fn first_bytes(bytes: &[u8], length: usize, short: bool) -> Option<&[u8]>
     ensures { option_map (λ found. found.now) result ≡ first_bytes short length bytes.now }
 {
-    if length <= bytes.len() {
-        return Some(&bytes[..length]);
-    }
-    if short { Some(bytes) } else { None }
+    bytes.get(..length).or(short.then_some(bytes))
 }
 
 /// What stands in a string behind its length.

@@ -170,10 +170,7 @@ fn digits_len(text: &[u8]) -> usize
     ensures value { result ≡ digits_len text.now }
     ensures within { result ≤ length text.now }
 {
-    match find_non_hex(text) {
-        Some(at) => at,
-        None => text.len(),
-    }
+    find_non_hex(text).unwrap_or(text.len())
 }
 
 /// Whether a frame of another kind follows the first `#`: an FD frame (`#`) or a remote frame (`R`, `r`).

@@ -172,9 +172,8 @@ fn read_next(cache: &mut SecondCache, line: &[u8], packing: Packing, out: &mut E
     ensures valid { IsEntry out.new }
     ensures short { IsShort out.new }
 {
-    match read_fast(cache, line, packing, out) {
-        Some(()) => {}
-        None => read_line_into(line, packing, out),
+    if read_fast(cache, line, packing, out).is_none() {
+        read_line_into(line, packing, out);
     }
 }
 

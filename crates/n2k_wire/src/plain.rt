@@ -114,10 +114,7 @@ fn read_bytes(
 {
     let mut left = more;
     for _ in 0..len {
-        let Some(text) = left else {
-            return None;
-        };
-        let (column, rest) = first_column(text);
+        let (column, rest) = first_column(left?);
         let byte = read_pair(column)?;
         bytes.push(byte);
         left = rest;

@@ -135,17 +135,13 @@ fn id_before(text: &[u8]) -> Option<(Id, &[u8])>
     let (pgn, text) = pgn_before(text)?;
     let (src, text) = short_number_before(GREATEST_ADDRESS, text)?;
     let (dst, text) = short_number_before(GREATEST_ADDRESS, text)?;
-    let (prio, pgn) = (prio as u8, pgn as u32);
-    let (src, dst) = (src as u8, dst as u8);
-    Some((
-        Id {
-            prio,
-            pgn,
-            src,
-            dst,
-        },
-        text,
-    ))
+    let id = Id {
+        prio: prio as u8,
+        pgn: pgn as u32,
+        src: src as u8,
+        dst: dst as u8,
+    };
+    Some((id, text))
 }
 
 /// The bytes of eight columns. Their digits, and the commas between them, are picked out of two vectors, which hold the

@@ -1,6 +1,7 @@
 -- The open groups by key, and the list through them in the order of the lines that opened them: with each group stand
 -- the places of the one opened before it and of the one behind it.
-use Rattle.std.specs.Prelude.{◌≡◌, ℕ, zero, suc, ◌+◌, ◌<◌, ◌≤◌, ◌==◌, ◌⊎◌, if◌then◌else◌, List, [], ◌∷◌, length, Option, Some, option_map, filter_map, slice_get}
+use Rattle.std.specs.Prelude.{◌≡◌, ℕ, zero, suc, ◌+◌, ◌<◌, ◌≤◌, ◌==◌, ◌⊎◌, if◌then◌else◌, List, [], ◌∷◌, length, Option}
+use Rattle.std.specs.Prelude.{Some, option_map, filter_map, slice_get}
 use Rattle.std.specs.Option.{option_map_or}
 use Rattle.std.specs.Map.{lookup, keys_of}
 use Rattle.n2k_join.specs.declared.piece.FrameKey.{FrameKey}
@@ -41,7 +42,9 @@ IsPlace count at = (at < count) ⊎ (at ≡ nowhere)
 
 -- the place that stands beside another, on a side: where there is no group, that end's, or its own
 abbrev pub beside : (Linked → ℕ) → ℕ → Entries → ℕ → ℕ
-beside side end entries at = if at == nowhere then end else option_map_or (λ (e : FrameKey × Linked). side e.1) (slice_get entries at) at
+beside side end entries at =
+    if at == nowhere then end
+    else option_map_or (λ (e : FrameKey × Linked). side e.1) (slice_get entries at) at
 
 abbrev pub behind_of : OpenGroups → ℕ → ℕ
 behind_of g = beside (λ l. l.behind) g.first g.groups.entries
@@ -52,7 +55,8 @@ before_of g = beside (λ l. l.before) g.last g.groups.entries
 -- at most so many places from one on, each behind the other
 abbrev pub places_from : Entries → ℕ → ℕ → List ℕ
 places_from entries zero at = []
-places_from entries (suc n) at = option_map_or (λ (e : FrameKey × Linked). at ∷ places_from entries n e.1.behind) (slice_get entries at) []
+places_from entries (suc n) at =
+    option_map_or (λ (e : FrameKey × Linked). at ∷ places_from entries n e.1.behind) (slice_get entries at) []
 
 -- the places of the groups, from the first on
 abbrev pub places : OpenGroups → List ℕ

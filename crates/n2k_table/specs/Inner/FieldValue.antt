@@ -6,7 +6,8 @@ use Rattle.n2k_table.specs.declared.flags.Flags.{Flags}
 use Rattle.n2k_table.specs.declared.flags.NamedBit.{NamedBit}
 use Rattle.n2k_table.specs.declared.flags.NamedBit.TheVariants as bit
 use Rattle.n2k_table.specs.Field.{FieldParts}
-use Rattle.n2k_table.specs.Shown.{FlagParts, flag_name, flag_bit, ShownParts, absent, number, name, text, bytes, lies_inside}
+use Rattle.n2k_table.specs.Shown.{FlagParts, flag_name, flag_bit, ShownParts, absent, number, name, text, bytes}
+use Rattle.n2k_table.specs.Shown.{lies_inside}
 use Rattle.n2k_table.specs.declared.string_place.Step.{Step}
 use Rattle.n2k_table.specs.Inner.Number.{value_of}
 

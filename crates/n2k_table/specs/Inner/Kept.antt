@@ -1,10 +1,12 @@
 -- What the code keeps of a field, and that it is a field that can be shown.
-use Rattle.std.specs.Prelude.{◌≡◌, ◌≤◌, nat_le, ℕ, ◌+◌, ◌-◌, ◌/◌, ◌^◌, true, List, [], ◌∷◌, Option, Some, None, IfSome, if◌then◌else◌}
+use Rattle.std.specs.Prelude.{◌≡◌, ◌≤◌, nat_le, ℕ, ◌+◌, ◌-◌, ◌/◌, ◌^◌, true, List, [], ◌∷◌, Option, Some, None, IfSome}
+use Rattle.std.specs.Prelude.{if◌then◌else◌}
 use Rattle.n2k_table.specs.declared.field.Meaning.{Meaning as CodeMeaning}
 use Rattle.n2k_table.specs.declared.field.Meaning.TheVariants as code
 use Rattle.n2k_table.specs.declared.string_place.Step.{Step}
 use Rattle.n2k_table.specs.declared.tree.FieldKind.{FieldKind}
-use Rattle.n2k_table.specs.Field.{Meaning, number, shifted, named, flags, text, bytes, digits, string, most_number_bits, most_bits, fixed_place}
+use Rattle.n2k_table.specs.Field.{Meaning, number, shifted, named, flags, text, bytes, digits, string, most_number_bits}
+use Rattle.n2k_table.specs.Field.{most_bits, fixed_place}
 use Rattle.n2k_table.specs.Tree.{message_bits, has_bits}
 use Rattle.n2k_table.specs.Inner.Line.{key_json}
 use Rattle.n2k_table.specs.Inner.Number.{IsScale, IsShift}

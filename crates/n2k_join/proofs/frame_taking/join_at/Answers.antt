@@ -1,4 +1,4 @@
-use Rattle.std.proofs.Common.{refl, ◌+◌, arith, ◌∙◌, ◌++◌, sym, ap, true, false, Some}
+use Rattle.std.proofs.Common.{refl, arith, ◌∙◌, ◌++◌, sym, ap, true, false, Some}
 use Rattle.indexmap.specs.IndexMap.{with_value_at}
 use Rattle.n2k_join.specs.Inner.Stored.{key_of}
 use Rattle.n2k_join.proofs.Order.{written, kept_next}

@@ -1,4 +1,4 @@
-use Rattle.std.proofs.Common.{◌≡◌, refl, ◌+◌, ◌∙◌, sym, ap, subst, true, false, Some, option_map, arith, append-nil}
+use Rattle.std.proofs.Common.{◌≡◌, refl, ◌+◌, ◌∙◌, sym, ap, subst, true, false, Some, option_map, append-nil}
 use Rattle.n2k_join.specs.Open.{Group}
 use Rattle.n2k_join.specs.Inner.Stored.{key_of}
 use Rattle.n2k_join.specs.Inner.Order.{item, IsKept}

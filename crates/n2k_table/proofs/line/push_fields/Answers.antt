@@ -14,6 +14,6 @@ returns-in-Some c =
     let line = c.args.line.now.items in
     let own = members (are_null c.args.absent) (all_shown d.fields payload) in
     let there : Some c.in-Some.repeat.now ≡ d.repeat = c.in-Some.ensures in
-    let before = rw c.stored_fields.ensures at c.in_ok-later.ensures in
+    let before = rw c.fields.ensures at c.in_ok-later.ensures in
     on_ok c.push_list.result (λ last. with_last own (list_json (are_null c.args.absent) (all_sets c.in-Some.repeat.now payload)) line _ _ _ before.0 before.1 last
     ∙ ap (λ (r : Option RepeatParts). line ++ join_with_byte 44 (own ++ repeat_members (are_null c.args.absent) r payload)) there) c.push_list.ensures

@@ -1,7 +1,9 @@
-use Rattle.std.proofs.Common.{◌≡◌, ◌⊎◌, inl, inr, ◌-◌, ◌==◌, ℕ, true, length, sym, ◌∙◌, ap, arith}
+use Rattle.std.proofs.Common.{◌≡◌, ◌⊎◌, inl, inr, ◌-◌, ◌==◌, ◌+◌, ◌≤◌, ℕ, true, length, length-drop, take, drop, sym, ◌∙◌, ap, subst, arith}
+use lib.Seq.{paste}
 use Rattle.std.specs.List.{slice_range}
+use Rattle.std.proofs.lemmas.List.Edits.{take-paste}
 use Rattle.std.proofs.lemmas.Bool.Decides.{nat_tests}
-use Rattle.n2k_run.specs.Blocks.{Held}
+use Rattle.n2k_run.specs.Blocks.{Held, HasNoFeed}
 use Rattle.n2k_run.proofs.Feeds.{lets_go}
 use Rattle.n2k_run.proofs.Ranges.{length-range}
 use Rattle.n2k_run.proofs.blocks.Blocks.make_room.Goals as goal
@@ -19,3 +21,14 @@ returns-then-self-eq-BLOCK-clause-stays c =
       | else-self w ↦ inr (sym (ap (λ (h : Held). length h.kept) c.self.view_is) ∙ size ∙ is_equal _ _ (sym w.value-is ∙ c.if-self-eq-BLOCK.true))
     ] in
     lets_go c.args.self.now 4096 why (omega arith)
+
+pub returns-else-self-eq-BLOCK-clause-no_feed : goal.returns-else-self-eq-BLOCK-clause-no_feed
+returns-else-self-eq-BLOCK-clause-no_feed c =
+    let b = c.self.inside.block in
+    let s = c.self.inside.start in
+    let n = c.self.inside.end - s in
+    let long : s + n ≤ length b = omega arith in
+    let same : slice_range c.copy_within.new.self 0 n ≡ slice_range b s c.self.inside.end =
+        ap (λ k. take k c.copy_within.new.self) (let is : n - 0 ≡ n = omega arith in is) ∙ ap (take n) c.copy_within.ensures.after
+        ∙ ap (λ k. take k (paste b 0 (drop s b) n)) (let is : n ≡ 0 + n = omega arith in is) ∙ take-paste b 0 (drop s b) n (omega arith) (omega (arith, length-drop s b)) in
+    subst HasNoFeed (sym (same ∙ ap (λ (h : Held). h.kept) c.self.view_is)) c.requires

@@ -1,4 +1,4 @@
--- `of` calls `into_raw_with_allocator`, and its grip owns what the box owned.
+-- `of` calls `into_raw_with_allocator`, and its raw box owns what the box owned.
 use Rattle.std.proofs.Common.{◌≡◌, List, [], ◌∷◌, ◌++◌, refl, sym, ap, ◌∙◌, subst}
 use mir.Syntax.{a_type, dcons, dnil}
 use mir.Raw.{raw as bare}
@@ -34,11 +34,11 @@ use Rattle.std.proofs.BoxSteps.Steps.{box_out, box_in}
 use Rattle.std.proofs.raw_atomic.Walks.{proved_at, leaves}
 use Rattle.std.specs.contracts.boxed.Box.into_raw_with_allocator as callee
 use Rattle.std.proofs.boxed.Box.into_raw_with_allocator.Met.{met}
-use Rattle.n2k_c.proofs.Grips.{pair, pair_good, grip_in}
-use Rattle.n2k_c.specs.contracts.grip.Grip.of.{ended, clauses}
-use Rattle.n2k_c.specs.contracts.grip.Grip.of.Key.{name as #self}
-use Rattle.n2k_c.proofs.grip.Grip.of.Statement.{statement}
-use Rattle.n2k_c.proofs.grip.Grip.of.Code as code
+use Rattle.n2k_c.proofs.RawBoxes.{pair, pair_good, raw_box_in}
+use Rattle.n2k_c.specs.contracts.raw_box.RawBox.of.{ended, clauses}
+use Rattle.n2k_c.specs.contracts.raw_box.RawBox.of.Key.{name as #self}
+use Rattle.n2k_c.proofs.raw_box.RawBox.of.Statement.{statement}
+use Rattle.n2k_c.proofs.raw_box.RawBox.of.Code as code
 
 pub of_spec : {M : Type 1} → statement M
 of_spec 𝓤 𝓛 𝓜 𝓡 wired T A L LA g d dx dd allocator glue glued =
@@ -90,8 +90,8 @@ of_spec 𝓤 𝓛 𝓜 𝓡 wired T A L LA g d dx dd allocator glue glued =
     sets ! (of_opd ! (get_in ! (fld ! refl (stop !)) (sub ! 1 refl (whole !)))) refl good' $
     sets ! (of_opd ! (get ! refl)) refl good' $
     sets ! (agg ! (and_then ! (get ! refl) (and_then ! (get ! refl) (no_more !)))) refl typed' $
-    -- the grip, and that it has the value
-    move ! (3 ∷ 0 ∷ []) $ grip_in R Z LZ g ! b' o' word' a given.value $
+    -- the raw box, and that it has the value
+    move ! (3 ∷ 0 ∷ []) $ raw_box_in R Z LZ g ! b' o' word' a given.value $
     use0 𝓛 (raw (fact 𝓤 (given.value ≡ given.value))) (fact_i 𝓤 (given.value ≡ given.value) (emp 𝓤) refl) $ nothing ! $ nothing ! $ fjoin ! $
     returns ! (look_at ! 0 refl) $ free_all ! refl $ keep ! (4 ∷ 0 ∷ 2 ∷ 1 ∷ []) $
     by ! (leaves 𝓛 En hs c z (pair (vptr b' o') word') (record { at = block_ptr b' o'; alloc = a; value = given.value }) ((tt, (tt, tt)), tt) (tt, tt))))))))))))))

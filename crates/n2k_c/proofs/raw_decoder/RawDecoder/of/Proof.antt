@@ -1,4 +1,4 @@
--- `of` keeps what the grip owned.
+-- `of` keeps what the raw box owned.
 use Rattle.std.proofs.Common.{◌≡◌, List, [], ◌∷◌, ◌++◌, refl, sym, subst, Option, Some}
 use mir.Val.{Val, vptr}
 use base.Logic.{SProp, ent, emp, id⊢}
@@ -18,26 +18,26 @@ use denote.Triple.Entry.{alive}
 use denote.Triple.Walked.{Stays, stay_dropped, walk_of, Goes-dropped}
 use Rattle.std.proofs.raw_atomic.Walks.{proved_at, leaves}
 use Rattle.n2k_c.specs.declared.decoder.Decoder.{Decoder}
-use Rattle.n2k_c.proofs.Grips.{pair, Grip, pair_good, grip_out}
-use Rattle.n2k_c.proofs.Holds.{R, Z, LZ, g, word, hold_in}
-use Rattle.n2k_c.specs.contracts.hold.Hold.of.{ended, clauses}
-use Rattle.n2k_c.specs.contracts.hold.Hold.of.Key.{name as #self}
-use Rattle.n2k_c.proofs.hold.Hold.of.Statement.{statement}
-use Rattle.n2k_c.proofs.hold.Hold.of.Code as code
+use Rattle.n2k_c.proofs.RawBoxes.{pair, RawBox, pair_good, raw_box_out}
+use Rattle.n2k_c.proofs.RawDecoders.{R, Z, LZ, g, word, raw_decoder_in}
+use Rattle.n2k_c.specs.contracts.raw_decoder.RawDecoder.of.{ended, clauses}
+use Rattle.n2k_c.specs.contracts.raw_decoder.RawDecoder.of.Key.{name as #self}
+use Rattle.n2k_c.proofs.raw_decoder.RawDecoder.of.Statement.{statement}
+use Rattle.n2k_c.proofs.raw_decoder.RawDecoder.of.Code as code
 
 pub of_spec : {M : Type 1} → statement M
 of_spec 𝓤 𝓛 𝓜 𝓡 wired =
     let H = 𝓛.H in let 𝓣 = tables 𝓤 H 𝓜 𝓡 𝓡.env in let c = clauses 𝓛 𝓜.mem 𝓡.returns in
-    let hs : Stays ended.signature.params ended.kept = (stay_dropped (plain (λ _. Grip R Z LZ g)) yes, tt) in
-    proved_at 𝓛 ended hs c 𝓜 𝓡 (Goes-dropped 𝓛 0 (plain (λ _. Grip R Z LZ g)) yes (λ κs x f. refl), tt) #self code.function (code.unfolded 𝓤 H 𝓜 𝓡 wired) (λ z are.
+    let hs : Stays ended.signature.params ended.kept = (stay_dropped (plain (λ _. RawBox R Z LZ g)) yes, tt) in
+    proved_at 𝓛 ended hs c 𝓜 𝓡 (Goes-dropped 𝓛 0 (plain (λ _. RawBox R Z LZ g)) yes (λ κs x f. refl), tt) #self code.function (code.unfolded 𝓤 H 𝓜 𝓡 wired) (λ z are.
     let v = z.0.3.0 in let Post : Val → SProp 𝓤 = (walk_of 𝓛 ended hs c).post z in let Run : List Val → SProp 𝓤 = λ ws. WpFn 𝓤 H 𝓣.C 𝓣.Λ code.function ws Post in let Has : Option Decoder = Some v.value in
     qed 𝓛 ((raw (alive 𝓛 ended.signature z.0.0 z.0.1) ⊛ ‵ (owns (types_at ended.signature.params z.0.0) z.0.3 z.0.4)) ∷ raw ((c z.0.0 z.0.3).requires z.1) ∷ []) ∵ split ! $ move ! (1 ∷ []) $ fsplit ! $
-    grip_out R Z LZ g ! v z.0.4.0 (λ b o h e ws fits. let w : Val = pair (vptr b o) h in
+    raw_box_out R Z LZ g ! v z.0.4.0 (λ b o h e ws fits. let w : Val = pair (vptr b o) h in
     suffices ! (Run (w ∷ [])) (subst (λ (us : List Val). ent 𝓤 (Run (w ∷ [])) (Run us)) (sym (λ i. ws i ++ [])) (id⊢ 𝓤 (Run (w ∷ [])))) $
     enter ! 𝓣.C 𝓣.Λ code.function (w ∷ []) Post $ alloc_all ! (λ l. pass_all ! refl (pair_good R Z LZ g b o h fits, tt) $
     sets ! (of_opd ! (get_in ! (fld ! refl (stop !)) (sub ! 0 refl (whole !)))) refl (tt, tt) $
     sets ! (of_opd ! (get ! refl)) refl (tt, tt) $
-    sets ! (agg ! (and_then ! (get ! refl) (no_more !))) refl (tt, (tt, tt)) $ hold_in ! (block_ptr b o) (Some v.value) $
+    sets ! (agg ! (and_then ! (get ! refl) (no_more !))) refl (tt, (tt, tt)) $ raw_decoder_in ! (block_ptr b o) (Some v.value) $
     use0 𝓛 (raw (fact 𝓤 (Has ≡ Some v.value))) (fact_i 𝓤 (Has ≡ Some v.value) (emp 𝓤) refl) $ nothing ! $ nothing ! $ fjoin ! $
     returns ! (look_at ! 0 refl) $ free_all ! refl $ keep ! (5 ∷ 0 ∷ 2 ∷ 1 ∷ []) $
     by ! (leaves 𝓛 ended hs c z (word (block_ptr b o)) (record { at = block_ptr b o; holds = Some v.value }) (tt, tt) (tt, tt)))))

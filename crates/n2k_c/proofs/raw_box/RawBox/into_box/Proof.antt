@@ -1,4 +1,4 @@
--- `into_box` calls `from_raw` with what the grip owned.
+-- `into_box` calls `from_raw` with what the raw box owned.
 use Rattle.std.proofs.Common.{◌≡◌, List, [], ◌∷◌, ◌++◌, refl, sym, ap, subst}
 use mir.Syntax.{a_type, dcons, dnil}
 use mir.Val.{Val, vptr}
@@ -33,11 +33,11 @@ use Rattle.std.proofs.BoxSteps.Steps.{box_out, box_in}
 use Rattle.std.proofs.raw_atomic.Walks.{proved_at, leaves}
 use Rattle.std.specs.contracts.boxed.Box.from_raw as callee
 use Rattle.std.proofs.boxed.Box.from_raw.Met.{met}
-use Rattle.n2k_c.proofs.Grips.{pair, Grip, pair_good, grip_out}
-use Rattle.n2k_c.specs.contracts.grip.Grip.into_box.{ended, clauses}
-use Rattle.n2k_c.specs.contracts.grip.Grip.into_box.Key.{name as #self}
-use Rattle.n2k_c.proofs.grip.Grip.into_box.Statement.{statement}
-use Rattle.n2k_c.proofs.grip.Grip.into_box.Code as code
+use Rattle.n2k_c.proofs.RawBoxes.{pair, RawBox, pair_good, raw_box_out}
+use Rattle.n2k_c.specs.contracts.raw_box.RawBox.into_box.{ended, clauses}
+use Rattle.n2k_c.specs.contracts.raw_box.RawBox.into_box.Key.{name as #self}
+use Rattle.n2k_c.proofs.raw_box.RawBox.into_box.Statement.{statement}
+use Rattle.n2k_c.proofs.raw_box.RawBox.into_box.Code as code
 
 pub into_box_spec : {M : Type 1} → statement M
 into_box_spec 𝓤 𝓛 𝓜 𝓡 wired T A L LA g d dx dd allocator glue glued =
@@ -51,7 +51,7 @@ into_box_spec 𝓤 𝓛 𝓜 𝓡 wired T A L LA g d dx dd allocator glue glued 
     let E : box.Bx = record { row = T; laws = L; al = record { row = A; laws = LA; g = g; d = d; drops = dd } } in
     let args = bounded (a_type ∷ a_type ∷ []) (T, (A, tt)) (dcons d (dcons dx (dcons dd dnil))) in
     let fn = inst_fn args code.function in
-    let Given : RattleType = Grip R Z LZ g in
+    let Given : RattleType = RawBox R Z LZ g in
     let Whole : RattleType = box.B E in
     let hs : Stays En.signature.params En.kept = (stay_dropped (plain (λ _. Given)) no, tt) in
     proved_at 𝓛 En hs c 𝓜 𝓡 (Goes-blank 𝓛 2 (plain (λ _. Given)) no (λ κs x f. tt), tt) (#self args) fn (code.unfolded 𝓤 H 𝓜 𝓡 wired (T, (A, tt)) d dx dd) (λ z are.
@@ -63,7 +63,7 @@ into_box_spec 𝓤 𝓛 𝓜 𝓡 wired T A L LA g d dx dd allocator glue glued 
     let tokens = ‵ (flft κs.0 qs.0) ⊛ ‵ (flft κs.1.0 qs.1.0) ⊛ ‵ ftrue in
     let asked = raw ((c κs z.0.3).requires z.1) in
     qed 𝓛 ((tokens ⊛ ‵ (owns (types_at En.signature.params κs) z.0.3 z.0.4)) ∷ asked ∷ []) ∵ split ! $ move ! (1 ∷ []) $ fsplit ! $
-    grip_out R Z LZ g ! given z.0.4.0 (λ b o word at is good.
+    raw_box_out R Z LZ g ! given z.0.4.0 (λ b o word at is good.
     let v : Val = pair (vptr b o) word in
     let typed = pair_good R Z LZ g b o word good in
     let k = triple_of 𝓛 (callee.signature T A g d dd) (callee.spec T A g d dd 𝓛 𝓜.mem 𝓡.returns) in

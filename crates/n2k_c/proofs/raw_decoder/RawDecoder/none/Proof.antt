@@ -16,11 +16,11 @@ use denote.Triple.Entry.{alive}
 use denote.Triple.Walked.{Stays, walk_of}
 use Rattle.std.proofs.raw_atomic.Walks.{proved_at, leaves}
 use Rattle.n2k_c.specs.declared.decoder.Decoder.{Decoder}
-use Rattle.n2k_c.proofs.Holds.{word, hold_in}
-use Rattle.n2k_c.specs.contracts.hold.Hold.none.{ended, clauses}
-use Rattle.n2k_c.specs.contracts.hold.Hold.none.Key.{name as #self}
-use Rattle.n2k_c.proofs.hold.Hold.none.Statement.{statement}
-use Rattle.n2k_c.proofs.hold.Hold.none.Code as code
+use Rattle.n2k_c.proofs.RawDecoders.{word, raw_decoder_in}
+use Rattle.n2k_c.specs.contracts.raw_decoder.RawDecoder.none.{ended, clauses}
+use Rattle.n2k_c.specs.contracts.raw_decoder.RawDecoder.none.Key.{name as #self}
+use Rattle.n2k_c.proofs.raw_decoder.RawDecoder.none.Statement.{statement}
+use Rattle.n2k_c.proofs.raw_decoder.RawDecoder.none.Code as code
 
 pub none_spec : {M : Type 1} → statement M
 none_spec 𝓤 𝓛 𝓜 𝓡 wired =
@@ -31,7 +31,7 @@ none_spec 𝓤 𝓛 𝓜 𝓡 wired =
     qed 𝓛 ((raw (alive 𝓛 ended.signature z.0.0 z.0.1) ⊛ ‵ (owns (types_at ended.signature.params z.0.0) z.0.3 z.0.4)) ∷ raw ((c z.0.0 z.0.3).requires z.1) ∷ []) ∵ split ! $
     enter ! 𝓣.C 𝓣.Λ code.function [] Post $ alloc_all ! (λ l. pass_all ! refl tt $
     sets ! (agg ! (and_then ! (lit ! tt) (no_more !))) refl (tt, (record { fits = lit< tt }, tt)) $
-    nothing ! $ hold_in ! null_ptr None $
+    nothing ! $ raw_decoder_in ! null_ptr None $
     use0 𝓛 (raw (fact 𝓤 (Empty ≡ None))) (fact_i 𝓤 (Empty ≡ None) (emp 𝓤) refl) $ nothing ! $
     returns ! (look_at ! 0 refl) $ free_all ! refl $ keep ! (3 ∷ 0 ∷ 2 ∷ 1 ∷ []) $
     by ! (leaves 𝓛 ended hs c z (word null_ptr) (record { at = null_ptr; holds = None }) tt tt)))

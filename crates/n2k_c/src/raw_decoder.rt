@@ -5,42 +5,42 @@ ghost use Rattle.n2k_c.specs.contracts.decoder.Decoder.{the_row};
 ghost use Rattle.n2k_c.specs.Held.{owned_of};
 
 use crate::decoder::Decoder;
-use crate::grip::Grip;
+use crate::raw_box::RawBox;
 use std::alloc::Global;
 use std::marker::Model;
 use std::ptr::null_mut;
 
 #[repr(C)]
 #[derive(Drop)]
-pub struct Hold {
+pub struct RawDecoder {
     at: *mut u8,
     pub ghost holds: { Option Decoder },
 }
 
-impl Model for Hold {
+impl Model for RawDecoder {
     ghost also_owns = { λ h. owned_of the_row h.at h.holds };
 }
 
-impl Hold {
-    pub(crate) fn none() -> Hold
+impl RawDecoder {
+    pub(crate) fn none() -> RawDecoder
         ensures { result.holds ≡ None }
     {
-        Hold { at: null_mut() }
+        RawDecoder { at: null_mut() }
     }
 
-    pub(crate) fn of(grip: Grip<Decoder, Global>) -> Hold
-        ensures { result.holds ≡ Some grip.value }
+    pub(crate) fn of(raw: RawBox<Decoder, Global>) -> RawDecoder
+        ensures { result.holds ≡ Some raw.value }
     {
-        let Grip { at, alloc: _ } = grip;
-        Hold { at: at as *mut u8 }
+        let RawBox { at, alloc: _ } = raw;
+        RawDecoder { at: at as *mut u8 }
     }
 
-    pub(crate) fn into_grip(self, alloc: Global) -> Grip<Decoder, Global>
+    pub(crate) fn into_raw_box(self, alloc: Global) -> RawBox<Decoder, Global>
         requires { IsSome self.holds }
         ensures { Some result.value ≡ self.holds }
     {
-        let Hold { at } = self;
-        Grip {
+        let RawDecoder { at } = self;
+        RawBox {
             at: at as *mut Decoder,
             alloc,
         }

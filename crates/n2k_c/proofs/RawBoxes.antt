@@ -1,8 +1,8 @@
--- The machine value of a grip: the pointer of the box, then the word of its allocator. Assumes `Logic`.
+-- The machine value of a raw box: the pointer of the box, then the word of its allocator. Assumes `Logic`.
 --     pair          such a value
 --     pair_good     it has the type that the fields give
---     grip_out      a grip by value owns its box, at a block, and its allocator's word
---     grip_in       these two make a grip
+--     raw_box_out      a raw box by value owns its box, at a block, and its allocator's word
+--     raw_box_in       these two make a raw box
 use Rattle.std.proofs.Common.{◌≡◌, ℕ, List, [], ◌∷◌, ◌++◌, refl, subst, true, ◌&&◌, T}
 use seplogic.Ra.Ura.{Ura}
 use mir.Syntax.{impl, tnil, dnil}
@@ -26,20 +26,20 @@ use Rattle.std.proofs.alloc.Calls.{Al, handle_tells}
 use Rattle.std.proofs.cell.Inside.{Good}
 use Rattle.std.specs.Box.Ownership.{box_owns}
 use Rattle.std.proofs.ResultValues.{and_tt}
-use Rattle.n2k_c.specs.contracts.grip.Grip as grip
+use Rattle.n2k_c.specs.contracts.raw_box.RawBox as raw_box
 
 abbrev pub pair : Val → Val → Val
 pair pointer word = vstruct (vcons pointer (vcons word vnil))
 
 module _ (R Z : RattleType) (laws : Laws Z) (g : Ghosts Z.Denot) where
-  abbrev pub Grip : RattleType
-  Grip = grip.the_row R Z g
+  abbrev pub RawBox : RattleType
+  RawBox = raw_box.the_row R Z g
 
   abbrev pub allocates : Al
   allocates = record { row = Z; laws = laws; g = g; d = impl [] tnil dnil; drops = impl [] tnil dnil }
 
-  -- what a grip owns of its box, wherever that lies
-  abbrev pub boxed : Grip.Denot → Ptr → Fml
+  -- what a raw box owns of its box, wherever that lies
+  abbrev pub boxed : RawBox.Denot → Ptr → Fml
   boxed d p = box_owns (g.dealloc_token d.alloc) R p d.value
 
   pub pair_good : (b o : ℕ) (word : Val) → Good (layout Z) word → T (has_ty (layout Z) word && true) × WT (pair (vptr b o) word)
@@ -53,11 +53,11 @@ module _ (R Z : RattleType) (laws : Laws Z) (g : Ghosts Z.Denot) where
       (subst (λ (qs : List Val). vs ≡ vstruct (of_list (qs ++ (words ++ []))) ∷ []) is_p all))
 
   module _ {M : Type 1} {𝓤 : Ura M} {𝓛 : Logic 𝓤} {K : Type 0} {Γ : List (Item 𝓤)} {G : Goal 𝓤 𝓛.H} where
-    pub grip_out : K → (d : Grip.Denot) (vs : List Val)
+    pub raw_box_out : K → (d : RawBox.Denot) (vs : List Val)
         → ((b o : ℕ) (word : Val) → d.at ≡ block_ptr b o → vs ≡ pair (vptr b o) word ∷ [] → Good (layout Z) word
         → Seq K 𝓛 (‵ (boxed d (block_ptr b o)) ∷ ‵ (Z.own_val d.alloc (word ∷ [])) ∷ Γ) G)
-        → Seq K 𝓛 (‵ (Grip.own_val d vs) ∷ Γ) G
-    grip_out t d vs go =
+        → Seq K 𝓛 (‵ (RawBox.own_val d vs) ∷ Γ) G
+    raw_box_out t d vs go =
         let at_null : SProp 𝓤 = sem 𝓛 (g.dealloc_token d.alloc (bare (lone R.mir)) null_ptr) in
         -- the fields' values, what they spell, and the pointer's
         fsplit t $ fpick t (λ fields. fsplit t $ feq_l t (λ all. fsplit t $ feq_l t (λ is_p. fsplit t $
@@ -65,12 +65,12 @@ module _ (R Z : RattleType) (laws : Laws Z) (g : Ghosts Z.Denot) where
         in_a_block t d.at (boxed d) (fst∗ 𝓤 (never 𝓤) at_null) (λ b o at.
         go b o word at (spelled vs fields.1.0 d.at fields.0 b o word all is_p is_word at) good)))))
 
-    pub grip_in : K → (b o : ℕ) (word : Val) (a : Z.Denot) (x : R.Denot)
-        → Step K 𝓛 (‵ (Grip.own_val (record { at = block_ptr b o; alloc = a; value = x }) (pair (vptr b o) word ∷ [])) ∷ Γ) G
+    pub raw_box_in : K → (b o : ℕ) (word : Val) (a : Z.Denot) (x : R.Denot)
+        → Step K 𝓛 (‵ (RawBox.own_val (record { at = block_ptr b o; alloc = a; value = x }) (pair (vptr b o) word ∷ [])) ∷ Γ) G
         (‵ (box_owns (g.dealloc_token a) R (block_ptr b o) x) ∷ ‵ (Z.own_val a (word ∷ [])) ∷ Γ) G
-    grip_in t b o word a x = step (λ rest.
+    raw_box_in t b o word a x = step (λ rest.
         let whole : List Val = pair (vptr b o) word ∷ [] in
-        let held = within (shape (grip.the_type R Z g)) (block_ptr b o, (a, tt)) whole in
+        let held = within (shape (raw_box.the_type R Z g)) (block_ptr b o, (a, tt)) whole in
         nothing t $ move t (2 ∷ 0 ∷ []) $ fjoin t $
         feq_i t (List Val) (vptr b o ∷ []) (vptr b o ∷ []) refl $ fjoin t $
         feq_i t (List Val) whole whole refl $ fjoin t $
