@@ -27,7 +27,7 @@
 //! is rounded, and there is no floating-point number. A message that no definition matches is printed with its data as
 //! they are.
 //!
-//! Each example is a test of `n2k_tests`, in the same words. In them `rt` is the runtime that `main` or a test is
+//! Each example is a test of `n2k_table_tests`, in the same words. In them `rt` is the runtime that `main` or a test is
 //! handed, and `alloc` its allocator, `rt.alloc()`; `frame_in(line)` is the packet of a line's frame, and
 //! `sample_table` and `pairs_table` read tables of three and of four messages.
 #![tactic(auto)]

@@ -1,9 +1,9 @@
 //! Calls that append leave their vector byte for byte as it was where a growth is refused. `tests/faults/refused-growth`
 //! lets each growth fail in turn.
-use crate::samples::sample;
 use n2k_join::{Broken, Counts};
 use n2k_run::{bad_text, broken_text, summary_text};
 use n2k_table::{Table, decimal_text, json_line};
+use n2k_table_tests::samples::sample;
 use n2k_wire::{
     BadCause, Entry, Packet, Packing, candump_text, is_interface, plain_text, read_line,
 };

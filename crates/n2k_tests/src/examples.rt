@@ -4,19 +4,9 @@
 //! Each function holds one example, or several of one type. Nothing but the making of `alloc` stands before them.
 mod join;
 mod run;
-mod table;
-mod wire;
 
 use n2k_wire::{Entry, Packet, Packing, read_line};
 use std::test::Fail;
-
-// The packet of a line, as a frame.
-fn frame_in(line: &str) -> Result<Packet, Fail> {
-    match read_line(line.as_bytes(), Packing::Frames) {
-        Entry::Frame(packet) => Ok(packet),
-        _ => Err("no frame".into()),
-    }
-}
 
 // The packet of a plain line, as a whole message.
 fn message_in(line: &str) -> Result<Packet, Fail> {

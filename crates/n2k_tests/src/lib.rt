@@ -1,6 +1,6 @@
-//! The tests of the four libraries, over their public calls: lines and texts (`wire`), tables, values and JSON lines
-//! (`table`), groups, states and frames (`join`), devices and runs (`run`). `examples` has the examples of the doc
-//! comments, `appending` what calls that append leave, `samples` what several of them take.
+//! The tests of the upper two libraries, over their public calls: groups, states and frames (`join`), devices and runs
+//! (`run`). `examples` has the examples of their doc comments, `appending` what calls that append leave, of all four
+//! libraries, `samples` what several of them take. Those of the lower two stand in `n2k_table_tests`.
 //!
 //! They stand in a crate of their own so that each library is proved once; a crate with tests is proved twice.
 #![tactic(auto)]
@@ -15,7 +15,3 @@ mod join;
 mod run;
 #[cfg(test)]
 mod samples;
-#[cfg(test)]
-mod table;
-#[cfg(test)]
-mod wire;

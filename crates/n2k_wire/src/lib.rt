@@ -22,7 +22,7 @@
 //!
 //! No other call takes memory. Each answer is a stated function of the bytes that were given.
 //!
-//! Each example is a test of `n2k_tests`, in the same words. In them `rt` is the runtime that `main` or a test is
+//! Each example is a test of `n2k_table_tests`, in the same words. In them `rt` is the runtime that `main` or a test is
 //! handed, and `alloc` its allocator, `rt.alloc()`; `frame_in(line)` is the packet of a line's frame.
 #![tactic(auto)]
 

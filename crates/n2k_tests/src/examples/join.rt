@@ -1,7 +1,8 @@
 //! Examples of `n2k_join`.
 use super::message_in;
-use crate::samples::{sample as sample_table, spelled};
+use crate::samples::spelled;
 use n2k_join::{Counts, Join, Splitter, StateFault, Stream, Window, message_of};
+use n2k_table_tests::samples::sample as sample_table;
 use n2k_wire::{BadCause, Packing, read_line, split_id};
 use std::alloc::Global;
 use std::test::Fail;

@@ -1,11 +1,11 @@
 //! Examples of `n2k_run`.
-use crate::samples::sample as sample_table;
 use n2k_join::{Broken, Counts, Join, Window};
 use n2k_run::{
     Blocks, BytesFault, Failed, MemorySink, MemorySource, Next, Options, Sink, Source, StdSink,
     StdSource, bad_text, broken_text, read_bytes, run, run_frames, run_frames_counted, run_more,
     run_part, run_parts, run_plain, run_plain_counted, summary_text, write_all, write_summary,
 };
+use n2k_table_tests::samples::sample as sample_table;
 use n2k_wire::{BadCause, Packing, is_interface};
 use std::test::Fail;
 

@@ -4,9 +4,10 @@ use super::logs::{
     MIXED_MESSAGE, ODD_FRAMES, REPEAT_BREAKS, SHORT_LAST_FRAME, SHORT_TOTALS, TWO_SOURCES,
     seventy_senders,
 };
-use crate::samples::{long_window, sample, shortest_window, take};
+use crate::samples::{long_window, shortest_window, take};
 use n2k_join::{Broken, Counts, Join, JoinFault, Step, Window};
 use n2k_table::Table;
+use n2k_table_tests::samples::sample;
 use n2k_wire::{Packing, plain_text, read_line};
 use std::alloc::Global;
 use std::process::Abort;

@@ -3,9 +3,10 @@ use super::logs::{
     EIGHT_UNDER_WAY, EXTRA_FRAME, FRAMES_IN_REVERSE, MIXED_MESSAGE, ODD_FRAMES, REPEAT_BREAKS,
     SHORT_LAST_FRAME, SHORT_TOTALS, TWO_SOURCES, seventy_senders,
 };
-use crate::samples::{long_window, sample, take};
+use crate::samples::{long_window, take};
 use n2k_join::{Counts, Join, JoinFault};
 use n2k_table::Table;
+use n2k_table_tests::samples::sample;
 use std::alloc::Global;
 use std::process::Abort;
 use std::test::Fail;

@@ -1,7 +1,7 @@
 //! The frames that messages are sent in.
-use crate::samples::sample;
 use n2k_join::{SplitFault, Splitter};
 use n2k_table::Table;
+use n2k_table_tests::samples::sample;
 use n2k_wire::{Entry, Id, Packet, Packing, plain_text, read_line};
 use std::alloc::Global;
 use std::process::Abort;

@@ -1,7 +1,8 @@
 //! The states that are taken, and why others are refused.
-use crate::samples::{long_window, sample, shortest_window, spelled, take};
+use crate::samples::{long_window, shortest_window, spelled, take};
 use n2k_join::{Join, JoinFault, StateFault, Window};
 use n2k_table::Table;
+use n2k_table_tests::samples::sample;
 use std::alloc::Global;
 use std::process::Abort;
 use std::test::Fail;

@@ -3,11 +3,11 @@ use super::options::{
     REPEAT_BREAKS, REPEAT_BREAKS_REPORT, REPEAT_BREAKS_TEXT, TWO_SOURCES, TWO_SOURCES_TEXT, frames,
     has_summary,
 };
-use crate::samples::{long_window, sample, shortest_window};
-use crate::table::tables::pairs_table;
+use crate::samples::{long_window, shortest_window};
 use n2k_join::Join;
 use n2k_run::{MemorySink, MemorySource, Options, run};
 use n2k_table::Table;
+use n2k_table_tests::samples::{pairs_table, sample};
 use n2k_wire::Packing;
 use serde_json::Value;
 use std::alloc::{AllocError, Global};

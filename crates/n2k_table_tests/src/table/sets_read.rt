@@ -1,6 +1,7 @@
 //! What a table says of sets whose strings say how long they are, and of sets behind a string: what reads, and what is
 //! answered where it does not.
-use super::tables::{answers, replaced};
+use super::tables::answers;
+use crate::samples::replaced;
 use std::process::Abort;
 use std::test::Fail;
 

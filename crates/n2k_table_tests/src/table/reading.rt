@@ -1,6 +1,6 @@
 //! Tables with one change each.
-use super::tables::{PAIRS, answers, replaced, sample_2};
-use crate::samples::{SAMPLE, SAMPLE_ID, sample};
+use super::tables::answers;
+use crate::samples::{PAIRS, SAMPLE, SAMPLE_ID, replaced, sample, sample_2};
 use n2k_table::{Kind, Table, TableFault};
 use std::process::Abort;
 use std::test::Fail;

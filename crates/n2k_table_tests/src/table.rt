@@ -13,4 +13,4 @@ mod sets_shown;
 mod shown;
 mod strings_read;
 mod strings_shown;
-pub(crate) mod tables;
+mod tables;

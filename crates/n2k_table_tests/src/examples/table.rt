@@ -1,7 +1,6 @@
 //! Examples of `n2k_table`.
 use super::frame_in;
-use crate::samples::sample as sample_table;
-use crate::table::tables::pairs_table;
+use crate::samples::{pairs_table, sample as sample_table};
 use n2k_table::{
     Kind, LineBuffer, Shown, Table, TableFault, decimal_text, json_line, json_line_in, json_line_of,
 };

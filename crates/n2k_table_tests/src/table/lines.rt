@@ -1,6 +1,5 @@
 //! JSON lines.
-use super::tables::{pairs_table, replaced, sample_2};
-use crate::samples::{SAMPLE, read, sample};
+use crate::samples::{SAMPLE, pairs_table, read, replaced, sample, sample_2};
 use n2k_table::{Table, json_line};
 use n2k_wire::{Id, Packet};
 use std::alloc::Global;

@@ -1,5 +1,6 @@
 //! What a table says of strings and of the fields behind them: what reads, and what is answered where it does not.
-use super::tables::{answers, of_format, replaced};
+use super::tables::{answers, of_format};
+use crate::samples::replaced;
 use std::process::Abort;
 use std::test::Fail;
 

@@ -1,7 +1,7 @@
 //! What numbers, fields and sets show.
 use super::lines::printed;
-use super::tables::{pairs_table, with_fields};
-use crate::samples::read;
+use super::tables::with_fields;
+use crate::samples::{pairs_table, read};
 use n2k_table::{Fields, Shown, Table, decimal_text};
 use std::alloc::Global;
 use std::mem::ManuallyDrop;
