@@ -1,7 +1,6 @@
 -- From what a run, the place of a state and the summary leave to what a command leaves.
-use Rattle.std.proofs.Common.{◌≡◌, ◌⊎◌, ◌≤◌, ◌+◌, length, ◌==◌, ◌++◌, Bool, true, false, cond, arith, ◌∙◌, ℕ, List, [], Option, Some, Ok, Err, Result, IfSome, ap, sym, subst, refl, inl, inr, append_assoc, ap₂, None}
+use Rattle.std.proofs.Common.{◌≡◌, ◌+◌, length, ◌++◌, true, false, arith, ◌∙◌, ℕ, List, [], Option, Some, Ok, Err, Result, IfSome, ap, sym, subst, refl, inl, inr, append_assoc, None}
 use Rattle.std.proofs.KnownBytes.{Appends-nil, Appends-trans}
-use Rattle.std.proofs.lemmas.Bool.{false≢true}
 use Rattle.std.specs.Io.KnownBytes.{Appends}
 use Rattle.n2k_wire.specs.declared.entry.Entry.{Entry}
 use Rattle.n2k_join.specs.declared.counts.Counts.{Counts}
@@ -24,7 +23,7 @@ use Rattle.n2kdec.specs.Fault.{exit_status, fault_of_run}
 use Rattle.n2kdec.specs.declared.ending.Ending.{Ending}
 use Rattle.n2kdec.specs.declared.fault.Fault.{Fault}
 use Rattle.n2kdec.specs.declared.fault.Reading.TheVariants as reading
-use Rattle.n2kdec.specs.declared.fault.Fault.TheVariants.{Memory, Read, Report, Save, Table}
+use Rattle.n2kdec.specs.declared.fault.Fault.TheVariants.{Memory, Read, Report, Table}
 use Rattle.n2kdec.specs.declared.keeper.Unkept.{Unkept}
 use Rattle.n2kdec.specs.declared.work.Stop.{Stop}
 use Rattle.n2kdec.specs.Work.{RefusesTable, AnswersWhole}

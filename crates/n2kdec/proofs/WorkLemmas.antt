@@ -1,5 +1,5 @@
 -- From what the work of a command and its closing leave to what the command leaves.
-use Rattle.std.proofs.Common.{◌≡◌, ℕ, List, [], ◌++◌, Option, Some, Ok, Err, Result, IfOk, IfSome, ap, refl, sym, subst, inl, inr}
+use Rattle.std.proofs.Common.{◌≡◌, ℕ, List, [], Option, Some, Ok, Err, Result, ap, refl, sym, subst, inl, inr}
 use Rattle.std.specs.Prelude.{None, IfErr}
 use Rattle.n2k_run.specs.Decoded.{join_fold}
 use Rattle.n2k_run.specs.Parts.{IsOfKind, RunsFrom}
@@ -11,10 +11,7 @@ use Rattle.n2k_run.specs.declared.part.PartFault.TheVariants as part_faults
 use Rattle.n2k_run.proofs.Parting.{told_stopped}
 use Rattle.n2kdec.specs.Told.{Counts as CountsOf, CountsLines, Tells}
 use Rattle.n2kdec.specs.declared.difference.Difference.{Difference}
-use Rattle.n2k_run.proofs.Ending.{all_came}
-use Rattle.n2k_wire.specs.declared.entry.Entry.{Entry}
 use Rattle.n2k_join.specs.Messages.{counts}
-use Rattle.n2k_run.specs.Entries.{entries}
 use Rattle.n2k_run.specs.FramesOut.{frame_counts_of, frames_output}
 use Rattle.n2k_run.specs.Plain.{plain_counts_of, plain_output}
 use Rattle.n2k_run.specs.Runs.{Devices, Runs, output_from}
@@ -23,9 +20,9 @@ use Rattle.n2k_table.specs.Table.{faults, kind, table as table_of}
 use Rattle.clap.specs.Words.{Text}
 use Rattle.n2k_join.specs.declared.counts.Counts.{Counts}
 use Rattle.n2kdec.specs.Asked.{save_name}
-use Rattle.n2kdec.specs.Commands.{Effect, EndsByTable, IsDone, IsRefusal, Kept, Performs, Place, Shelf, decode_effect, entries_for, frames_effect, place, plain_effect, shelf}
-use Rattle.n2kdec.specs.Fault.{exit_status, fault_of_run}
-use Rattle.n2kdec.specs.Inner.Closing.{Closes, ClosesPart, FollowsStop, SumsUp}
+use Rattle.n2kdec.specs.Commands.{Effect, EndsByTable, IsRefusal, Kept, Performs, Place, Shelf, frames_effect, place, plain_effect, shelf}
+use Rattle.n2kdec.specs.Fault.{fault_of_run}
+use Rattle.n2kdec.specs.Inner.Closing.{ClosesPart, FollowsStop, SumsUp}
 use Rattle.n2kdec.specs.Work.{AnswersWhole, DoesDecode, DoesFrames, IsOfFault, RefusesTable, Works, answer_of_part}
 use Rattle.n2kdec.specs.declared.ending.Ending.{Ending}
 use Rattle.n2kdec.specs.declared.fault.Fault.{Fault}

@@ -1,6 +1,6 @@
 -- What is told of a fault besides its name: what a state is of that is refused, how far a log was read, and what was
 -- read when memory was refused.
-use Rattle.std.specs.Prelude.{◌≡◌, ℕ, List, Option, Some, None, IfSome, Ok, codes, option_and_then, option_map}
+use Rattle.std.specs.Prelude.{◌≡◌, ℕ, List, Option, Some, None, Ok, codes, option_and_then, option_map}
 use Rattle.std.specs.Io.KnownBytes.{Consumes}
 use Rattle.hex.specs.Hex.{encode_lower}
 use Rattle.serde_json.specs.Data.{Data}
