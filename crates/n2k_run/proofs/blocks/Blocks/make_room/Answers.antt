@@ -29,6 +29,6 @@ returns-else-self-eq-BLOCK-clause-no_feed c =
     let n = c.self.inside.end - s in
     let long : s + n ≤ length b = omega arith in
     let same : slice_range c.copy_within.new.self 0 n ≡ slice_range b s c.self.inside.end =
-        ap (λ k. take k c.copy_within.new.self) (let is : n - 0 ≡ n = omega arith in is) ∙ ap (take n) c.copy_within.ensures.after
-        ∙ ap (λ k. take k (paste b 0 (drop s b) n)) (let is : n ≡ 0 + n = omega arith in is) ∙ take-paste b 0 (drop s b) n (omega arith) (omega (arith, length-drop s b)) in
+    ap (λ k. take k c.copy_within.new.self) (let is : n - 0 ≡ n = omega arith in is) ∙ ap (take n) c.copy_within.ensures.after
+    ∙ ap (λ k. take k (paste b 0 (drop s b) n)) (let is : n ≡ 0 + n = omega arith in is) ∙ take-paste b 0 (drop s b) n (omega arith) (omega (arith, length-drop s b)) in
     subst HasNoFeed (sym (same ∙ ap (λ (h : Held). h.kept) c.self.view_is)) c.requires
