@@ -6,7 +6,7 @@ use Rattle.clap.specs.Words.{Text}
 use Rattle.n2kdec.specs.Destination.{folder_of}
 use Rattle.n2kdec.specs.Disk.{Act, Acts, Answers, Call, acted, failure, kind_of, noted, open_at, remove, rename, set_mode, sync_folder}
 use Rattle.n2kdec.specs.Folder.{Name, Target, Temp, act_at, behind, is_taken, path_of}
-use Rattle.n2kdec.specs.Replacement.{By, Doing, IsAppended, IsFoundFor, IsKept, IsKeptAs, IsMade, IsMadeAnew, IsModed, IsNamed, IsOne, IsOver, IsPlaced, IsWritten, KeepsText, Makes, Then, judged, make}
+use Rattle.n2kdec.specs.Replacement.{By, Doing, IsAppended, IsFoundFor, IsKept, IsKeptAs, IsMade, IsModed, IsNamed, IsOne, IsOver, IsPlaced, IsWritten, KeepsText, Makes, Then, failed, judged, make}
 use Rattle.n2kdec.specs.declared.destination.Destination.{Destination}
 use Rattle.n2kdec.specs.declared.destination.Kind.{Kind}
 use Rattle.n2kdec.specs.declared.destination.Kind.TheVariants.{Alone, Shared, Special}
@@ -56,7 +56,7 @@ module _ (d : Destination) where
   pub made_at_once : (a b : Acts) (answer : Result (Unit {0}) Error) (result : Result (Unit {0}) Unplaced) → Makes d a b (IsOne make) answer → is_taken (option_map kind_of (failure answer)) ≡ false → result ≡ judged answer → Makes d a b IsMade result
   made_at_once a b answer result (made, from, is) free same = (made, from, (answer, inl (free, same, is)))
 
-  pub made_anew : (a b c : Acts) (answer : Result (Unit {0}) Error) (result : Result (Unit {0}) Unplaced) → Makes d a b (IsOne make) answer → is_taken (option_map kind_of (failure answer)) ≡ true → Makes d b c IsMadeAnew result → Makes d a c IsMade result
+  pub made_anew : (a b c : Acts) (answer : Result (Unit {0}) Error) (result : Result (Unit {0}) Unplaced) → Makes d a b (IsOne make) answer → is_taken (option_map kind_of (failure answer)) ≡ true → Makes d b c (Then (By judged (IsOne (remove Temp))) (By failed (IsOne make))) result → Makes d a c IsMade result
   made_anew a b c answer result (made, from, is) taken (later, to, anew) =
       (later ++ made, to ∙ ap (behind d later) from ∙ sym (both later made a), (answer, inr (later, taken, anew, ap (λ acts. later ++ acts) is)))
 

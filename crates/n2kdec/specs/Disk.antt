@@ -1,6 +1,6 @@
 -- The system's files, as a contract can see them: what they answer of paths, and the calls that may change them.
 use Rattle.std.specs.Prelude.{◌≡◌, ◌⊎◌, ◌∷◌, ℕ, List, Option, Some, None, option_map}
-use Rattle.std.specs.Prelude.{Result, Ok, Err}
+use Rattle.std.specs.Prelude.{MatchResult, Result, Ok, Err}
 use Rattle.std.specs.IoError.{error_kind}
 use Rattle.std.specs.declared.io.Error.{Error}
 use Rattle.std.specs.declared.io.ErrorKind.{ErrorKind}
@@ -27,7 +27,7 @@ pub record Answers : Type 0 where
   pub link : Text → Result Text Why
   pub real : Text → Result Text Why
 
--- the known answer is an error, and this one
+-- the known answer is this error, or one of its kind
 abbrev pub IsError : {V : Type 0} → Result V Why → Error → Type 0
 IsError known error = (known ≡ Err (This error)) ⊎ (known ≡ Err (OfKind (error_kind error)))
 
@@ -37,8 +37,7 @@ IsOfMemory error = error_kind error ≡ OutOfMemory
 
 -- this is the known answer
 abbrev pub IsAnswer : {T V : Type 0} → (T → V) → Result V Why → Result T Error → Type 0
-IsAnswer view known (Ok value) = known ≡ Ok (view value)
-IsAnswer view known (Err error) = IsError known error
+IsAnswer view known result = MatchResult result (λ value. known ≡ Ok (view value)) (λ error. IsError known error)
 
 -- or memory was refused
 abbrev pub IsAnswerUnlessMemory : {T V : Type 0} → (T → V) → Result V Why → Result T Error → Type 0

@@ -62,14 +62,6 @@ fault_line (Memory read) = codes "n2kdec: memory\n"
 fault_line Lines = codes "n2kdec: lines\n"
 fault_line (Save why) = codes "n2kdec: save\n"
 
-abbrev pub table_status : TableFault → ℕ
-table_status table.Memory = 3
-table_status _ = 2
-
-abbrev pub state_status : StateFault → ℕ
-state_status state.Memory = 3
-state_status _ = 2
-
 -- 2 where the words, the table or the state are refused, 3 where a file, a device, memory or the limit of lines ended
 -- it
 abbrev pub status_of : Fault → ℕ
@@ -77,16 +69,11 @@ status_of Words = 2
 status_of Interface = 2
 status_of TableSize = 2
 status_of StateSize = 2
-status_of (Table fault) = table_status fault
-status_of (State fault of) = state_status fault
-status_of (TableFile why) = 3
-status_of (StateFile why) = 3
-status_of (Read lines why unkept) = 3
-status_of (Write why) = 3
-status_of Report = 3
-status_of (Memory read) = 3
-status_of Lines = 3
-status_of (Save why) = 3
+status_of (Table table.Memory) = 3
+status_of (Table fault) = 2
+status_of (State state.Memory of) = 3
+status_of (State fault of) = 2
+status_of _ = 3
 
 -- what the program says of the fault of a run that took so many lines
 abbrev pub fault_of_run : RunFault → ℕ → Fault

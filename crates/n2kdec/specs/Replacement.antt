@@ -55,13 +55,11 @@ judged (Err error) = Err (if is_refusal (error_kind error) then Refused else Fai
 abbrev pub make : Call Name
 make = open_at Temp makes_new
 
-abbrev pub IsMadeAnew : Doing Unplaced
-IsMadeAnew result made = Then (By judged (IsOne (remove Temp))) (By failed (IsOne make)) result made
-
 abbrev pub IsMade : Doing Unplaced
 IsMade result made = (answer : Result (Unit {0}) Error)
     × (((is_taken (option_map kind_of (failure answer)) ≡ false) × (result ≡ judged answer) × IsOne make answer made)
-    ⊎ ((later : List (Act Name)) × (is_taken (option_map kind_of (failure answer)) ≡ true) × IsMadeAnew result later
+    ⊎ ((later : List (Act Name)) × (is_taken (option_map kind_of (failure answer)) ≡ true)
+    × Then (By judged (IsOne (remove Temp))) (By failed (IsOne make)) result later
     × (made ≡ later ++ acted make answer ∷ [])))
 
 -- it gets the permissions of the file in whose place it comes, if one is there, and the text, and is synced

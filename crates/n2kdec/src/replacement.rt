@@ -4,7 +4,7 @@
 ghost use Rattle.std.specs.Prelude.{◌≡◌, option_map};
 ghost use Rattle.n2kdec.specs.Disk.{failure, kind_of, open_at, remove, rename, sync_folder};
 ghost use Rattle.n2kdec.specs.Folder.{Target, Temp, is_refusal, is_taken, writes_behind};
-ghost use Rattle.n2kdec.specs.Replacement.{IsAppended, IsFilled, IsKept, IsKeptAs, IsMade, IsMadeAnew, IsModed, IsNamed, IsOne};
+ghost use Rattle.n2kdec.specs.Replacement.{IsAppended, IsFilled, IsKept, IsKeptAs, IsMade, IsModed, IsNamed, IsOne};
 ghost use Rattle.n2kdec.specs.Replacement.{IsOver, IsPlaced, IsPoured, IsWritten, KeepsText, Makes, empty, failed, judged, make};
 
 #[cfg(test)]
