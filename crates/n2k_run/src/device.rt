@@ -1,5 +1,6 @@
 //! Devices: where a run's bytes come from, and where its texts go.
-ghost use Rattle.std.specs.Prelude.{◌≡◌, ◌<◌, ◌≤◌, ℕ, List, Option, length, IfOk};
+ghost use Rattle.std.specs.Prelude.{◌≡◌, ◌<◌, ◌≤◌, ℕ, List, None, Option, length, IfOk, IsOk};
+ghost use Rattle.std.specs.declared.io.Error.{Error};
 ghost use Rattle.std.specs.Io.KnownBytes.{ReadConsumes, WriteAppends};
 ghost use Rattle.n2k_run.specs.Device.{CountsFailure, one_more};
 
@@ -14,6 +15,9 @@ pub trait Source {
 
     /// How many of its calls have failed. At 2^64 - 1 the number stays.
     ghost failed_calls: { Self → ℕ };
+
+    /// The error of the last call that failed, where it is known.
+    ghost why: { Self → Option Error } = { λ _. None };
 
     /// The bytes that it has left, where they are known.
     ghost remaining: { Self → Option (List ℕ) };
@@ -35,13 +39,17 @@ pub trait Source {
         ensures bound { IfOk result (λ n. n ≤ length buffer.new) }
         ensures bytes { ReadConsumes (remaining self.old) (remaining self.new) result buffer.new }
         ensures called { calls self.new ≡ one_more (calls self.old) }
-        ensures counted { CountsFailure (failed_calls self.old) (failed_calls self.new) result };
+        ensures counted { CountsFailure (failed_calls self.old) (failed_calls self.new) result }
+        ensures kept { IsOk result → why self.new ≡ why self.old };
 }
 
 /// A device that takes bytes.
 pub trait Sink {
     /// How many of its calls have failed. At 2^64 - 1 the number stays.
     ghost failed_calls: { Self → ℕ };
+
+    /// The error of the last call that failed, where it is known.
+    ghost why: { Self → Option Error } = { λ _. None };
 
     /// The bytes that it holds, where they are known.
     ghost contents: { Self → Option (List ℕ) };
@@ -60,5 +68,6 @@ pub trait Sink {
         ensures bound { IfOk result (λ n. n ≤ length piece.now) }
         ensures moves { IfOk result (λ n. 0 < length piece.now → 0 < n) }
         ensures bytes { WriteAppends (contents self.old) (contents self.new) result piece.now }
-        ensures counted { CountsFailure (failed_calls self.old) (failed_calls self.new) result };
+        ensures counted { CountsFailure (failed_calls self.old) (failed_calls self.new) result }
+        ensures kept { IsOk result → why self.new ≡ why self.old };
 }

@@ -1,8 +1,8 @@
 //! Devices over the readers and writers of the standard library.
-ghost use Rattle.std.specs.Prelude.{◌≡◌, ◌<◌, ◌≤◌, length, IfErr, IfOk, IsErr, MatchResult, Ok, Some};
+ghost use Rattle.std.specs.Prelude.{◌≡◌, ◌<◌, ◌≤◌, length, IfOk, IsErr, MatchResult, Ok};
 ghost use Rattle.std.specs.Io.KnownBytes.{ReadConsumes, WriteAppends};
-ghost use Rattle.n2k_run.specs.Device.{CountsFailure};
-ghost use Rattle.n2k_run.specs.Inner.Failures.{count_of, last_of};
+ghost use Rattle.n2k_run.specs.Device.{IsWhy};
+ghost use Rattle.n2k_run.specs.Inner.Failures.{count_of, last_of, noted};
 
 use crate::device::{Failed, Sink, Source};
 use std::io;
@@ -50,24 +50,16 @@ struct Failures {
     before: u64,
 }
 
-/// How many calls failed, with one more.
-fn counted(failures: &Option<Failures>) -> u64
-    ensures { result ≡ count_of failures.now }
-{
-    match failures {
-        Some(failures) => failures.before.saturating_add(1),
-        None => 0,
-    }
-}
-
 /// Counts a call, where it failed, and notes why.
 fn note(answer: io::Result<usize>, failures: &mut Option<Failures>) -> Result<usize, Failed>
     ensures answered { MatchResult result (λ n. answer ≡ Ok n) (λ _. IsErr answer) }
-    ensures counted { CountsFailure (count_of failures.old) (count_of failures.new) result }
-    ensures noted { IfErr answer (λ error. last_of failures.new ≡ Some error) }
+    ensures noted { failures.new ≡ noted answer failures.old }
 {
     if let Err(last) = answer {
-        let before = counted(failures);
+        let before = match failures {
+            Some(failures) => failures.before.saturating_add(1),
+            None => 0,
+        };
         *failures = Some(Failures { last, before });
     }
     answer.map_err(|_| Failed)
@@ -78,13 +70,10 @@ fn note(answer: io::Result<usize>, failures: &mut Option<Failures>) -> Result<us
 pub struct StdSource<R> {
     reader: R,
     calls: u64,
-    failures: Option<Failures>,
+    failed_reads: Option<Failures>,
 }
 
 impl<R: Read> StdSource<R> {
-    ghost use Rattle.std.specs.Prelude.{◌≡◌};
-    ghost use Rattle.n2k_run.specs.Device.{IsWhy};
-
     /// A source that gives what the reader gives.
     ///
     /// ```rust
@@ -101,7 +90,7 @@ impl<R: Read> StdSource<R> {
         StdSource {
             reader,
             calls: 0,
-            failures: None,
+            failed_reads: None,
         }
     }
 
@@ -113,24 +102,26 @@ impl<R: Read> StdSource<R> {
     /// assert!(rt; source.failure().is_none());
     /// ```
     pub fn failure(&self) -> Option<Error>
-        ensures last { result ≡ last_of self.now.failures }
+        ensures last { result ≡ ⟦<StdSource<R> as Source>⟧.why self.now }
         ensures told { IsWhy (⟦<StdSource<R> as Source>⟧.failed_calls self.now) result }
     {
-        Some(self.failures.as_ref()?.last)
+        Some(self.failed_reads.as_ref()?.last)
     }
 }
 
 impl<R: Read> Source for StdSource<R> {
     ghost calls = { λ s. s.calls };
 
-    ghost failed_calls = { λ s. count_of s.failures };
+    ghost failed_calls = { λ s. count_of s.failed_reads };
+
+    ghost why = { λ s. last_of s.failed_reads };
 
     ghost remaining = { λ s. R.remaining s.reader };
 
     fn read(&mut self, buffer: &mut [u8]) -> Result<usize, Failed> {
         let answer = read_retrying(&mut self.reader, buffer);
         self.calls = self.calls.saturating_add(1);
-        note(answer, &mut self.failures)
+        note(answer, &mut self.failed_reads)
     }
 }
 
@@ -138,13 +129,10 @@ impl<R: Read> Source for StdSource<R> {
 #[derive(Drop)]
 pub struct StdSink<W> {
     writer: W,
-    failures: Option<Failures>,
+    failed_writes: Option<Failures>,
 }
 
 impl<W: Write> StdSink<W> {
-    ghost use Rattle.std.specs.Prelude.{◌≡◌};
-    ghost use Rattle.n2k_run.specs.Device.{IsWhy};
-
     /// A sink whose bytes go to the writer.
     ///
     /// ```rust
@@ -160,7 +148,7 @@ impl<W: Write> StdSink<W> {
     {
         StdSink {
             writer,
-            failures: None,
+            failed_writes: None,
         }
     }
 
@@ -172,20 +160,22 @@ impl<W: Write> StdSink<W> {
     /// assert!(rt; sink.failure().is_none());
     /// ```
     pub fn failure(&self) -> Option<Error>
-        ensures last { result ≡ last_of self.now.failures }
+        ensures last { result ≡ ⟦<StdSink<W> as Sink>⟧.why self.now }
         ensures told { IsWhy (⟦<StdSink<W> as Sink>⟧.failed_calls self.now) result }
     {
-        Some(self.failures.as_ref()?.last)
+        Some(self.failed_writes.as_ref()?.last)
     }
 }
 
 impl<W: Write> Sink for StdSink<W> {
-    ghost failed_calls = { λ s. count_of s.failures };
+    ghost failed_calls = { λ s. count_of s.failed_writes };
+
+    ghost why = { λ s. last_of s.failed_writes };
 
     ghost contents = { λ s. W.contents s.writer };
 
     fn write(&mut self, piece: &[u8]) -> Result<usize, Failed> {
         let answer = write_retrying(&mut self.writer, piece);
-        note(answer, &mut self.failures)
+        note(answer, &mut self.failed_writes)
     }
 }

@@ -2,6 +2,8 @@
 use Rattle.std.specs.Prelude.{ℕ, List, Option, Some, None, codes, ◌==◌, if◌then◌else◌}
 use Rattle.std.specs.IoError.{error_kind}
 use Rattle.std.specs.declared.io.Error.{Error}
+use Rattle.std.specs.declared.io.ErrorKind.{ErrorKind}
+use Rattle.std.specs.declared.io.ErrorKind.TheVariants.{OutOfMemory}
 use Rattle.n2k_join.specs.declared.counts.Counts.{Counts}
 use Rattle.n2k_join.specs.declared.fault.StateFault.{StateFault}
 use Rattle.n2k_join.specs.declared.fault.StateFault.TheVariants as state
@@ -9,7 +11,6 @@ use Rattle.n2k_run.specs.declared.fault.RunFault.{RunFault}
 use Rattle.n2k_run.specs.declared.fault.RunFault.TheVariants as run
 use Rattle.n2k_table.specs.declared.fault.TableFault.{TableFault}
 use Rattle.n2k_table.specs.declared.fault.TableFault.TheVariants as table
-use Rattle.n2kdec.specs.Replacement.{is_memory}
 use Rattle.n2kdec.specs.declared.fault.Fault.{Fault}
 use Rattle.n2kdec.specs.declared.fault.Reading.{Reading}
 use Rattle.n2kdec.specs.declared.fault.Reading.TheVariants as reading
@@ -61,14 +62,6 @@ fault_line (Memory read) = codes "n2kdec: memory\n"
 fault_line Lines = codes "n2kdec: lines\n"
 fault_line (Save why) = codes "n2kdec: save\n"
 
-abbrev pub table_status : TableFault → ℕ
-table_status table.Memory = 3
-table_status _ = 2
-
-abbrev pub state_status : StateFault → ℕ
-state_status state.Memory = 3
-state_status _ = 2
-
 -- 2 where the words, the table or the state are refused, 3 where a file, a device, memory or the limit of lines ended
 -- it
 abbrev pub status_of : Fault → ℕ
@@ -76,16 +69,11 @@ status_of Words = 2
 status_of Interface = 2
 status_of TableSize = 2
 status_of StateSize = 2
-status_of (Table fault) = table_status fault
-status_of (State fault of) = state_status fault
-status_of (TableFile why) = 3
-status_of (StateFile why) = 3
-status_of (Read lines why unkept) = 3
-status_of (Write why) = 3
-status_of Report = 3
-status_of (Memory read) = 3
-status_of Lines = 3
-status_of (Save why) = 3
+status_of (Table table.Memory) = 3
+status_of (Table fault) = 2
+status_of (State state.Memory of) = 3
+status_of (State fault of) = 2
+status_of _ = 3
 
 -- what the program says of the fault of a run that took so many lines
 abbrev pub fault_of_run : RunFault → ℕ → Fault
@@ -101,9 +89,13 @@ unread reading.Table why = TableFile why
 unread reading.State why = StateFile why
 unread reading.Log why = Read 0 why None
 
--- or can't be opened, by this error
+-- or can't be opened, by this error of this kind
+abbrev pub unopened_by : ErrorKind → Reading → Error → Fault
+unopened_by OutOfMemory read error = Memory (Some read)
+unopened_by _ read error = unread read (Some error)
+
 abbrev pub unopened : Reading → Error → Fault
-unopened read error = if is_memory (error_kind error) then Memory (Some read) else unread read (Some error)
+unopened read error = unopened_by (error_kind error) read error
 
 -- 0 where no line was bad
 abbrev pub exit_status : Counts → ℕ

@@ -14,7 +14,7 @@ use Rattle.n2kdec.specs.Ending.{hint}
 use Rattle.n2kdec.specs.Fault.{fault_line, longest_file, status_of, unopened, unread}
 use Rattle.n2kdec.specs.FaultSentence.{IsSentence, SystemWords}
 use Rattle.n2kdec.specs.Keeper.{Admission}
-use Rattle.n2kdec.specs.Replacement.{IsOfMemory}
+use Rattle.n2kdec.specs.Disk.{IsOfMemory}
 use Rattle.n2kdec.specs.Told.{Tells}
 use Rattle.n2kdec.specs.Parser.{Shown}
 use Rattle.n2kdec.specs.declared.asked.Request.{Request}
@@ -78,11 +78,10 @@ pub record Outside : Type 0 where
   pub calls : Calls
   pub admits : Admission
 
-abbrev pub outside : {W E K : Type 0} → OfSink W → (W → Option Error) → OfSink E → OfKeeper K → Calls → Outlets W E K
-    → Outside
-outside w why e k calls outlets = record {
+abbrev pub outside : {W E K : Type 0} → OfSink W → OfSink E → OfKeeper K → Calls → Outlets W E K → Outside
+outside w e k calls outlets = record {
   output = place (w.contents outlets.output) (w.failed_calls outlets.output);
-  unwritten = why outlets.output;
+  unwritten = w.why outlets.output;
   errors = place (e.contents outlets.errors) (e.failed_calls outlets.errors);
   kept = k.kept outlets.keeper;
   calls = calls;
@@ -181,6 +180,7 @@ pub record IsPerformed (w : World) (command : Command) (before after : Outside) 
   pub log : LogAfter
   pub why : Option Error
   pub is_why : IsWhy log.failed why
+  pub is_why_unwritten : IsWhy after.output.failed after.unwritten
   pub calls : Makes (of_table ++ of_state ++ Opened command.files.log None ∷ Closed log.calls why ∷ []) before.calls
       after.calls
   pub ended : Result Ending Fault

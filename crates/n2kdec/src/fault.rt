@@ -176,14 +176,7 @@ pub fn status(fault: &Fault) -> u8
         | Fault::StateSize
         | Fault::Table(_)
         | Fault::State(..) => 2,
-        Fault::TableFile(_)
-        | Fault::StateFile(_)
-        | Fault::Read(..)
-        | Fault::Write(_)
-        | Fault::Report
-        | Fault::Memory(_)
-        | Fault::Lines
-        | Fault::Save(_) => 3,
+        _ => 3,
     }
 }
 

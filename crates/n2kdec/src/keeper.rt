@@ -118,27 +118,6 @@ fn harms<D: Disk>(alloc: Global, disk: &D, name: &str, files: &Files) -> io::Res
     Ok(harms_target(disk, &to, files) || harms_temp(disk, to.temp.as_str(), files))
 }
 
-/// Whether a state of this name may be kept by a run of these files.
-fn admit_to<D: Disk>(alloc: Global, disk: &D, name: &str, files: &Files) -> Result<(), Unkept>
-    ensures { Admits (D.answers disk.now) name.now files.now result }
-{
-    match harms(alloc, disk, name, files) {
-        Ok(false) => Ok(()),
-        Ok(true) => Err(Unkept::Harm),
-        Err(error) => Err(Unkept::Unfound(error)),
-    }
-}
-
-/// Keeps a state in the file to which a name leads.
-fn keep_state<D: Disk>(alloc: Global, disk: &mut D, name: &str, state: &[u8]) -> Result<(), Unkept>
-    ensures { KeepsState (D.answers disk.old) (D.acts disk.old) (D.acts disk.new) name.now state.now result }
-{
-    match keep_text(alloc, disk, name, state) {
-        Ok(()) => Ok(()),
-        Err(error) => Err(Unkept::Failed(error)),
-    }
-}
-
 /// The files of a disk as a keeper: a state takes the place of what its name has, which may be the file of `--resume`.
 #[derive(Drop)]
 pub struct StateFiles<D> {
@@ -169,13 +148,20 @@ impl<D: Disk> Keeper for StateFiles<D> {
     fn admit(&self, name: &str, files: &Files) -> Result<(), Unkept>
         ensures harmless { Admits (D.answers self.now.disk) name.now files.now result }
     {
-        admit_to(self.alloc, &self.disk, name, files)
+        match harms(self.alloc, &self.disk, name, files) {
+            Ok(false) => Ok(()),
+            Ok(true) => Err(Unkept::Harm),
+            Err(error) => Err(Unkept::Unfound(error)),
+        }
     }
 
     fn keep<E: Sink>(&mut self, name: &str, state: &[u8], _errors: &E) -> Result<(), Unkept>
         ensures calls { KeepsState (D.answers self.old.disk) (D.acts self.old.disk) (D.acts self.new.disk)
             name.now state.now result }
     {
-        keep_state(self.alloc, &mut self.disk, name, state)
+        match keep_text(self.alloc, &mut self.disk, name, state) {
+            Ok(()) => Ok(()),
+            Err(error) => Err(Unkept::Failed(error)),
+        }
     }
 }

@@ -1,6 +1,5 @@
 //! What the program meets: the words that were typed, files, and the standard streams.
-ghost use Rattle.std.specs.Prelude.{◌≡◌, ◌⊎◌, ◌∷◌, [], None, Option, Some, IfErr, IfOk, IfSome, IsErrOf, map, string_bytes};
-ghost use Rattle.std.specs.declared.io.Error.{Error};
+ghost use Rattle.std.specs.Prelude.{◌≡◌, ◌⊎◌, ◌∷◌, [], None, Some, IfErr, IfOk, IfSome, IsErrOf, map, string_bytes};
 ghost use Rattle.n2k_run.specs.Device.{IsWhy};
 ghost use Rattle.n2kdec.specs.FaultSentence.{SystemWords};
 ghost use Rattle.n2kdec.specs.Machine.{Calls, IsTerminal, Makes, Opens, World, bytes_named};
@@ -50,12 +49,6 @@ pub trait Machine {
     /// The calls by which files were opened and closed, where they are known.
     ghost calls: { Self → Calls };
 
-    /// Why the last read of a file failed that did.
-    ghost unread: { Self.File → Option Error };
-
-    /// Why the last call of an output failed that did.
-    ghost unwritten: { Self.Output → Option Error };
-
     /// The words that it has for an error, where they are known.
     ghost words: { SystemWords };
 
@@ -85,7 +78,7 @@ pub trait Machine {
     /// Closes a file, and answers the error of the last read of it that failed.
     fn close(&mut self, file: Self::File) -> Option<Error>
         ensures same { world self.new ≡ world self.old }
-        ensures told { result ≡ unread file }
+        ensures told { result ≡ Self.File.why file }
         ensures why { IsWhy (Self.File.failed_calls file) result }
         ensures calls { Makes (Closed (Self.File.calls file) result ∷ []) (calls self.old) (calls self.new) };
 
@@ -95,7 +88,8 @@ pub trait Machine {
 
     /// The error of the last call of the output that failed.
     fn failure(&self, output: &Self::Output) -> Option<Error>
-        ensures { result ≡ unwritten output.now };
+        ensures told { result ≡ Self.Output.why output.now }
+        ensures why { IsWhy (Self.Output.failed_calls output.now) result };
 
     /// The words that the system has for an error, as `No such file or directory`.
     fn words(&self, alloc: Global, error: &Error) -> Result<Word, AllocError>

@@ -75,26 +75,27 @@ fn copies(alloc: Global, words: &[&str]) -> Result<Vec<String>, AllocError>
     Ok(all)
 }
 
-/// An open file in memory.
+/// A device in memory, whose failed calls have an error.
 #[derive(Drop)]
-pub struct MemoryFile<'a> {
-    source: MemorySource<'a>,
+pub struct Telling<D> {
+    /// The device.
+    pub device: D,
     calls: u64,
     failed_calls: u64,
     error: Error,
 }
 
-impl<'a> MemoryFile<'a> {
+impl<D> Telling<D> {
     ghost use Rattle.std.specs.Prelude.{◌≡◌, Some};
 
-    /// One with these bytes, of which the call of this number fails; at 0 none does.
-    fn new(bytes: &'a [u8], fails_at: u64) -> Self
-        ensures bytes { Some result.source.left ≡ Some bytes.now }
+    /// A device of which no call was made.
+    pub fn new(device: D) -> Self
+        ensures device { result.device ≡ device }
         ensures none_called { result.calls ≡ 0 }
         ensures none_failed { result.failed_calls ≡ 0 }
     {
-        MemoryFile {
-            source: MemorySource::new(bytes, PIECE, fails_at),
+        Telling {
+            device,
             calls: 0,
             failed_calls: 0,
             error: Error::from(ErrorKind::Other),
@@ -113,18 +114,34 @@ impl<'a> MemoryFile<'a> {
     }
 }
 
-impl<'a> Source for MemoryFile<'a> {
-    ghost use Rattle.std.specs.Prelude.{Some};
+impl<D: Source> Source for Telling<D> {
+    ghost calls = { λ t. t.calls };
 
-    ghost calls = { λ f. f.calls };
+    ghost failed_calls = { λ t. t.failed_calls };
 
-    ghost failed_calls = { λ f. f.failed_calls };
+    ghost why = { λ t. why_of t.failed_calls t.error };
 
-    ghost remaining = { λ f. Some f.source.left };
+    ghost remaining = { λ t. D.remaining t.device };
 
     fn read(&mut self, buffer: &mut [u8]) -> Result<usize, Failed> {
-        let answer = self.source.read(buffer);
+        let answer = self.device.read(buffer);
         self.calls = self.calls.saturating_add(1);
+        if answer.is_err() {
+            self.failed_calls = self.failed_calls.saturating_add(1);
+        }
+        answer
+    }
+}
+
+impl<D: Sink> Sink for Telling<D> {
+    ghost failed_calls = { λ t. t.failed_calls };
+
+    ghost why = { λ t. why_of t.failed_calls t.error };
+
+    ghost contents = { λ t. D.contents t.device };
+
+    fn write(&mut self, piece: &[u8]) -> Result<usize, Failed> {
+        let answer = self.device.write(piece);
         if answer.is_err() {
             self.failed_calls = self.failed_calls.saturating_add(1);
         }
@@ -175,9 +192,9 @@ impl<'a> Machine for MemoryMachine<'a> {
     ghost use Rattle.std.specs.Prelude.{Some, None, false};
     ghost use Rattle.std.specs.IoError.{error_kind};
 
-    type File = MemoryFile<'a>;
+    type File = Telling<MemorySource<'a>>;
 
-    type Output = MemorySink;
+    type Output = Telling<MemorySink>;
 
     type Errors = MemorySink;
 
@@ -190,22 +207,17 @@ impl<'a> Machine for MemoryMachine<'a> {
 
     ghost calls = { λ m. option_map (λ all. all.items) m.calls };
 
-    ghost unread = { λ f. why_of f.failed_calls f.error };
-
-    // Why a write of it fails a sink in memory does not tell.
-    ghost unwritten = { λ _. None };
-
     ghost words = { λ error. Some (words_of (error_kind error)) };
 
     fn typed(&self, alloc: Global) -> Result<Vec<String>, Fault> {
         Ok(copies(alloc, self.words)?)
     }
 
-    fn open(&mut self, name: &Word) -> io::Result<MemoryFile<'a>> {
+    fn open(&mut self, name: &Word) -> io::Result<Self::File> {
         match text_under(self.files, name.as_str()) {
             Some(text) => {
                 note_opened(self.alloc, &mut self.calls, name, None);
-                Ok(MemoryFile::new(text.as_bytes(), self.fails_at))
+                Ok(Telling::new(MemorySource::new(text.as_bytes(), PIECE, self.fails_at)))
             }
             None => {
                 let error = Error::from(ErrorKind::NotFound);
@@ -215,12 +227,12 @@ impl<'a> Machine for MemoryMachine<'a> {
         }
     }
 
-    fn input(&mut self) -> io::Result<MemoryFile<'a>> {
+    fn input(&mut self) -> io::Result<Self::File> {
         note(&mut self.calls, FileCall::Opened(None, None));
-        Ok(MemoryFile::new(self.input.as_bytes(), self.fails_at))
+        Ok(Telling::new(MemorySource::new(self.input.as_bytes(), PIECE, self.fails_at)))
     }
 
-    fn close(&mut self, file: MemoryFile<'a>) -> Option<Error> {
+    fn close(&mut self, file: Self::File) -> Option<Error> {
         let why = file.failure();
         note(&mut self.calls, FileCall::Closed(file.calls, why));
         why
@@ -230,8 +242,8 @@ impl<'a> Machine for MemoryMachine<'a> {
         false
     }
 
-    fn failure(&self, _output: &MemorySink) -> Option<Error> {
-        None
+    fn failure(&self, output: &Self::Output) -> Option<Error> {
+        output.failure()
     }
 
     fn words(&self, alloc: Global, error: &Error) -> Result<Word, AllocError> {

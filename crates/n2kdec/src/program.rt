@@ -126,8 +126,8 @@ fn run_on_files<M: Machine, K: Keeper>(
     requires { IsAdmittedSo K.admits command.now (Ok tt) }
     ensures same { M.world machine.new ≡ M.world machine.old }
     ensures runs { RunsCommand (M.world machine.old) command.now
-        (outside M.Output.Sink M.unwritten M.Errors.Sink K.Keeper (M.calls machine.old) outlets.old)
-        (outside M.Output.Sink M.unwritten M.Errors.Sink K.Keeper (M.calls machine.new) outlets.new) result }
+        (outside M.Output.Sink M.Errors.Sink K.Keeper (M.calls machine.old) outlets.old)
+        (outside M.Output.Sink M.Errors.Sink K.Keeper (M.calls machine.new) outlets.new) result }
 {
     let files = &command.files;
     let table = read_file(
@@ -179,8 +179,8 @@ fn run_admitted<M: Machine, K: Keeper>(
 ) -> Result<Ending, Fault>
     ensures same { M.world machine.new ≡ M.world machine.old }
     ensures runs { RunsCommand (M.world machine.old) command.now
-        (outside M.Output.Sink M.unwritten M.Errors.Sink K.Keeper (M.calls machine.old) outlets.old)
-        (outside M.Output.Sink M.unwritten M.Errors.Sink K.Keeper (M.calls machine.new) outlets.new) result }
+        (outside M.Output.Sink M.Errors.Sink K.Keeper (M.calls machine.old) outlets.old)
+        (outside M.Output.Sink M.Errors.Sink K.Keeper (M.calls machine.new) outlets.new) result }
 {
     match admit(command, &outlets.keeper) {
         Ok(()) => run_on_files(alloc, machine, command, outlets),
@@ -191,7 +191,7 @@ fn run_admitted<M: Machine, K: Keeper>(
 /// Prints the text of the help or of the version.
 fn show<M: Machine>(machine: &M, text: &Word, output: &mut M::Output) -> Result<Ending, Fault>
     ensures { Shows text.now (place (M.Output.contents output.old) (M.Output.failed_calls output.old))
-        (place (M.Output.contents output.new) (M.Output.failed_calls output.new)) (M.unwritten output.new) result }
+        (place (M.Output.contents output.new) (M.Output.failed_calls output.new)) (M.Output.why output.new) result }
 {
     match write_all(output, text.as_str().as_bytes()) {
         Ok(()) => Ok(Ending {
@@ -211,8 +211,8 @@ fn do_request<M: Machine, K: Keeper>(
 ) -> Result<Ending, Fault>
     ensures same { M.world machine.new ≡ M.world machine.old }
     ensures does { DoesAsked (M.world machine.old) request.now
-        (outside M.Output.Sink M.unwritten M.Errors.Sink K.Keeper (M.calls machine.old) outlets.old)
-        (outside M.Output.Sink M.unwritten M.Errors.Sink K.Keeper (M.calls machine.new) outlets.new) result }
+        (outside M.Output.Sink M.Errors.Sink K.Keeper (M.calls machine.old) outlets.old)
+        (outside M.Output.Sink M.Errors.Sink K.Keeper (M.calls machine.new) outlets.new) result }
 {
     match request {
         Request::Help(text) => show(machine, text, &mut outlets.output),
@@ -244,8 +244,8 @@ fn run_request<M: Machine, K: Keeper>(
     outlets: &mut Outlets<M::Output, M::Errors, K>,
 ) -> (ExitCode, Result<(), AllocError>)
     ensures { RunsRequest (M.world machine.old) M.words request.now
-        (outside M.Output.Sink M.unwritten M.Errors.Sink K.Keeper (M.calls machine.old) outlets.old)
-        (outside M.Output.Sink M.unwritten M.Errors.Sink K.Keeper (M.calls machine.new) outlets.new)
+        (outside M.Output.Sink M.Errors.Sink K.Keeper (M.calls machine.old) outlets.old)
+        (outside M.Output.Sink M.Errors.Sink K.Keeper (M.calls machine.new) outlets.new)
         (exit_status result.0) result.1 }
 {
     match do_request(alloc, machine, request, outlets) {
@@ -269,8 +269,8 @@ pub fn run<P: Parser, M: Machine, K: Keeper>(
     outlets: &mut Outlets<M::Output, M::Errors, K>,
 ) -> (ExitCode, Result<(), AllocError>)
     ensures { RunsTyped (P.shown parser.now) (M.world machine.old) M.words
-        (outside M.Output.Sink M.unwritten M.Errors.Sink K.Keeper (M.calls machine.old) outlets.old)
-        (outside M.Output.Sink M.unwritten M.Errors.Sink K.Keeper (M.calls machine.new) outlets.new)
+        (outside M.Output.Sink M.Errors.Sink K.Keeper (M.calls machine.old) outlets.old)
+        (outside M.Output.Sink M.Errors.Sink K.Keeper (M.calls machine.new) outlets.new)
         (exit_status result.0) result.1 }
 {
     let request = typed_request(alloc, parser, machine);

@@ -16,11 +16,10 @@ pub enum Reader<F, I> {
 impl<F: Read, I: Read> Reader<StdSource<F>, StdSource<I>> {
     ghost use Rattle.std.specs.Prelude.{◌≡◌};
     ghost use Rattle.n2k_run.specs.Device.{IsWhy};
-    ghost use Rattle.n2k_run.specs.Inner.Failures.{last_of};
 
     /// The error of the last call that failed.
     pub fn failure(&self) -> Option<Error>
-        ensures last { result ≡ of_either (λ f. last_of f.failures) (λ i. last_of i.failures) self.now }
+        ensures last { result ≡ ⟦<Reader<StdSource<F>, StdSource<I>> as Source>⟧.why self.now }
         ensures told { IsWhy (⟦<Reader<StdSource<F>, StdSource<I>> as Source>⟧.failed_calls self.now) result }
     {
         match self {
@@ -34,6 +33,8 @@ impl<F: Source, I: Source> Source for Reader<F, I> {
     ghost calls = { of_either F.calls I.calls };
 
     ghost failed_calls = { of_either F.failed_calls I.failed_calls };
+
+    ghost why = { of_either F.why I.why };
 
     ghost remaining = { of_either F.remaining I.remaining };
 

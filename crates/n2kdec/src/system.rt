@@ -34,17 +34,10 @@ impl<'a> Machine for System<'a> {
     type Errors = StdSink<Stderr>;
 
     ghost use Rattle.std.specs.Prelude.{None};
-    ghost use Rattle.n2k_run.specs.Device.{IsWhy};
-    ghost use Rattle.n2k_run.specs.Inner.Failures.{last_of};
-    ghost use Rattle.n2kdec.specs.Reader.{of_either};
 
     ghost world = { λ _. unknown_world };
 
     ghost calls = { λ _. None };
-
-    ghost unread = { of_either (λ f. last_of f.failures) (λ i. last_of i.failures) };
-
-    ghost unwritten = { λ output. last_of output.failures };
 
     ghost words = { λ _. None };
 

@@ -5,7 +5,7 @@ use crate::echo_parser::EchoParser;
 use crate::fault::{Fault, exit_status, fault_text, status};
 use crate::keeper::Unkept;
 use crate::machine::Outlets;
-use crate::memory_machine::{MemoryKeeper, MemoryMachine};
+use crate::memory_machine::{MemoryKeeper, MemoryMachine, Telling};
 use crate::program::run;
 use crate::work::work;
 use n2k_join::{Counts, StateFault};
@@ -497,7 +497,7 @@ fn what_was_typed_is_run(rt: HostRuntime) -> Result<(), Fail> {
     let alloc = rt.alloc();
     let mut machine = MemoryMachine::new(alloc, &TYPED, &FILES);
     let mut outlets = Outlets {
-        output: MemorySink::new(alloc, 100, 0),
+        output: Telling::new(MemorySink::new(alloc, 100, 0)),
         errors: MemorySink::new(alloc, 100, 0),
         keeper: MemoryKeeper::new(alloc),
     };
@@ -505,7 +505,7 @@ fn what_was_typed_is_run(rt: HostRuntime) -> Result<(), Fail> {
         run(alloc, &ClapParser, &mut machine, &mut outlets).0,
         ExitCode::SUCCESS
     );
-    assert_eq!(rt; outlets.output.bytes(), EXAMPLES[2].text.as_bytes());
+    assert_eq!(rt; outlets.output.device.bytes(), EXAMPLES[2].text.as_bytes());
     let kept = format!(in alloc; "{:?}", outlets.keeper.kept)?;
     let expected = format!(in alloc; "Some([(\"s\", {:?})])", ONE_MESSAGE.as_bytes())?;
     assert_eq!(rt; kept.as_str(), expected.as_str());
