@@ -1,6 +1,7 @@
 -- Raw values, a byte at a time and in parts.
-use Rattle.std.proofs.Common.{◌≡◌, ℕ, zero, suc, ◌+◌, ◌-◌, ◌*◌, ◌/◌, ◌%◌, ◌^◌, ◌<◌, ◌≤◌, List, slice_index, take, drop, sym, ap, ◌∙◌, arith, lit<, get_or-take, get_or-drop}
+use Rattle.std.proofs.Common.{◌≡◌, ℕ, zero, suc, ◌+◌, ◌-◌, ◌*◌, ◌/◌, ◌%◌, ◌^◌, ◌<◌, ◌≤◌, List, slice_index, take, drop, sym, ap, ◌∙◌, arith, lit<}
 use Rattle.std.specs.Int.{w64, from_le_bytes}
+use Rattle.std.proofs.lemmas.List.{get_or-take, get_or-drop}
 use Rattle.std.proofs.lemmas.Nat.{pow-add, shr_high, mod_low}
 use Rattle.std.proofs.Math.Nat.{pow-suc, mul-le-mul_left, pow-le-pow_right}
 use Rattle.n2k_table.specs.Bits.{bit, raw}
@@ -24,12 +25,51 @@ raw_lt d a (suc n) =
     let one : bit d (a + n) ≤ 1 = omega arith in
     omega (arith, raw_lt d a n, mul-le-mul_left (2 ^ n) one)
 
+-- a bit of a byte at whose first bit p lies
+bit_of_byte : (d : List ℕ) (p j : ℕ) → j < 8 → p % 8 ≡ 0 → bit d (p + j) ≡ slice_index d (p / 8) / 2 ^ j % 2
+bit_of_byte d p j lt aligned =
+    let byte : (p + j) / 8 ≡ p / 8 = omega arith in
+    let place : (p + j) % 8 ≡ j = omega arith in
+    rw (byte, place)
+
 low : (d : List ℕ) (a a' n k : ℕ) → n ≡ suc k → a' ≡ a + 1 → raw d a n ≡ bit d a + 2 * raw d a' k
 low d a a' n k n_is a_is = rw (n_is, a_is) (raw_low d a k)
 
+-- a byte is the sum of its bits
+byte_is : (b : ℕ) → b < 256
+    → b ≡ b / 1 % 2 + 2 * (b / 2 % 2 + 2 * (b / 4 % 2 + 2 * (b / 8 % 2 + 2 * (b / 16 % 2 + 2 * (b / 32 % 2 + 2 * (b / 64 % 2 + 2 * (b / 128 % 2)))))))
+byte_is b small = omega arith
+
 -- the eight bits of a byte, and those above them
 pub raw_byte : (d : List ℕ) (p m : ℕ) → p % 8 ≡ 0 → slice_index d (p / 8) < 256 → raw d p (m + 8) ≡ slice_index d (p / 8) + 256 * raw d (p + 8) m
-raw_byte d p m aligned small = grind (arith, low d (p + 0) (p + 1) (m + 8) (m + 7) (omega arith) (omega arith), low d (p + 1) (p + 2) (m + 7) (m + 6) (omega arith) (omega arith), low d (p + 2) (p + 3) (m + 6) (m + 5) (omega arith) (omega arith), low d (p + 3) (p + 4) (m + 5) (m + 4) (omega arith) (omega arith), low d (p + 4) (p + 5) (m + 4) (m + 3) (omega arith) (omega arith), low d (p + 5) (p + 6) (m + 3) (m + 2) (omega arith) (omega arith), low d (p + 6) (p + 7) (m + 2) (m + 1) (omega arith) (omega arith), low d (p + 7) (p + 8) (m + 1) m (omega arith) (omega arith))
+raw_byte d p m aligned small =
+    let e0 = low d (p + 0) (p + 1) (m + 8) (m + 7) (omega arith) (omega arith) in
+    let e1 = low d (p + 1) (p + 2) (m + 7) (m + 6) (omega arith) (omega arith) in
+    let e2 = low d (p + 2) (p + 3) (m + 6) (m + 5) (omega arith) (omega arith) in
+    let e3 = low d (p + 3) (p + 4) (m + 5) (m + 4) (omega arith) (omega arith) in
+    let e4 = low d (p + 4) (p + 5) (m + 4) (m + 3) (omega arith) (omega arith) in
+    let e5 = low d (p + 5) (p + 6) (m + 3) (m + 2) (omega arith) (omega arith) in
+    let e6 = low d (p + 6) (p + 7) (m + 2) (m + 1) (omega arith) (omega arith) in
+    let e7 = low d (p + 7) (p + 8) (m + 1) m (omega arith) (omega arith) in
+    let b0 = bit_of_byte d p 0 (omega arith) aligned in
+    let b1 = bit_of_byte d p 1 (omega arith) aligned in
+    let b2 = bit_of_byte d p 2 (omega arith) aligned in
+    let b3 = bit_of_byte d p 3 (omega arith) aligned in
+    let b4 = bit_of_byte d p 4 (omega arith) aligned in
+    let b5 = bit_of_byte d p 5 (omega arith) aligned in
+    let b6 = bit_of_byte d p 6 (omega arith) aligned in
+    let b7 = bit_of_byte d p 7 (omega arith) aligned in
+    let whole = byte_is (slice_index d (p / 8)) small in
+    let start : p + 0 ≡ p = omega arith in
+    let first = ap (λ q. raw d q (m + 8)) start in
+    omega (arith, e0, e1, e2, e3, e4, e5, e6, e7, b0, b1, b2, b3, b4, b5, b6, b7, whole, first)
+
+-- 2 ^ n is twice the half
+pub twice_half : (n : ℕ) → 1 ≤ n → 2 ^ n ≡ 2 * 2 ^ (n - 1)
+twice_half zero some = absurd (omega arith)
+twice_half (suc n) some =
+    let n_is : suc n - 1 ≡ n = omega arith in
+    rw n_is (grind (arith, pow-suc))
 
 -- a bound on powers of two
 pub pow_le : (m n : ℕ) → m ≤ n → 2 ^ m ≤ 2 ^ n
@@ -38,7 +78,9 @@ pow_le m n le = pow-le-pow_right (omega arith) le
 -- bits in two parts, those above and those below
 pub raw_split : (d : List ℕ) (a s n : ℕ) → raw d a (s + n) ≡ raw d (a + s) n * 2 ^ s + raw d a s
 unfolding raw
-raw_split d a s zero = grind arith
+raw_split d a s zero =
+    let none : s + 0 ≡ s = omega arith in
+    omega (arith, ap (raw d a) none)
 raw_split d a s (suc n) =
     let more : s + suc n ≡ suc (s + n) = omega arith in
     let place : a + (s + n) ≡ a + s + n = omega arith in
@@ -48,11 +90,22 @@ raw_split d a s (suc n) =
 
 -- bits out of more, by a shift and a remainder
 pub raw_out_of : (d : List ℕ) (p s n whole : ℕ) → s + n ≤ whole → raw d p whole / 2 ^ s % 2 ^ n ≡ raw d (p + s) n
-raw_out_of d p s n whole within = grind (arith, raw_split d p s (n + (whole - (s + n))), raw_split d (p + s) n (whole - (s + n)), shr_high ((raw d (p + s + n) (whole - (s + n))) * 2 ^ n + (raw d (p + s) n)) s (raw d p s) (raw_lt d p s), mod_low (raw d (p + s + n) (whole - (s + n))) n (raw d (p + s) n) (raw_lt d (p + s) n))
+raw_out_of d p s n whole within =
+    let m = whole - (s + n) in
+    let count : whole ≡ s + (n + m) = omega arith in
+    let low = raw d p s in
+    let here = raw d (p + s) n in
+    let high = raw d (p + s + n) m in
+    let parts : raw d p whole ≡ (high * 2 ^ n + here) * 2 ^ s + low =
+    ap (raw d p) count ∙ raw_split d p s (n + m) ∙ ap (λ r. r * 2 ^ s + low) (raw_split d (p + s) n m) in
+    ap (λ r. r / 2 ^ s % 2 ^ n) parts ∙ ap (λ r. r % 2 ^ n) (shr_high (high * 2 ^ n + here) s low (raw_lt d p s)) ∙ mod_low high n here (raw_lt d (p + s) n)
 
 -- a byte at whose first bit p lies, and the bits above it
 next_byte : (d : List ℕ) (f k m : ℕ) → slice_index d (f + k) < 256 → raw d (8 * f + 8 * k) (m + 8) ≡ slice_index d (f + k) + 256 * raw d (8 * f + 8 * (k + 1)) m
-next_byte d f k m small = grind (arith, raw_byte)
+next_byte d f k m small =
+    let byte : (8 * f + 8 * k) / 8 ≡ f + k = omega arith in
+    let place : 8 * f + 8 * k + 8 ≡ 8 * f + 8 * (k + 1) = omega arith in
+    rw (byte, place) at (raw_byte d (8 * f + 8 * k) m (omega arith) (rw byte small))
 
 index_taken : (d : List ℕ) (f k : ℕ) → k < 8 → slice_index (take 8 (drop f d)) k ≡ slice_index d (f + k)
 index_taken d f k lt = get_or-take 8 (drop f d) k 0 lt ∙ get_or-drop f d k 0
