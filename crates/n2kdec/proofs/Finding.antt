@@ -2,15 +2,14 @@
 use Rattle.std.proofs.Common.{◌≡◌, ◌<◌, ◌-◌, ℕ, suc, Bool, true, false, Option, None, Some, IfSome, Result, Ok, Err, IsErrAnd, if◌then◌else◌, inl, inr, refl, subst, sym, arith}
 use Rattle.std.specs.IoError.{error_kind}
 use Rattle.std.specs.declared.io.Error.{Error}
-use Rattle.std.specs.declared.io.ErrorKind.{ErrorKind}
 use Rattle.std.specs.declared.io.ErrorKind.TheVariants.{FilesystemLoop}
 use Rattle.clap.specs.Words.{Text}
 use Rattle.n2k_wire.specs.Steps.{◌>>=◌}
 use Rattle.n2kdec.specs.Destination.{behind, is_open_file, linked, onward}
-use Rattle.n2kdec.specs.Disk.{Answers, IsAnswerUnlessMemory}
+use Rattle.n2kdec.specs.Disk.{Answers, IsAnswerUnlessMemory, Why}
 
 -- this is the known answer, unless memory was refused
-abbrev Tells : {T : Type 0} → Option Answers → (Answers → Result T ErrorKind) → Result T Error → Type 0
+abbrev Tells : {T : Type 0} → Option Answers → (Answers → Result T Why) → Result T Error → Type 0
 Tells answers known result = IfSome answers (λ a. IsAnswerUnlessMemory (λ x. x) (known a) result)
 
 told : {T : Type 0} (answers : Option Answers) (x : T) → Tells answers (λ a. Ok x) (Ok x)
@@ -18,14 +17,15 @@ told None x = tt
 told (Some a) x = refl
 
 -- a step that fails, and one that another follows
-module _ {T U : Type 0} (known : Answers → Result T ErrorKind) (further : Answers → T → Result U ErrorKind) where
+module _ {T U : Type 0} (known : Answers → Result T Why) (further : Answers → T → Result U Why) where
   fails : (answers : Option Answers) (error : Error) (result : Result U Error) → Tells {T = T} answers known (Err error) → IsErrAnd result (λ why. why ≡ error) → Tells answers (λ a. known a >>= further a) result
   fails None error result tells is = tt
   fails (Some a) error (Ok value) tells is = absurd is
   fails (Some a) error (Err why) tells is = subst (λ e. IsAnswerUnlessMemory {T = U} (λ x. x) (known a >>= further a) (Err e)) (sym is) (go tells)
     where
       go : IsAnswerUnlessMemory {T = T} (λ x. x) (known a) (Err error) → IsAnswerUnlessMemory {T = U} (λ x. x) (known a >>= further a) (Err error)
-      go (inl so) = inl (rw so)
+      go (inl (inl so)) = inl (inl (rw so))
+      go (inl (inr so)) = inl (inr (rw so))
       go (inr memory) = inr memory
 
   follows : (answers : Option Answers) (x : T) (result : Result U Error) → Tells answers known (Ok x) → Tells answers (λ a. further a x) result → Tells answers (λ a. known a >>= further a) result
@@ -42,10 +42,10 @@ module _ (answers : Option Answers) (path : Text) (looks : ℕ) where
     where
       go : (known : Option Answers) → Tells {T = Option Text} known (λ a. behind 0 a path) (Err error)
       go None = tt
-      go (Some a) = inl (rw is)
+      go (Some a) = inl (inr (rw is))
 
   module _ (some : 0 < looks) where
-    abbrev rest : Answers → Bool → Result (Option Text) ErrorKind
+    abbrev rest : Answers → Bool → Result (Option Text) Why
     rest a is_open = if is_open then Ok None else (linked path (a.link path) >>= onward (behind (looks - 1) a) path)
 
     unfolded : (result : Result (Option Text) Error) → Tells answers (λ a. is_open_file a path >>= rest a) result → Leads result
@@ -65,7 +65,7 @@ module _ (answers : Option Answers) (path : Text) (looks : ℕ) where
       at_open is = onto true (Ok None) is (told answers None)
 
       module _ (closed : is_open ≡ false) where
-        abbrev link : Answers → Result (Option Text) ErrorKind
+        abbrev link : Answers → Result (Option Text) Why
         link a = linked path (a.link path)
 
         pub not_read : (error : Error) (result : Result (Option Text) Error) → Tells {T = Option Text} answers link (Err error) → IsErrAnd result (λ why. why ≡ error) → Leads result
