@@ -1,6 +1,5 @@
 -- What stands in a line before the members, as the code appends it.
-use Rattle.std.proofs.Common.{◌≡◌, ℕ, zero, suc, ◌+◌, ◌-◌, ◌/◌, ◌%◌, ◌<◌, ◌≤◌, Bool, true, ◌&&◌, List, [], ◌∷◌, ◌++◌, IfSome, slice_index_or, take, drop, nat_le, nat_lt, if◌then◌else◌, refl, sym, ap, ◌∙◌, codes, append_assoc, eq-zero-or-pos, arith, inl, inr}
-use Rattle.std.specs.Prelude.{decimal}
+use Rattle.std.proofs.Common.{◌≡◌, ℕ, zero, suc, ◌+◌, ◌-◌, ◌/◌, ◌%◌, ◌<◌, ◌≤◌, Bool, true, ◌&&◌, List, [], ◌∷◌, ◌++◌, IfSome, slice_index_or, take, drop, nat_le, nat_lt, if◌then◌else◌, refl, sym, ap, ◌∙◌, codes, append_assoc, eq-zero-or-pos, arith, inl, inr, decimal}
 use Rattle.std.specs.List.{list_all, find, join_with_byte}
 use Rattle.std.proofs.lemmas.Bool.{cases_Bool, eqb-true, and_parts, leb-true, le-leb, ne_eqb}
 use Rattle.std.proofs.lemmas.Fmt.{decimal_digit}

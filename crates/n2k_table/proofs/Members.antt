@@ -1,8 +1,6 @@
 -- The members of an object, one after the other.
-use Rattle.std.proofs.Common.{◌≡◌, ℕ, Bool, true, false, ◌||◌, List, [], ◌∷◌, ◌++◌, length, Option, Some, None, is_some, refl, sym, ap, ◌∙◌, append_assoc, arith, Result, Ok, Err, OnOk, codes}
-use Rattle.std.specs.Prelude.{if◌then◌else◌}
+use Rattle.std.proofs.Common.{◌≡◌, ℕ, Bool, true, false, ◌||◌, List, [], ◌∷◌, ◌++◌, length, Option, Some, None, is_some, refl, sym, ap, ◌∙◌, append_assoc, arith, Result, Ok, Err, OnOk, codes, if◌then◌else◌, append-nil}
 use Rattle.std.specs.List.{filter_map, cons_option, join_with_byte}
-use Rattle.std.proofs.lemmas.List.{append-nil}
 use Rattle.n2k_table.specs.Field.{FieldParts}
 use Rattle.n2k_table.specs.Shown.{all_shown, shown}
 use Rattle.n2k_table.specs.Json.{colon, member_json}

@@ -1,6 +1,5 @@
 -- A JSON line is one line: no byte below the space stands before the line feed at its end.
-use Rattle.std.proofs.Common.{◌≡◌, ℕ, zero, suc, ◌+◌, ◌-◌, ◌/◌, ◌%◌, ◌<◌, ◌≤◌, Bool, true, false, cond, ◌||◌, List, [], ◌∷◌, ◌++◌, length, take, drop, replicate, map, refl, sym, arith, append_assoc, Option, Some, None, inl, inr}
-use Rattle.std.specs.Prelude.{option_to_list, ◌==◌, nat_le, nat_lt, codes, decimal, filter_map, if◌then◌else◌, ℤ, pos, negsuc}
+use Rattle.std.proofs.Common.{◌≡◌, ℕ, zero, suc, ◌+◌, ◌-◌, ◌/◌, ◌%◌, ◌<◌, ◌≤◌, Bool, true, false, cond, ◌||◌, List, [], ◌∷◌, ◌++◌, length, take, drop, replicate, map, refl, sym, arith, append_assoc, Option, Some, None, inl, inr, option_to_list, ◌==◌, nat_le, nat_lt, codes, decimal, filter_map, if◌then◌else◌, ℤ, pos, negsuc}
 use Rattle.std.specs.List.{AllByRecursion, list_all, cons_option, join_with_byte}
 use Rattle.std.specs.Fmt.{digit_glyph, digits_onto, digits}
 use Rattle.std.specs.Char.{digit_char}

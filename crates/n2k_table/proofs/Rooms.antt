@@ -1,6 +1,5 @@
 -- What a room holds of a line, as bytes are written to it.
-use Rattle.std.proofs.Common.{◌≡◌, ℕ, suc, ◌+◌, ◌<◌, ◌≤◌, List, [], ◌∷◌, ◌++◌, length, take, sym, ap, ◌∙◌, append_assoc, arith}
-use Rattle.std.proofs.lemmas.List.{append-nil, length-take-le, take-take}
+use Rattle.std.proofs.Common.{◌≡◌, ℕ, suc, ◌+◌, ◌<◌, ◌≤◌, List, [], ◌∷◌, ◌++◌, length, take, sym, ap, ◌∙◌, append_assoc, arith, append-nil, length-take-le, take-take}
 use Rattle.n2k_table.specs.Decimal.{after_dot}
 use Rattle.n2k_table.proofs.Placed.{after_some}
 

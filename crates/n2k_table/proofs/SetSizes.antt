@@ -1,11 +1,8 @@
 -- The sizes of sets, and the sets that follow each other.
-use Rattle.std.proofs.Common.{◌≡◌, ℕ, zero, suc, ◌+◌, ◌-◌, ◌*◌, ◌/◌, ◌≤◌, true, false, ◌||◌, ◌&&◌, List, [], ◌∷◌, length, take, drop, Option, Some, None, refl, sym, ap, ◌∙◌, inl, inr, arith}
-use Rattle.std.specs.Prelude.{nat_le, option_map, unwrap_or}
+use Rattle.std.proofs.Common.{◌≡◌, ℕ, zero, suc, ◌+◌, ◌-◌, ◌*◌, ◌/◌, ◌≤◌, true, false, ◌||◌, ◌&&◌, List, [], ◌∷◌, length, take, drop, Option, Some, None, refl, sym, ap, ◌∙◌, inl, inr, arith, nat_le, option_map, unwrap_or, option_and_then, length-drop}
 use Rattle.std.specs.List.{list_any}
-use Rattle.std.specs.Option.{option_and_then}
 use Rattle.std.proofs.lemmas.Bool.{leb-true, le-leb, or_parts, or_cases, and_parts, true≢false, false≢true}
 use Rattle.std.proofs.lemmas.Option.{none-some, same_Some, cond_some, option_and_then_some}
-use Rattle.std.proofs.lemmas.List.{length-drop}
 use Rattle.n2k_table.specs.declared.string_place.Form.{Form}
 use Rattle.n2k_table.specs.declared.string_place.Form.TheVariants.{Lau, Lz}
 use Rattle.n2k_table.specs.Strings.{taken, data_behind}
