@@ -1,5 +1,5 @@
 -- The digits of a number as they stand in an array, with zeros before them.
-use Rattle.std.proofs.Common.{◌≡◌, ℕ, ◌+◌, ◌-◌, ◌<◌, ◌≤◌, List, [], ◌∷◌, ◌++◌, length, take, drop, replicate, refl, sym, ap, ◌∙◌, append_assoc, arith, decimal}
+use Rattle.std.proofs.Common.{◌≡◌, ℕ, ◌+◌, ◌-◌, ◌<◌, ◌≤◌, List, ◌∷◌, ◌++◌, length, take, drop, replicate, sym, ap, ◌∙◌, append_assoc, arith, decimal}
 use Rattle.std.proofs.lemmas.List.{length-append, length-replicate, length-drop, take-append-drop, take-take, take_at, take-append-le, take_all, drop-append-le, drop-replicate, drop_all, append-nil}
 use Rattle.n2k_table.specs.Decimal.{after_dot, padded_digits, dotted}
 
@@ -16,11 +16,6 @@ placed digits ds behind first from zeros is le =
 
 pub length_padded : (n e : ℕ) → length (padded_digits n e) ≡ (e + 1 - length (decimal n)) + length (decimal n)
 length_padded n e = grind (arith, length-append, length-replicate)
-
--- a dot, where digits stand behind it
-pub after_some : (ds : List ℕ) → 0 < length ds → after_dot ds ≡ 46 ∷ ds
-after_some [] some = absurd (omega arith)
-after_some (d ∷ ds) some = refl
 
 -- the digits before the dot, of some that are taken at once
 before_placed : (ds behind : List ℕ) (k : ℕ) → k ≤ length ds → k ≤ 24 → take k (take 24 (ds ++ behind)) ≡ take k ds
