@@ -9,7 +9,7 @@ use Rattle.n2kdec.specs.FaultSentence.{SystemWords}
 use Rattle.n2kdec.specs.Machine.{Calls, DoesAsked, Hints, IsAdmittedSo, IsNotRead, IsPerformed, IsPerformedOver, IsRead, IsReadBefore, IsUnread, LogAfter, Makes, Outside, ReadsFile, ReportsFault, RunsCommand, RunsRequest, World, table_bytes, too_large, with_log}
 use Rattle.n2k_run.specs.Device.{IsWhy}
 use Rattle.n2kdec.specs.Fault.{longest_file, status_of, unopened, unread}
-use Rattle.n2kdec.specs.Replacement.{IsOfMemory}
+use Rattle.n2kdec.specs.Disk.{IsOfMemory}
 use Rattle.n2kdec.specs.Told.{Tells}
 use Rattle.n2kdec.specs.declared.asked.Request.{Request}
 use Rattle.n2kdec.specs.declared.asked.Command.{Command}

@@ -1,12 +1,12 @@
 -- Which calls a function makes of a folder, one after the other.
-use Rattle.std.proofs.Common.{arith, ◌≡◌, ◌≢◌, ℕ, true, false, List, [], ◌∷◌, ◌++◌, Option, None, Some, IfSome, Result, Ok, Err, IsErrAnd, inl, inr, refl, subst, sym, ap, ◌∙◌}
+use Rattle.std.proofs.Common.{arith, ◌≡◌, ◌≢◌, ℕ, true, false, List, [], ◌∷◌, ◌++◌, Option, None, Some, option_map, Result, Ok, Err, IsErrAnd, inl, inr, refl, subst, sym, ap, ◌∙◌}
 use Rattle.std.specs.declared.fs.OpenOptions.{OpenOptions}
 use Rattle.std.specs.declared.io.Error.{Error}
 use Rattle.clap.specs.Words.{Text}
-use Rattle.n2kdec.specs.Destination.{destination, folder_of}
-use Rattle.n2kdec.specs.Disk.{Act, Acts, Answers, Call, IsAnswerUnlessMemory, acted, failure, noted, open_at, remove, rename, set_mode, sync_folder}
+use Rattle.n2kdec.specs.Destination.{folder_of}
+use Rattle.n2kdec.specs.Disk.{Act, Acts, Answers, Call, acted, failure, kind_of, noted, open_at, remove, rename, set_mode, sync_folder}
 use Rattle.n2kdec.specs.Folder.{Name, Target, Temp, act_at, behind, is_taken, path_of}
-use Rattle.n2kdec.specs.Replacement.{By, Doing, IsAppended, IsKept, IsKeptAs, IsMade, IsMadeAnew, IsModed, IsNamed, IsOne, IsOver, IsPlaced, IsWritten, KeepsText, Makes, Then, judged, make}
+use Rattle.n2kdec.specs.Replacement.{By, Doing, IsAppended, IsFoundFor, IsKept, IsKeptAs, IsMade, IsMadeAnew, IsModed, IsNamed, IsOne, IsOver, IsPlaced, IsWritten, KeepsText, Makes, Then, judged, make}
 use Rattle.n2kdec.specs.declared.destination.Destination.{Destination}
 use Rattle.n2kdec.specs.declared.destination.Kind.{Kind}
 use Rattle.n2kdec.specs.declared.destination.Kind.TheVariants.{Alone, Shared, Special}
@@ -48,10 +48,10 @@ module _ (d : Destination) where
   by a b answers Does answer result (made, from, is) same = (made, from, (answer, is, same))
 
   -- a new file is made
-  pub made_at_once : (a b : Acts) (answer : Result (Unit {0}) Error) (result : Result (Unit {0}) Unplaced) → Makes d a b (IsOne make) answer → is_taken (failure answer) ≡ false → result ≡ judged answer → Makes d a b IsMade result
+  pub made_at_once : (a b : Acts) (answer : Result (Unit {0}) Error) (result : Result (Unit {0}) Unplaced) → Makes d a b (IsOne make) answer → is_taken (option_map kind_of (failure answer)) ≡ false → result ≡ judged answer → Makes d a b IsMade result
   made_at_once a b answer result (made, from, is) free same = (made, from, (answer, inl (free, same, is)))
 
-  pub made_anew : (a b c : Acts) (answer : Result (Unit {0}) Error) (result : Result (Unit {0}) Unplaced) → Makes d a b (IsOne make) answer → is_taken (failure answer) ≡ true → Makes d b c IsMadeAnew result → Makes d a c IsMade result
+  pub made_anew : (a b c : Acts) (answer : Result (Unit {0}) Error) (result : Result (Unit {0}) Unplaced) → Makes d a b (IsOne make) answer → is_taken (option_map kind_of (failure answer)) ≡ true → Makes d b c IsMadeAnew result → Makes d a c IsMade result
   made_anew a b c answer result (made, from, is) taken (later, to, anew) = grind (arith, both later made a)
 
   pub moded : (a b : Acts) (mode : Option ℕ) (bits : ℕ) (result : Result (Unit {0}) Error) → mode ≡ Some bits → b ≡ noted (acted (set_mode bits) result) a → Makes d a b (IsModed mode) result
@@ -108,11 +108,10 @@ pub ruleset steps = (one, opened, removed, renamed, folder_synced, after, ended,
 -- ---- where a name leads
 
 module _ (answers : Option Answers) (old new : Acts) (name : Text) (text : List ℕ) (result : Result (Unit {0}) Error) where
-  pub kept_nowhere : (error : Error) → IfSome answers (λ a. IsAnswerUnlessMemory {T = Destination} (λ to. to) (destination a name) (Err error)) → IsErrAnd result (λ why. why ≡ error)
-      → KeepsText answers old old name text result
+  pub kept_nowhere : (error : Error) → IsFoundFor answers name (Err error) → IsErrAnd result (λ why. why ≡ error) → KeepsText answers old old name text result
   kept_nowhere error nowhere is = grind arith
 
-  pub kept_as : (d : Destination) → IfSome answers (λ a. IsAnswerUnlessMemory (λ to. to) (destination a name) (Ok d)) → Makes d old new (IsKeptAs d.kind d text) result → KeepsText answers old new name text result
+  pub kept_as : (d : Destination) → IsFoundFor answers name (Ok d) → Makes d old new (IsKeptAs d.kind d text) result → KeepsText answers old new name text result
   kept_as d found keeps = inl (d, found, keeps)
 
 pub ruleset keeps = (kept_nowhere, kept_as)

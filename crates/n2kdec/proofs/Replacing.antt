@@ -3,9 +3,8 @@ use Rattle.std.proofs.Common.{◌≡◌, ◌⊎◌, ◌||◌, List, ℕ, Bool, t
 use Rattle.std.specs.Fs.{asks_create_new, asks_truncate}
 use Rattle.std.specs.IoError.{error_kind}
 use Rattle.std.specs.declared.io.Error.{Error}
-use Rattle.std.specs.declared.io.ErrorKind.{ErrorKind}
 use Rattle.n2kdec.specs.Destination.{is_missing}
-use Rattle.n2kdec.specs.Disk.{Act, Call, acted, failure, open_at, set_mode, write, sync, rename, remove, sync_folder}
+use Rattle.n2kdec.specs.Disk.{Act, Call, This, Why, acted, failure, kind_of, open_at, set_mode, write, sync, rename, remove, sync_folder}
 use Rattle.n2kdec.specs.Folder.{Content, Extent, FileAfter, FileMayBeLeft, HasAfter, LeftAfter, MayBeLeft, MayHave, Name, Target, Temp, Unsure, Nothing, Whole, Where, changed_by, cut_failure, cut_short, extent_of, is_refusal, opened, opened_by}
 use Rattle.n2kdec.specs.Replacement.{AtEachMoment, By, Doing, EndsWith, HasOldOrNew, IsAlone, IsAsBefore, IsFilled, IsGivenUp, IsMade, IsModed, IsNamed, IsOne, IsPlaced, IsPoured, IsSynced, IsWritten, LeavesOne, LeavesWritten, Then, empty, failed, judged, make}
 use Rattle.n2kdec.specs.declared.destination.Destination.{Destination}
@@ -267,10 +266,10 @@ module _ (first : Name → Content) (before : List (Act Name)) (d : Destination)
     here : IsStill (filled ++ before)
     here = last IsStill filled before (all_still Temp Target from_temp first before filled of)
 
-    abbrev naming : Option ErrorKind → List (Act Name)
+    abbrev naming : Option Why → List (Act Name)
     naming failed = record { call = rename Temp Target; failed = failed } ∷ filled ++ before
 
-    named : d.kind ≡ Alone → (failed : Option ErrorKind) → IsSafe (naming failed)
+    named : d.kind ≡ Alone → (failed : Option Why) → IsSafe (naming failed)
     named alone failed = record { found = found (extent_of (rename Temp Target) failed); left = left (extent_of (rename Temp Target) failed) }
       where
         found : (extent : Extent) (c : Content) → HasAfter extent (rename Temp Target) (opened (filled ++ before)) (MayHave first (filled ++ before)) Target c → OldOrNew (MayHave first before Target) c
@@ -288,11 +287,11 @@ module _ (first : Name → Content) (before : List (Act Name)) (d : Destination)
         left Unsure c (inl now) = inl (here.left c now)
         left Unsure c (inr (kept, file, is)) = inr (alone, is ∙ whole filled are (Some kept) (synced filled are kept file))
 
-    naming_safe : d.kind ≡ Alone → (failed : Option ErrorKind) → AtEachMoment IsSafe (record { call = rename Temp Target; failed = failed } ∷ filled) before
+    naming_safe : d.kind ≡ Alone → (failed : Option Why) → AtEachMoment IsSafe (record { call = rename Temp Target; failed = failed } ∷ filled) before
     naming_safe alone failed = (filled_safe filled of, named alone (cut_failure (extent_of (rename Temp Target) failed) failed), named alone failed)
 
     -- or that is refused
-    not_named : (why : ErrorKind) → is_refusal why ≡ true → AtEachMoment IsStill (record { call = rename Temp Target; failed = Some why } ∷ filled) before
+    not_named : (why : Why) → is_refusal (kind_of why) ≡ true → AtEachMoment IsStill (record { call = rename Temp Target; failed = Some why } ∷ filled) before
     not_named why refusal = (
       all_still Temp Target from_temp first before filled of,
       at (cut_short (record { call = rename Temp Target; failed = Some why })) (subst (λ e. extent_of (rename Temp Target) (cut_failure e (Some why)) ≡ Nothing) (sym nothing) nothing),
@@ -345,22 +344,22 @@ module _ (first : Name → Content) (before : List (Act Name)) (d : Destination)
 
   -- ---- a call failed, and the new file is to be taken away
 
-  taken_away : (made : List (Act Name)) (gone : Option ErrorKind) → IsAlone first (record { call = remove Temp; failed = gone } ∷ made) before
+  taken_away : (made : List (Act Name)) (gone : Option Why) → IsAlone first (record { call = remove Temp; failed = gone } ∷ made) before
   taken_away made None c now = inl now
-  taken_away made (Some why) c now = at (is_missing why) refl now
+  taken_away made (Some why) c now = at (is_missing (kind_of why)) refl now
     where
-      at : (missing : Bool) → is_missing why ≡ missing → HasAfter (if missing then Whole else if is_refusal why then Nothing else Unsure) (remove Temp) (opened (made ++ before)) (MayHave first (made ++ before)) Temp c
-          → (c ≡ None) ⊎ ((w : ErrorKind) × (rest : List (Act Name)) × (is_missing w ≡ false) × (record { call = remove Temp; failed = Some why } ∷ made ≡ record { call = remove Temp; failed = Some w } ∷ rest))
+      at : (missing : Bool) → is_missing (kind_of why) ≡ missing → HasAfter (if missing then Whole else if is_refusal (kind_of why) then Nothing else Unsure) (remove Temp) (opened (made ++ before)) (MayHave first (made ++ before)) Temp c
+          → (c ≡ None) ⊎ ((w : Why) × (rest : List (Act Name)) × (is_missing (kind_of w) ≡ false) × (record { call = remove Temp; failed = Some why } ∷ made ≡ record { call = remove Temp; failed = Some w } ∷ rest))
       at true is now = inl now
       at false is now = inr (why, made, is, refl)
 
-  still_safe : (gone : Option ErrorKind) (acts : List (Act Name)) → IsSafe acts → IsSafe (record { call = remove Temp; failed = gone } ∷ acts)
+  still_safe : (gone : Option Why) (acts : List (Act Name)) → IsSafe acts → IsSafe (record { call = remove Temp; failed = gone } ∷ acts)
   still_safe gone acts here = record {
     found = λ c now. here.found c (found_still Temp Target from_temp (extent_of (remove Temp) gone) (remove Temp) (opened acts) (MayHave first acts) c refl now);
     left = λ c now. here.left c (left_still Temp Target from_temp (extent_of (remove Temp) gone) (remove Temp) (opened acts) (MayHave first acts) (FileMayBeLeft first acts) (MayBeLeft first acts) c refl now);
   }
 
-  given_up : (error : Error) (made : List (Act Name)) (gone : Option ErrorKind) → AtEachMoment IsSafe made before
+  given_up : (error : Error) (made : List (Act Name)) (gone : Option Why) → AtEachMoment IsSafe made before
       → LeavesOne d.kind first (record { call = remove Temp; failed = gone } ∷ made) before text (Err error)
   given_up error made gone safely =
       let here = last IsSafe made before safely in record {
@@ -396,7 +395,7 @@ module _ (first : Name → Content) (before : List (Act Name)) (d : Destination)
 
       by : (answer : Result (Unit {0}) Error) → Err Refused ≡ judged answer → AtEachMoment IsStill (acted (rename Temp Target) answer ∷ filled) before
       by (Ok value) same = absurd cc
-      by (Err error) same = not_named filled are (error_kind error) (refused (is_refusal (error_kind error)) error refl same)
+      by (Err error) same = not_named filled are (This error) (refused (is_refusal (error_kind error)) error refl same)
 
       go : (kind : Kind) → IsNamed kind (Err Refused) later → AtEachMoment IsStill (later ++ filled) before
       go Alone (answer, one, same) = subst (λ acts. AtEachMoment IsStill (acts ++ filled) before) (sym one) (by answer same)
@@ -426,7 +425,7 @@ module _ (first : Name → Content) (d : Destination) (text : List ℕ) (at : Li
   unfolding text_of
   left_over kept is = ap text_of (whole_over (Some kept) is)
 
-  file_still : (gone : Option ErrorKind) (acts : List (Act Name)) (kept : List ℕ) → FileMayBeLeft first (record { call = remove Temp; failed = gone } ∷ acts) Target kept → FileMayBeLeft first acts Target kept
+  file_still : (gone : Option Why) (acts : List (Act Name)) (kept : List ℕ) → FileMayBeLeft first (record { call = remove Temp; failed = gone } ∷ acts) Target kept → FileMayBeLeft first acts Target kept
   file_still gone acts kept now = by (extent_of (remove Temp) gone) now
     where
       by : (extent : Extent) → FileAfter extent (remove Temp) (opened acts) (MayHave first acts) (FileMayBeLeft first acts) Target kept → FileMayBeLeft first acts Target kept

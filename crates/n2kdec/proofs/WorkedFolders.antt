@@ -1,13 +1,12 @@
 -- What the model of a folder says of wrong ways to replace a text.
 use Rattle.std.proofs.Common.{List, ℕ, [], ◌∷◌, Some, refl, inl, inr}
-use Rattle.std.specs.declared.io.ErrorKind.{ErrorKind}
-use Rattle.n2kdec.specs.Disk.{rename, sync, write}
+use Rattle.n2kdec.specs.Disk.{Why, rename, sync, write}
 use Rattle.n2kdec.specs.Folder.{Content, MayBeLeft, MayHave, Name, Target, Temp}
 use Rattle.n2kdec.specs.Replacement.{empty, make}
 use Rattle.n2kdec.proofs.Replacing.{done}
 use Rattle.n2kdec.specs.declared.destination.Destination.{Destination}
 
-module _ (first : Name → Content) (d : Destination) (text any : List ℕ) (why : ErrorKind) where
+module _ (first : Name → Content) (d : Destination) (text any : List ℕ) (why : Why) where
   -- an old file that is emptied first may be found empty
   emptied : MayHave first (done (empty d) ∷ []) Target (Some [])
   emptied = refl

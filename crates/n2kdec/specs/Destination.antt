@@ -9,7 +9,7 @@ use Rattle.std.specs.declared.io.ErrorKind.{ErrorKind}
 use Rattle.std.specs.declared.io.ErrorKind.TheVariants.{NotFound, InvalidInput, InvalidFilename, FilesystemLoop}
 use Rattle.clap.specs.Words.{Text}
 use Rattle.n2k_wire.specs.Steps.{◌>>=◌, or_cause}
-use Rattle.n2kdec.specs.Disk.{Answers}
+use Rattle.n2kdec.specs.Disk.{Answers, OfKind, Why, kind_of}
 use Rattle.n2kdec.specs.declared.destination.Destination.{Destination}
 use Rattle.n2kdec.specs.declared.destination.Kind.{Kind}
 use Rattle.n2kdec.specs.declared.destination.Kind.TheVariants.{Alone, Shared, Special}
@@ -57,29 +57,29 @@ is_no_link NotFound = true
 is_no_link _ = false
 
 -- what is answered of a path; none where nothing is there
-abbrev pub if_there : {T : Type 0} → Result T ErrorKind → Result (Option T) ErrorKind
+abbrev pub if_there : {T : Type 0} → Result T Why → Result (Option T) Why
 if_there (Ok answer) = Ok (Some answer)
-if_there (Err why) = if is_missing why then Ok None else Err why
+if_there (Err why) = if is_missing (kind_of why) then Ok None else Err why
 
 -- whether a path stands for an open file: its folder is one of `/proc`, as that of `/dev/fd/3` is
-unfoldable pub is_open_file : Answers → Text → Result Bool ErrorKind
+unfoldable pub is_open_file : Answers → Text → Result Bool Why
 is_open_file a path = do
   folder ← if_there (a.real (folder_of path))
   Ok (unwrap_or (option_map is_of_proc folder) false)
 
 -- the path to which the link at a path leads, by what is answered of that; none where it is no link
-abbrev pub linked : Text → Result Text ErrorKind → Result (Option Text) ErrorKind
+abbrev pub linked : Text → Result Text Why → Result (Option Text) Why
 linked path (Ok link) = Ok (Some (linked_path path link))
-linked path (Err why) = if is_no_link why then Ok None else Err why
+linked path (Err why) = if is_no_link (kind_of why) then Ok None else Err why
 
 -- The path behind all links, of which so many are looked at, one after the other; none where one on the way stands for
 -- an open file.
-abbrev pub onward : (Text → Result (Option Text) ErrorKind) → Text → Option Text → Result (Option Text) ErrorKind
+abbrev pub onward : (Text → Result (Option Text) Why) → Text → Option Text → Result (Option Text) Why
 onward more path None = Ok (Some path)
 onward more path (Some next) = more next
 
-unfoldable pub behind : ℕ → Answers → Text → Result (Option Text) ErrorKind
-behind zero a path = Err FilesystemLoop
+unfoldable pub behind : ℕ → Answers → Text → Result (Option Text) Why
+behind zero a path = Err (OfKind FilesystemLoop)
 behind (suc looks) a path = do
   is_open ← is_open_file a path
   if is_open then Ok None else (linked path (a.link path) >>= onward (behind looks a) path)
@@ -105,7 +105,7 @@ abbrev pub placed_at : Text → Option Found → Option Text → Text × Kind
 placed_at name was None = (name, Special)
 placed_at name was (Some path) = (path, if is_shared was then Shared else Alone)
 
-unfoldable pub target_of : Answers → Text → Option Found → Result (Text × Kind) ErrorKind
+unfoldable pub target_of : Answers → Text → Option Found → Result (Text × Kind) Why
 target_of a name was =
     if is_file was then (behind (suc most_links) a name >>= λ path. Ok (placed_at name was path))
     else Ok (name, Special)
@@ -114,13 +114,13 @@ target_of a name was =
 abbrev pub permissions : Found → ℕ
 permissions found = bit_and found.mode 0o777
 
--- A state under this name goes there; or it can't be found out where, by the first answer of this kind, or since the
--- name ends with no name of a file.
-unfoldable pub destination : Answers → Text → Result Destination ErrorKind
+-- A state under this name goes there; or it can't be found out where, by the error of the first call that failed, or
+-- since the name ends with no name of a file.
+unfoldable pub destination : Answers → Text → Result Destination Why
 destination a name = do
   was ← if_there (a.found name)
   to ← target_of a name was
-  temp ← or_cause InvalidFilename (new_path to.0)
+  temp ← or_cause (OfKind InvalidFilename) (new_path to.0)
   Ok (record { target = to.0; temp = temp; kind = to.1; mode = option_map permissions was })
 
 -- ---- two paths
@@ -130,7 +130,7 @@ abbrev pub are_one : Found → Found → Bool
 are_one one other = one.is_file && other.is_file && one.device == other.device && one.number == other.number
 
 -- by what both lead to; where one of them can't be looked at the paths themselves are compared
-abbrev pub are_same : Result Found ErrorKind → Result Found ErrorKind → Bool → Bool
+abbrev pub are_same : Result Found Why → Result Found Why → Bool → Bool
 are_same (Ok one) (Ok other) spelled = are_one one other
 are_same _ _ spelled = spelled
 

@@ -9,24 +9,41 @@ use Rattle.std.specs.declared.fs.OpenOptions.{OpenOptions}
 use Rattle.clap.specs.Words.{Text}
 use Rattle.n2kdec.specs.declared.disk.Found.{Found}
 
+-- Why a call failed: by this error; or by one of this kind, where no more is known of it.
+pub data Why : Type 0 where
+  This : Error → Why
+  OfKind : ErrorKind → Why
+
+abbrev pub kind_of : Why → ErrorKind
+kind_of (This error) = error_kind error
+kind_of (OfKind kind) = kind
+
 -- ---- what is answered of a path
 
 -- What a path leads to, over links (stat); the text of the link that it is (readlink); and the path behind all links
--- (realpath): each what the system answers, or by which kind of error it does not.
+-- (realpath): each what the system answers, or why it does not.
 pub record Answers : Type 0 where
-  pub found : Text → Result Found ErrorKind
-  pub link : Text → Result Text ErrorKind
-  pub real : Text → Result Text ErrorKind
+  pub found : Text → Result Found Why
+  pub link : Text → Result Text Why
+  pub real : Text → Result Text Why
+
+-- the known answer is an error, and this one
+abbrev pub IsError : {V : Type 0} → Result V Why → Error → Type 0
+IsError known error = (known ≡ Err (This error)) ⊎ (known ≡ Err (OfKind (error_kind error)))
+
+-- memory is refused: nothing says when
+abbrev pub IsOfMemory : Error → Type 0
+IsOfMemory error = error_kind error ≡ OutOfMemory
 
 -- this is the known answer
-abbrev pub IsAnswer : {T V : Type 0} → (T → V) → Result V ErrorKind → Result T Error → Type 0
+abbrev pub IsAnswer : {T V : Type 0} → (T → V) → Result V Why → Result T Error → Type 0
 IsAnswer view known (Ok value) = known ≡ Ok (view value)
-IsAnswer view known (Err error) = known ≡ Err (error_kind error)
+IsAnswer view known (Err error) = IsError known error
 
 -- or memory was refused
-abbrev pub IsAnswerUnlessMemory : {T V : Type 0} → (T → V) → Result V ErrorKind → Result T Error → Type 0
+abbrev pub IsAnswerUnlessMemory : {T V : Type 0} → (T → V) → Result V Why → Result T Error → Type 0
 IsAnswerUnlessMemory view known (Ok value) = known ≡ Ok (view value)
-IsAnswerUnlessMemory view known (Err error) = (known ≡ Err (error_kind error)) ⊎ (error_kind error ≡ OutOfMemory)
+IsAnswerUnlessMemory view known (Err error) = IsError known error ⊎ IsOfMemory error
 
 -- ---- what is done
 
@@ -45,16 +62,16 @@ pub data Call (P : Type 0) : Type 0 where
   -- the folder at this path, or in which this name is
   sync_folder : P → Call P
 
--- A call that was made, and the kind of error that it answered; none where it is done. One that answered an error may
--- be done, done in part, or not done.
+-- A call that was made, and why it failed; none where it is done. One that failed may be done, done in part, or not
+-- done.
 pub record Act (P : Type 0) : Type 0 where
   pub call : Call P
-  pub failed : Option ErrorKind
+  pub failed : Option Why
 
--- by which kind of error a call failed, if it did
-abbrev pub failure : {T : Type 0} → Result T Error → Option ErrorKind
+-- why a call failed that answered this, if it did
+abbrev pub failure : {T : Type 0} → Result T Error → Option Why
 failure (Ok value) = None
-failure (Err error) = Some (error_kind error)
+failure (Err error) = Some (This error)
 
 abbrev pub acted : {P T : Type 0} → Call P → Result T Error → Act P
 acted call result = record { call = call; failed = failure result }

@@ -2,6 +2,8 @@
 use Rattle.std.specs.Prelude.{ℕ, List, Option, Some, None, codes, ◌==◌, if◌then◌else◌}
 use Rattle.std.specs.IoError.{error_kind}
 use Rattle.std.specs.declared.io.Error.{Error}
+use Rattle.std.specs.declared.io.ErrorKind.{ErrorKind}
+use Rattle.std.specs.declared.io.ErrorKind.TheVariants.{OutOfMemory}
 use Rattle.n2k_join.specs.declared.counts.Counts.{Counts}
 use Rattle.n2k_join.specs.declared.fault.StateFault.{StateFault}
 use Rattle.n2k_join.specs.declared.fault.StateFault.TheVariants as state
@@ -9,7 +11,6 @@ use Rattle.n2k_run.specs.declared.fault.RunFault.{RunFault}
 use Rattle.n2k_run.specs.declared.fault.RunFault.TheVariants as run
 use Rattle.n2k_table.specs.declared.fault.TableFault.{TableFault}
 use Rattle.n2k_table.specs.declared.fault.TableFault.TheVariants as table
-use Rattle.n2kdec.specs.Replacement.{is_memory}
 use Rattle.n2kdec.specs.declared.fault.Fault.{Fault}
 use Rattle.n2kdec.specs.declared.fault.Reading.{Reading}
 use Rattle.n2kdec.specs.declared.fault.Reading.TheVariants as reading
@@ -101,9 +102,13 @@ unread reading.Table why = TableFile why
 unread reading.State why = StateFile why
 unread reading.Log why = Read 0 why None
 
--- or can't be opened, by this error
+-- or can't be opened, by this error of this kind
+abbrev pub unopened_by : ErrorKind → Reading → Error → Fault
+unopened_by OutOfMemory read error = Memory (Some read)
+unopened_by _ read error = unread read (Some error)
+
 abbrev pub unopened : Reading → Error → Fault
-unopened read error = if is_memory (error_kind error) then Memory (Some read) else unread read (Some error)
+unopened read error = unopened_by (error_kind error) read error
 
 -- 0 where no line was bad
 abbrev pub exit_status : Counts → ℕ

@@ -10,7 +10,8 @@ use Rattle.std.specs.declared.io.ErrorKind.TheVariants.{AlreadyExists, Permissio
 use Rattle.std.specs.declared.io.ErrorKind.TheVariants.{InvalidFilename, ResourceBusy, IsADirectory, Other}
 use Rattle.clap.specs.Words.{Text}
 use Rattle.n2kdec.specs.Destination.{folder_of, is_missing}
-use Rattle.n2kdec.specs.Disk.{Act, Acts, Call, noted, open_at, set_mode, write, sync, rename, remove, sync_folder}
+use Rattle.n2kdec.specs.Disk.{Act, Acts, Call, OfKind, Why, kind_of, noted, open_at, set_mode, write, sync, rename}
+use Rattle.n2kdec.specs.Disk.{remove, sync_folder}
 use Rattle.n2kdec.specs.declared.destination.Destination.{Destination}
 
 -- the name that gets a text, and that of the new file beside it, until the text is whole
@@ -83,23 +84,25 @@ pub data Extent : Type 0 where
   Nothing : Extent
 
 -- How much of a call is done, by its answer. What is to be taken away and is not there is gone.
-abbrev pub extent_of : Call Name → Option ErrorKind → Extent
+abbrev pub extent_of : Call Name → Option Why → Extent
 extent_of call None = Whole
-extent_of (open_at name how) (Some why) = if is_taken (Some why) || is_refusal why then Nothing else Unsure
-extent_of (rename from to) (Some why) = if is_refusal why then Nothing else Unsure
-extent_of (remove name) (Some why) = if is_missing why then Whole else if is_refusal why then Nothing else Unsure
+extent_of (open_at name how) (Some why) =
+    if is_taken (Some (kind_of why)) || is_refusal (kind_of why) then Nothing else Unsure
+extent_of (rename from to) (Some why) = if is_refusal (kind_of why) then Nothing else Unsure
+extent_of (remove name) (Some why) =
+    if is_missing (kind_of why) then Whole else if is_refusal (kind_of why) then Nothing else Unsure
 extent_of _ (Some why) = Unsure
 
 -- the same call, where a cut meets it: what is refused does nothing then too
-abbrev pub cut_failure : Extent → Option ErrorKind → Option ErrorKind
+abbrev pub cut_failure : Extent → Option Why → Option Why
 cut_failure Nothing failed = failed
-cut_failure _ failed = Some Other
+cut_failure _ failed = Some (OfKind Other)
 
 abbrev pub cut_short : Act Name → Act Name
 cut_short act = record { call = act.call; failed = cut_failure (extent_of act.call act.failed) act.failed }
 
 -- the name at which the open file was opened, if one is
-abbrev pub opened_by : Call Name → Option ErrorKind → Option Name → Option Name
+abbrev pub opened_by : Call Name → Option Why → Option Name → Option Name
 opened_by (open_at name how) None current = Some name
 opened_by _ _ current = current
 

@@ -1,13 +1,11 @@
 -- Which states are kept, and why others are not.
 use Rattle.std.specs.Prelude.{◌≡◌, ◌⊎◌, ◌&&◌, ◌||◌, List, ℕ, Bool, true, false, Option, Some, None, IfSome, codes}
 use Rattle.std.specs.Prelude.{Result, Ok, Err}
-use Rattle.std.specs.IoError.{error_kind}
-use Rattle.std.specs.declared.io.ErrorKind.{ErrorKind}
 use Rattle.clap.specs.Words.{Text}
 use Rattle.n2k_wire.specs.Steps.{◌>>=◌}
 use Rattle.n2kdec.specs.Destination.{destination, leads}
-use Rattle.n2kdec.specs.Disk.{Acts, Answers}
-use Rattle.n2kdec.specs.Replacement.{IsOfMemory, KeepsText}
+use Rattle.n2kdec.specs.Disk.{Acts, Answers, IsError, IsOfMemory, Why}
+use Rattle.n2kdec.specs.Replacement.{KeepsText}
 use Rattle.n2kdec.specs.declared.asked.Files.{Files}
 use Rattle.n2kdec.specs.declared.destination.Destination.{Destination}
 use Rattle.n2kdec.specs.declared.destination.Kind.{Kind}
@@ -46,7 +44,7 @@ abbrev pub harms_temp : Answers → Text → Files → Bool
 harms_temp a own files = meets_files a own files || meets a own files.state || leads a own (codes "/dev/stdout")
 
 -- whether a state of this name would harm what is read or printed to
-unfoldable pub harms : Answers → Text → Files → Result Bool ErrorKind
+unfoldable pub harms : Answers → Text → Files → Result Bool Why
 harms a name files = do
   to ← destination a name
   Ok (harms_target a to files || harms_temp a to.temp files)
@@ -58,7 +56,7 @@ abbrev pub Admits : {T : Type 0} → Option Answers → Text → Files → Resul
 Admits answers name files (Ok done) = IfSome answers (λ a. harms a name files ≡ Ok false)
 Admits answers name files (Err Harm) = IfSome answers (λ a. harms a name files ≡ Ok true)
 Admits answers name files (Err (Unfound error)) =
-    IfSome answers (λ a. harms a name files ≡ Err (error_kind error)) ⊎ IsOfMemory error
+    IfSome answers (λ a. IsError (harms a name files) error ⊎ IsOfMemory error)
 Admits answers name files (Err (Failed error)) = ⊥
 
 -- what is answered whether a state of a name may be kept by a run of these files, where that is known

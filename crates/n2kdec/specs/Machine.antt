@@ -14,7 +14,7 @@ use Rattle.n2kdec.specs.Ending.{hint}
 use Rattle.n2kdec.specs.Fault.{fault_line, longest_file, status_of, unopened, unread}
 use Rattle.n2kdec.specs.FaultSentence.{IsSentence, SystemWords}
 use Rattle.n2kdec.specs.Keeper.{Admission}
-use Rattle.n2kdec.specs.Replacement.{IsOfMemory}
+use Rattle.n2kdec.specs.Disk.{IsOfMemory}
 use Rattle.n2kdec.specs.Told.{Tells}
 use Rattle.n2kdec.specs.Parser.{Shown}
 use Rattle.n2kdec.specs.declared.asked.Request.{Request}

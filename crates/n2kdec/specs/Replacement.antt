@@ -1,16 +1,14 @@
 -- How a text comes to a name: it takes the place of another, so that at each moment one of the two is there, whole; or,
 -- where the folder does not allow that or the file has other names, it is written over the file itself.
 use Rattle.std.specs.Prelude.{◌≡◌, ◌⊎◌, ◌++◌, ℕ, Bool, true, false, List, [], ◌∷◌, Option, Some, None, IfSome}
-use Rattle.std.specs.Prelude.{IsErrAnd, OnOk, Result, Ok, Err, if◌then◌else◌}
+use Rattle.std.specs.Prelude.{IsErrAnd, OnOk, Result, Ok, Err, if◌then◌else◌, option_map}
 use Rattle.std.specs.Option.{is_none}
 use Rattle.std.specs.IoError.{error_kind}
 use Rattle.std.specs.declared.io.Error.{Error}
-use Rattle.std.specs.declared.io.ErrorKind.{ErrorKind}
-use Rattle.std.specs.declared.io.ErrorKind.TheVariants.{OutOfMemory}
 use Rattle.clap.specs.Words.{Text}
 use Rattle.n2kdec.specs.Destination.{destination, is_missing}
-use Rattle.n2kdec.specs.Disk.{Act, Acts, Answers, Call, acted, failure, open_at, set_mode, write, sync, rename, remove}
-use Rattle.n2kdec.specs.Disk.{sync_folder}
+use Rattle.n2kdec.specs.Disk.{Act, Acts, Answers, Call, IsAnswerUnlessMemory, Why, acted, failure, kind_of, open_at}
+use Rattle.n2kdec.specs.Disk.{set_mode, write, sync, rename, remove, sync_folder}
 use Rattle.n2kdec.specs.Folder.{Content, FileMayBeLeft, MayBeLeft, MayHave, Name, Target, Temp, behind, cut_short}
 use Rattle.n2kdec.specs.Folder.{is_refusal, is_taken, makes_new, writes_behind, writes_over}
 use Rattle.n2kdec.specs.declared.destination.Destination.{Destination}
@@ -62,8 +60,8 @@ IsMadeAnew result made = Then (By judged (IsOne (remove Temp))) (By failed (IsOn
 
 abbrev pub IsMade : Doing Unplaced
 IsMade result made = (answer : Result (Unit {0}) Error)
-    × (((is_taken (failure answer) ≡ false) × (result ≡ judged answer) × IsOne make answer made)
-    ⊎ ((later : List (Act Name)) × (is_taken (failure answer) ≡ true) × IsMadeAnew result later
+    × (((is_taken (option_map kind_of (failure answer)) ≡ false) × (result ≡ judged answer) × IsOne make answer made)
+    ⊎ ((later : List (Act Name)) × (is_taken (option_map kind_of (failure answer)) ≡ true) × IsMadeAnew result later
     × (made ≡ later ++ acted make answer ∷ [])))
 
 -- it gets the permissions of the file in whose place it comes, if one is there, and the text, and is synced
@@ -93,7 +91,7 @@ IsSynced d text result made =
 
 abbrev pub IsGivenUp : Destination → List ℕ → Doing Error
 IsGivenUp d text result made =
-    (error : Error) × (tried : List (Act Name)) × (gone : Option ErrorKind) × (result ≡ Err error)
+    (error : Error) × (tried : List (Act Name)) × (gone : Option Why) × (result ≡ Err error)
     × IsPlaced d text (Err (Failed error)) tried × (made ≡ record { call = remove Temp; failed = gone } ∷ tried)
 
 -- The text is written over what the file of the name has, and synced; where none is there, it is made. The new file is
@@ -106,7 +104,7 @@ IsWritten d text result made = Then (IsOne (empty d)) (IsPoured None text) resul
 
 abbrev pub EndsWith : Result (Unit {0}) Error → List (Act Name) → List (Act Name) → Type 0
 EndsWith (Ok done) written made =
-    (gone : Option ErrorKind) × (made ≡ record { call = remove Temp; failed = gone } ∷ written)
+    (gone : Option Why) × (made ≡ record { call = remove Temp; failed = gone } ∷ written)
 EndsWith (Err error) written made = made ≡ written
 
 abbrev pub IsOver : Destination → List ℕ → Doing Error
@@ -141,7 +139,7 @@ pub record HasOldOrNew (kind : Kind) (first : Name → Content) (before : List (
 -- nothing stands beside the name, unless it could not be taken away
 abbrev pub IsAlone : (Name → Content) → List (Act Name) → List (Act Name) → Type 0
 IsAlone first made before = (c : Content) → MayHave first (made ++ before) Temp c → (c ≡ None)
-    ⊎ ((why : ErrorKind) × (rest : List (Act Name)) × (is_missing why ≡ false)
+    ⊎ ((why : Why) × (rest : List (Act Name)) × (is_missing (kind_of why) ≡ false)
     × (made ≡ record { call = remove Temp; failed = Some why } ∷ rest))
 
 -- At each moment the name has the old text or the new one; after Ok the new one, and after each cut from then on.
@@ -179,21 +177,13 @@ IsKeptAs _ d text result made = IsKept d text result made
 
 -- ---- where a name leads
 
--- the destination of this name, as far as the disk's answers are known; or none can be found, by an error of this kind
-abbrev pub IsFoundFor : Option Answers → Text → Result Destination ErrorKind → Type 0
-IsFoundFor answers name found = IfSome answers (λ a. destination a name ≡ found)
-
--- memory is refused: nothing says when
-abbrev pub is_memory : ErrorKind → Bool
-is_memory OutOfMemory = true
-is_memory _ = false
-
-abbrev pub IsOfMemory : Error → Type 0
-IsOfMemory error = is_memory (error_kind error) ≡ true
+-- the destination of this name is found, or none is, as far as the disk's answers are known
+abbrev pub IsFoundFor : Option Answers → Text → Result Destination Error → Type 0
+IsFoundFor answers name found = IfSome answers (λ a. IsAnswerUnlessMemory (λ d. d) (destination a name) found)
 
 -- A text comes to the file to which a name leads. Only where that can't be found out, by this error, or memory is
 -- refused, nothing is done.
 abbrev pub KeepsText : Option Answers → Acts → Acts → Text → List ℕ → Result (Unit {0}) Error → Type 0
 KeepsText answers old new name text result =
     ((d : Destination) × IsFoundFor answers name (Ok d) × Makes d old new (IsKeptAs d.kind d text) result)
-    ⊎ ((new ≡ old) × IsErrAnd result (λ error. IsFoundFor answers name (Err (error_kind error)) ⊎ IsOfMemory error))
+    ⊎ ((new ≡ old) × IsErrAnd result (λ error. IsFoundFor answers name (Err error)))

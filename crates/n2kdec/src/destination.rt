@@ -5,7 +5,7 @@ ghost use Rattle.n2k_wire.specs.Steps.{or_cause};
 ghost use Rattle.n2kdec.specs.Destination.{are_one, behind, destination, folder_of, is_file, is_missing, is_no_link};
 ghost use Rattle.n2kdec.specs.Destination.{is_of_proc, is_open_file, is_shared, leads, linked, linked_path, new_path};
 ghost use Rattle.n2kdec.specs.Destination.{if_there, target_of};
-ghost use Rattle.n2kdec.specs.Disk.{IsAnswer, IsAnswerUnlessMemory};
+ghost use Rattle.n2kdec.specs.Disk.{IsAnswer, IsAnswerUnlessMemory, OfKind};
 
 use crate::disk::{Disk, Found};
 use crate::words::Word;
@@ -64,7 +64,7 @@ fn linked_path(alloc: Global, path: &str, link: &str) -> Result<Word, AllocError
 
 /// The path of the new file beside that of this path: hidden, with the program's name, and the same for each run.
 fn new_path(alloc: Global, path: &str) -> io::Result<Word>
-    ensures { IsAnswerUnlessMemory (λ new. new) (or_cause Nameless (new_path path.now)) result }
+    ensures { IsAnswerUnlessMemory (λ new. new) (or_cause (OfKind Nameless) (new_path path.now)) result }
 {
     let path = Path::new(path);
     let Some(name) = path.file_name() else {

@@ -1,8 +1,8 @@
 //! How a text comes to a name: it is written beside the old one and takes its name, or it is written over it.
 #![tactic(auto, using(crate::proofs::Making::steps, crate::proofs::Making::keeps))]
 
-ghost use Rattle.std.specs.Prelude.{◌≡◌};
-ghost use Rattle.n2kdec.specs.Disk.{failure, open_at, remove, rename, sync_folder};
+ghost use Rattle.std.specs.Prelude.{◌≡◌, option_map};
+ghost use Rattle.n2kdec.specs.Disk.{failure, kind_of, open_at, remove, rename, sync_folder};
 ghost use Rattle.n2kdec.specs.Folder.{Target, Temp, is_refusal, is_taken, writes_behind};
 ghost use Rattle.n2kdec.specs.Replacement.{IsAppended, IsFilled, IsKept, IsKeptAs, IsMade, IsMadeAnew, IsModed, IsNamed, IsOne};
 ghost use Rattle.n2kdec.specs.Replacement.{IsOver, IsPlaced, IsPoured, IsWritten, KeepsText, Makes, empty, failed, judged, make};
@@ -94,7 +94,7 @@ fn empty<D: Disk>(disk: &mut D, to: &Destination) -> io::Result<()>
 
 /// Whether something has the path of a new file.
 fn is_taken(answer: &io::Result<()>) -> bool
-    ensures { result ≡ is_taken (failure answer.now) }
+    ensures { result ≡ is_taken (option_map kind_of (failure answer.now)) }
 {
     match answer {
         Ok(()) => false,

@@ -1,5 +1,5 @@
-use Rattle.std.proofs.Common.{◌≡◌, true, Ok, Err}
-use Rattle.n2kdec.specs.Disk.{failure, remove}
+use Rattle.std.proofs.Common.{◌≡◌, true, Ok, Err, option_map}
+use Rattle.n2kdec.specs.Disk.{failure, kind_of, remove}
 use Rattle.n2kdec.specs.Folder.{Temp, is_taken}
 use Rattle.n2kdec.specs.Replacement.{By, IsOne, failed, judged, make}
 use Rattle.n2kdec.proofs.Making.{after, by, ended, made_anew}
@@ -11,7 +11,7 @@ returns-in_err-judged g c =
     let a = g.D.Disk.acts c.args.disk.now in
     let m = g.D.Disk.acts c.make_new-answer.new.disk in
     let r = g.D.Disk.acts c.remove_new.new.disk in
-    let taken : is_taken (failure c.make_new-answer.result) ≡ true = cc in
+    let taken : is_taken (option_map kind_of (failure c.make_new-answer.result)) ≡ true = cc in
     made_anew to a m r c.make_new-answer.result c.from_residual.result c.make_new-answer.ensures taken
     (ended to m r (By judged (IsOne (remove Temp))) (By failed (IsOne make)) c.in_err-judged.field-0.0 c.from_residual.result
     (by to m r judged (IsOne (remove Temp)) c.remove_new.result (Err c.in_err-judged.field-0.0) c.remove_new.ensures c.in_err-judged.ensures) c.from_residual.ensures.1)
@@ -23,7 +23,7 @@ returns g c =
     let m = g.D.Disk.acts c.make_new-answer.new.disk in
     let r = g.D.Disk.acts c.remove_new.new.disk in
     let n = g.D.Disk.acts c.make_new.new.disk in
-    let taken : is_taken (failure c.make_new-answer.result) ≡ true = cc in
+    let taken : is_taken (option_map kind_of (failure c.make_new-answer.result)) ≡ true = cc in
     made_anew to a m n c.make_new-answer.result c.failed.result c.make_new-answer.ensures taken
     (after to m r n (By judged (IsOne (remove Temp))) (By failed (IsOne make)) c.in_ok-judged.field-0 c.failed.result
     (by to m r judged (IsOne (remove Temp)) c.remove_new.result (Ok c.in_ok-judged.field-0) c.remove_new.ensures c.in_ok-judged.ensures)
