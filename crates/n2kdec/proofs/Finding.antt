@@ -6,11 +6,11 @@ use Rattle.n2k_wire.specs.Steps.{◌>>=◌}
 use Rattle.n2kdec.specs.Destination.{behind, is_open_file, linked, onward}
 use Rattle.n2kdec.specs.Disk.{Answers, OfKind}
 
-none_left : (a : Answers) (path : Text) → behind 0 a path ≡ Err (OfKind FilesystemLoop)
+pub none_left : (a : Answers) (path : Text) → behind 0 a path ≡ Err (OfKind FilesystemLoop)
 unfolding behind
 none_left a path = refl
 
-some_left : (a : Answers) (path : Text) (looks : ℕ) → 0 < looks
+pub some_left : (a : Answers) (path : Text) (looks : ℕ) → 0 < looks
     → behind looks a path ≡ (is_open_file a path >>= λ is_open. if is_open then Ok None else (linked path (a.link path) >>= onward (behind (looks - 1) a) path))
 unfolding behind
 some_left a path looks some = let one : looks ≡ suc (looks - 1) = omega arith in ap (λ n. behind n a path) one

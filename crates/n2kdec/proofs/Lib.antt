@@ -1,6 +1,4 @@
 pub mod AskedLemmas
-pub mod CommandLemmas
-pub mod DecodeLemmas
 pub mod Finding
 pub mod MachineLemmas
 pub mod Making
