@@ -1,19 +1,16 @@
 -- The decimal text of x / 10 ^ e is one text, and no other is.
-use Rattle.std.proofs.Common.{◌≡◌, ◌≢◌, ℕ, zero, suc, ◌+◌, ◌-◌, ◌*◌, ◌%◌, ◌^◌, ◌<◌, ◌≤◌, ℤ, List, [], ◌∷◌, ◌++◌, length, get_or, take, drop, replicate, refl, sym, ap, ◌∙◌, append_assoc, arith, inl, inr, lit<}
+use Rattle.std.proofs.Common.{◌≡◌, ◌≢◌, ℕ, zero, suc, ◌+◌, ◌-◌, ◌*◌, ◌%◌, ◌^◌, ◌<◌, ◌≤◌, ℤ, List, [], ◌∷◌, ◌++◌, length, get_or, replicate, refl, sym, ap, ◌∙◌, append_assoc, arith, lit<, decimal, unsigned_abs, FitsSigned}
 use Rattle.std.specs.Int.{w128}
-use Rattle.std.specs.Prelude.{decimal, unsigned_abs, FitsSigned}
 use Rattle.std.proofs.lemmas.Int.{ints}
 use Rattle.std.specs.Char.{digit_value}
 use Rattle.std.specs.Str.Parse.{AllDigits, digits_value, digits_value_after}
 use Rattle.std.proofs.Math.Nat.{pow-suc, pow-le-pow_right, mul-le-mul_left}
-use Rattle.std.proofs.lemmas.Bool.{cases_lt}
 use Rattle.std.proofs.lemmas.Fmt.{decimal_is_IsNumeral_wide, decimal_by_steps_wide}
 use Rattle.std.proofs.lemmas.Int.Digits.{digits_value-lt}
 use Rattle.std.proofs.lemmas.List.{length-append, length-replicate, length-take, length-drop, take-append-drop, take_at, drop_at, get_or_append_left, get_or-take}
-use Rattle.std.proofs.lemmas.Str.Parse.{digit_from_value}
-use Rattle.n2k_table.specs.Decimal.{sign_of, after_dot, IsDecimal, padded_digits, dotted, dec}
+use Rattle.n2k_table.specs.Decimal.{sign_of, IsDecimal, padded_digits, dotted, dec}
 use Rattle.n2k_table.specs.Inner.Digits.{zero_filled}
-use Rattle.n2k_table.proofs.Digits.{digit_value_is, digits_value_after-append}
+use Rattle.n2k_table.proofs.Digits.{digits_value_after-append}
 
 -- digits of n, at least e + 1 of them, and where there are more none of them leads as a zero
 record IsPadded (e n : ℕ) (ds : List ℕ) : Type 0 where
@@ -24,12 +21,7 @@ record IsPadded (e n : ℕ) (ds : List ℕ) : Type 0 where
 
 -- a digit from its value
 digit_is : (c : ℕ) → digit_value c < 10 → c ≡ 48 + digit_value c
-digit_is c below =
-    let r = digit_from_value c below in
-    let low : 48 ≤ c = omega (arith, r) in
-    let high : c ≤ 57 = omega (arith, r) in
-    let v = digit_value_is c low high in
-    omega arith
+digit_is c below = grind arith
 
 -- as many digits of one number are the same
 same_after : (m n : ℕ) (xs ys : List ℕ) → length xs ≡ length ys → AllDigits 10 xs → AllDigits 10 ys
@@ -74,15 +66,7 @@ leading_le (d ∷ ds) all lead some =
 
 -- fewer digits make less
 not_shorter : (e n : ℕ) (xs ys : List ℕ) → IsPadded e n xs → IsPadded e n ys → length ys ≤ length xs
-not_shorter e n xs ys px py =
-    elim (cases_lt (length xs) (length ys)) [
-      | inl lt ↦
-          let low = leading_le ys py.digits (py.lead (omega (arith, px.long))) (omega (arith, py.long)) in
-          let high = digits_value-lt 10 xs px.digits in
-          let power : 10 ^ length xs ≤ 10 ^ (length ys - 1) = pow-le-pow_right (omega arith) (omega arith) in
-          absurd (omega (arith, low, high, power, px.value, py.value))
-      | inr le ↦ le
-    ]
+not_shorter e n xs ys px py = grind (arith, leading_le, digits_value-lt, pow-le-pow_right)
 
 padded_unique : (e n : ℕ) (xs ys : List ℕ) → IsPadded e n xs → IsPadded e n ys → xs ≡ ys
 padded_unique e n xs ys px py =
@@ -126,60 +110,23 @@ padded_is n e small =
     record {
       digits = AllDigits-append (replicate zeros 48) (decimal n) (AllDigits-zeros zeros) number.0.1;
       long = omega arith;
-      lead = λ more leads.
-          let none : zeros ≡ 0 = omega arith in
-          let whole : padded_digits n e ≡ decimal n = ap (λ k. replicate k 48 ++ decimal n) none in
-          let some : 0 < n = first.large (omega arith) in
-          let high = first.first some in
-          let same : get_or (decimal n) 0 0 ≡ 48 = ap (λ ds. get_or ds 0 0) (sym whole) ∙ leads in
-          omega arith;
-      value = digits_value_after-append 0 (replicate zeros 48) (decimal n)
-          ∙ ap (λ v. digits_value_after 10 v (decimal n)) (value_of_zeros zeros) ∙ number.1;
+      lead = grind arith;
+      value = grind (arith, digits_value_after-append, value_of_zeros);
     }
 
 -- the text is one
 pub dec_is_decimal : (x : ℤ) (e : ℕ) → unsigned_abs x < 10 ^ 64 → IsDecimal x e (dec x e)
 unfolding dec
-dec_is_decimal x e small =
-    let ds = padded_digits (unsigned_abs x) e in
-    let p = padded_is (unsigned_abs x) e small in
-    let k = length ds - e in
-    let both : take k ds ++ drop k ds ≡ ds = take-append-drop k ds in
-    let len : length (take k ds) ≡ k = omega (arith, length-take k ds) in
-    record {
-      whole = take k ds;
-      decimals = drop k ds;
-      spelled = refl;
-      digits = rw both p.digits;
-      count = omega (arith, length-drop k ds, p.long);
-      begins = omega (arith, len, p.long);
-      no_leading_zero = λ more. rw (get_or-take k ds 0 0 (omega (arith, p.long))) (p.lead (omega (arith, len, more)));
-      size = rw both p.value;
-    }
+dec_is_decimal x e small = grind (arith, padded_is, take-append-drop, length-take, length-drop, get_or-take)
 
 -- the digits of such a text, without the dot
 decimal_is_padded : (x : ℤ) (e : ℕ) (text : List ℕ) (t : IsDecimal x e text) → IsPadded e (unsigned_abs x) (t.whole ++ t.decimals)
-decimal_is_padded x e text t =
-    let len = length-append t.whole t.decimals in
-    record {
-      digits = t.digits;
-      long = omega (arith, len, t.count, t.begins);
-      lead = λ more. rw (get_or_append_left t.whole t.decimals 0 0 t.begins) (t.no_leading_zero (omega (arith, len, t.count, more)));
-      value = t.size;
-    }
+decimal_is_padded x e text t = grind (arith, length-append, get_or_append_left)
 
 -- no other text is one
 pub dec_only : (x : ℤ) (e : ℕ) → unsigned_abs x < 10 ^ 64 → (text : List ℕ) → IsDecimal x e text → text ≡ dec x e
 unfolding dec
-dec_only x e small text t =
-    let ds = padded_digits (unsigned_abs x) e in
-    let own = t.whole ++ t.decimals in
-    let same : own ≡ ds = padded_unique e (unsigned_abs x) own ds (decimal_is_padded x e text t) (padded_is (unsigned_abs x) e small) in
-    let place : length own - e ≡ length t.whole = omega (arith, length-append t.whole t.decimals, t.count) in
-    let front : take (length own - e) own ≡ t.whole = take_at t.whole t.decimals (length own - e) (sym place) in
-    let back : drop (length own - e) own ≡ t.decimals = drop_at t.whole t.decimals (length own - e) (sym place) in
-    let parted : t.whole ++ after_dot t.decimals ≡ dotted e own = sym (rw (front, back) refl) in
-    t.spelled ∙ ap (λ r. sign_of x ++ r) (parted ∙ ap (dotted e) same)
+dec_only x e small text t = grind (arith, padded_unique e (unsigned_abs x) (t.whole ++ t.decimals) (padded_digits (unsigned_abs x) e) (decimal_is_padded x e text t) (padded_is (unsigned_abs x) e small), length-append t.whole t.decimals, take_at, drop_at)
 
 -- the size of a number of 128 bits
 pub size_lt : (x : ℤ) → FitsSigned w128 x → unsigned_abs x < 10 ^ 64
@@ -188,9 +135,7 @@ size_lt x fits = omega (arith, ints, fits)
 -- a zero before e digits
 dotted_after : (e : ℕ) (ds : List ℕ) → length ds ≡ e → 0 < e → dotted e (48 ∷ ds) ≡ 48 ∷ 46 ∷ ds
 dotted_after e [] len some = absurd (omega arith)
-dotted_after e (d ∷ ds) len some =
-    let place : length (48 ∷ d ∷ ds) - e ≡ 1 = omega arith in
-    rw place refl
+dotted_after e (d ∷ ds) len some = grind arith
 
 -- and digits that are not
 pub zero_filled_padded : (n e : ℕ) → n < 10 ^ 64 → length (decimal n) ≤ e → zero_filled e (decimal n) ≡ dotted e (padded_digits n e)
@@ -204,6 +149,4 @@ zero_filled_padded n e small less =
 -- the sign and then the digits
 pub onto : (x : ℤ) (e n : ℕ) (l0 l1 l2 : List ℕ) → n ≡ unsigned_abs x → l1 ≡ l0 ++ sign_of x → l2 ≡ l1 ++ dotted e (padded_digits n e) → l2 ≡ l0 ++ dec x e
 unfolding dec
-onto x e n l0 l1 l2 is sign rest =
-    rest ∙ ap (λ (l : List ℕ). l ++ dotted e (padded_digits n e)) sign ∙ append_assoc l0 (sign_of x) (dotted e (padded_digits n e))
-    ∙ ap (λ m. l0 ++ (sign_of x ++ dotted e (padded_digits m e))) is
+onto x e n l0 l1 l2 is sign rest = grind (arith, append_assoc)

@@ -1,7 +1,5 @@
 -- The document that bytes spell, as the crate `toml` reads it.
-use Rattle.std.proofs.Common.{◌≡◌, ◌≢◌, ℕ, false, List, [], Some, None, Result, Ok, Err, IfOk, All, refl, sym, ap, subst, inl, inr}
-use Rattle.std.specs.Prelude.{Contains, IfErr}
-use Rattle.std.proofs.lemmas.List.Elements.{Contains-push}
+use Rattle.std.proofs.Common.{arith, ◌≡◌, ◌≢◌, ℕ, false, List, [], Some, None, Result, Ok, Err, IfOk, All, refl, inl, inr, Contains, IfErr}
 use Rattle.std.specs.Str.{is_utf8, IsUtf8}
 use Rattle.std.proofs.lemmas.Bool.{cases_Bool}
 use Rattle.std.proofs.lemmas.Str.{IsUtf8-from_is_utf8, is_utf8-from_IsUtf8}
@@ -12,7 +10,7 @@ use Rattle.n2k_table.specs.declared.fault.TableFault.TheVariants.{NotToml, Memor
 use Rattle.n2k_table.specs.Duplicate.{has_duplicate}
 use Rattle.n2k_table.specs.Reading.{ReaderGives}
 use Rattle.n2k_wire.specs.Steps.{or_cause}
-use Rattle.n2k_table.specs.Table.{TableParts, document, are_mixed, read_table, fault_in, table_in, faults, table, kind}
+use Rattle.n2k_table.specs.Table.{TableParts, document, are_mixed, read_table, faults, table, kind}
 use Rattle.n2k_table.proofs.OneKind.{one_kind}
 
 pub document_some : (bytes : List ℕ) (top : Members) → IsUtf8 bytes → parse_document bytes ≡ Some top → or_cause NotToml (document bytes) ≡ Ok top
@@ -28,13 +26,10 @@ document_none bytes refused =
 -- ---- what is read, in the words for its fault and its table
 
 pub read_sound : (r : Result TableParts TableFault) (bytes : List ℕ) → ReaderGives (λ t. t) r (read_table bytes) → IfOk r (λ t. (faults bytes ≡ []) × (t ≡ table bytes))
-read_sound (Ok t) bytes given = (ap fault_in given, sym (ap table_in given))
-read_sound (Err fault) bytes given = tt
+read_sound r bytes given = grind arith
 
 pub read_stands : (r : Result TableParts TableFault) (bytes : List ℕ) → ReaderGives (λ t. t) r (read_table bytes) → IfErr r (λ fault. fault ≢ Memory → Contains (faults bytes) fault)
-read_stands (Ok t) bytes given = tt
-read_stands (Err fault) bytes given = λ other. subst (λ fs. Contains fs fault) (sym (ap fault_in (given other))) (Contains-push [] fault)
+read_stands r bytes given = grind arith
 
 pub read_kinds : (r : Result TableParts TableFault) → IfOk r (λ t. has_duplicate are_mixed t.definitions ≡ false) → IfOk r (λ t. All (λ d. kind t d.pgn ≡ Some d.kind) t.definitions)
-read_kinds (Ok t) pure = one_kind t pure
-read_kinds (Err fault) pure = tt
+read_kinds r pure = grind (arith, one_kind)

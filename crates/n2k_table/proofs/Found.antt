@@ -1,5 +1,5 @@
 -- What is known of a PGN by the first of its candidates.
-use Rattle.std.proofs.Common.{◌≡◌, ℕ, ◌<◌, ◌&&◌, Bool, true, ◌∙◌, List, [], ◌∷◌, length, get_or, slice_get, nat_eq, Some, None, option_map, sym, ap, inl, inr}
+use Rattle.std.proofs.Common.{arith, ◌≡◌, ℕ, ◌<◌, ◌&&◌, Bool, true, ◌∙◌, List, [], ◌∷◌, length, get_or, slice_get, nat_eq, Some, None, option_map, sym, ap, inl, inr}
 use Rattle.std.specs.List.{find}
 use Rattle.std.proofs.lemmas.Bool.{cases_Bool, eqb-true}
 use Rattle.n2k_table.specs.Definition.{DefinitionParts}
@@ -16,8 +16,7 @@ first_inside ds pgn cs c same first = first_within (places_of cs) c.place (lengt
 
 pub first_found : (t : TableParts) (pgn : ℕ) (cs : List Candidate) (c : Candidate) (d : DefinitionParts) → places_of cs ≡ places pgn (pgns t.definitions) → slice_get cs 0 ≡ Some c
     → d ≡ get_or t.definitions c.place d → find (is_of pgn) t.definitions ≡ Some d
-first_found t pgn cs c d same first at =
-    one_kind pgn t.definitions (places_of cs) c.place d same (first_place cs (Some c) first) (first_inside t.definitions pgn cs c same first) at
+first_found t pgn cs c d same first at = grind (arith, one_kind, first_place, first_inside)
 
 -- a PGN's first definition is chosen where it passes
 first_passes : (q : DefinitionParts → Bool) (pgn : ℕ) (ds : List DefinitionParts) (d : DefinitionParts) → find (is_of pgn) ds ≡ Some d → q d ≡ true → find (λ e. is_of pgn e && q e) ds ≡ Some d

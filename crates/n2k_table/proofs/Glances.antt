@@ -1,20 +1,14 @@
 -- What fields ask of the first eight bytes, put together.
-use Rattle.std.proofs.Common.{◌≡◌, ℕ, ◌+◌, ◌-◌, ◌*◌, ◌/◌, ◌%◌, ◌^◌, ◌<◌, ◌≤◌, ◌≢◌, min, max, bit_and, bit_or, nat_eq, true, false, List, length, slice_get, Option, Some, None, inl, inr, sym, ap, ◌∙◌, arith, lit<}
-use Rattle.std.specs.Int.{bit_at}
-use Rattle.std.specs.List.{list_all}
-use Rattle.std.proofs.lemmas.Bool.{and_parts, cases_Bool}
-use Rattle.std.proofs.lemmas.Bool.Decides.{nat_tests}
+use Rattle.std.proofs.Common.{◌≡◌, ℕ, ◌+◌, ◌-◌, ◌*◌, ◌/◌, ◌%◌, ◌^◌, ◌<◌, ◌≤◌, ◌≢◌, min, max, bit_and, bit_or, true, false, List, length, slice_get, Option, Some, sym, ap, ◌∙◌, arith, lit<}
 use Rattle.std.proofs.lemmas.Nat.{pow-add, shl_whole}
 use Rattle.std.proofs.lemmas.Nat.Bits.{and_high, bit_at_and, bit_at_or, same_from_bits}
 use Rattle.std.proofs.Math.Nat.{one-le-pow}
 use Rattle.n2k_table.specs.declared.index.Candidate.{Candidate}
 use Rattle.n2k_table.specs.Bits.{raw}
 use Rattle.n2k_table.specs.Definition.{DefinitionParts}
-use Rattle.n2k_table.specs.Inner.Glance.{IsGlance}
 use Rattle.n2k_table.specs.Inner.Index.{IsOfPlace}
 use Rattle.n2k_table.specs.Field.{FieldParts}
-use Rattle.n2k_table.specs.Shown.{lies_inside}
-use Rattle.n2k_table.specs.Table.{field_matches, has_match_value, matches}
+use Rattle.n2k_table.specs.Table.{has_match_value, matches}
 use Rattle.n2k_table.proofs.RawBits.{raw_out_of}
 
 min_max : (a b c : ℕ) → min a (max b c) ≡ max (min a b) (min a c)
@@ -22,11 +16,7 @@ min_max a b c = omega arith
 
 -- bits that are taken under two masks
 and_or : (word m n : ℕ) → bit_and word (bit_or m n) ≡ bit_or (bit_and word m) (bit_and word n)
-and_or word m n = same_from_bits (bit_and word (bit_or m n)) (bit_or (bit_and word m) (bit_and word n)) (λ i.
-    bit_at_and word (bit_or m n) i
-    ∙ ap (min (bit_at word i)) (bit_at_or m n i)
-    ∙ min_max (bit_at word i) (bit_at m i) (bit_at n i)
-    ∙ sym (bit_at_or (bit_and word m) (bit_and word n) i ∙ ap (λ b. max b (bit_at (bit_and word n) i)) (bit_at_and word m i) ∙ ap (max (min (bit_at word i) (bit_at m i))) (bit_at_and word n i)))
+and_or word m n = search (same_from_bits, bit_at_and, bit_at_or, min_max, arith)
 
 once_more : (p q : ℕ) → (p + 1) * q ≡ p * q + q
 once_more p q = grind arith
@@ -46,29 +36,17 @@ bits_under word a n value inside is =
 -- some bits more are asked for
 pub more_bits : (word mask wanted a n value : ℕ) → a + n ≤ 64 → bit_and word mask ≡ wanted → word / 2 ^ a % 2 ^ n ≡ value
     → bit_and word (bit_or mask ((2 ^ n - 1) * 2 ^ a % 18446744073709551616)) ≡ bit_or wanted (value * 2 ^ a % 18446744073709551616)
-more_bits word mask wanted a n value inside before is =
-    and_or word mask ((2 ^ n - 1) * 2 ^ a % 18446744073709551616) ∙ ap (λ m. bit_or m (bit_and word ((2 ^ n - 1) * 2 ^ a % 18446744073709551616))) before ∙ ap (bit_or wanted) (bits_under word a n value inside is)
+more_bits word mask wanted a n value inside before is = grind (arith, and_or, bits_under)
 
 -- what a field asks for is there
 pub has_value : (payload : List ℕ) (f : FieldParts) (m : Option ℕ) (value : ℕ) → m ≡ Some value → has_match_value m f payload ≡ true → raw payload f.at f.bits ≡ value
-has_value payload f None value is match = absurd cc
-has_value payload f (Some v) value is match =
-    let same : v ≡ value = cc in
-    let parts = and_parts (lies_inside f payload) (nat_eq (raw payload f.at f.bits) v) match in
-    grind (arith, nat_tests)
+has_value payload f m value is match = grind arith
 
 -- the bits of a field that lies in the first eight bytes
 pub in_word : (payload : List ℕ) (a n : ℕ) → a + n ≤ 64 → raw payload 0 64 / 2 ^ a % 2 ^ n ≡ raw payload a n
-in_word payload a n inside =
-    let place : 0 + a ≡ a = omega arith in
-    raw_out_of payload 0 a n 64 inside ∙ ap (λ p. raw payload p n) place
+in_word payload a n inside = grind (arith, raw_out_of)
 
 -- data whose first eight bytes differ don't match the definition of a candidate
 pub candidate_differs : (payload : List ℕ) (ds : List DefinitionParts) (c : Candidate) → IsOfPlace ds c → 8 ≤ length payload → bit_and (raw payload 0 64) c.glance.mask ≢ c.glance.wanted
     → (d : DefinitionParts) → slice_get ds c.place ≡ Some d → matches payload d ≡ false
-candidate_differs payload ds c is enough differs d at =
-    let glance : IsGlance c.glance d.fields = rw at at is in
-    elim (cases_Bool (list_all (field_matches payload) d.fields)) [
-      | inl match ↦ absurd (differs (glance.asked payload enough match))
-      | inr other ↦ other
-    ]
+candidate_differs payload ds c is enough differs d at = grind arith

@@ -1,8 +1,7 @@
 -- What stands in a line before the members, as the code appends it.
-use Rattle.std.proofs.Common.{◌≡◌, ℕ, zero, suc, ◌+◌, ◌-◌, ◌/◌, ◌%◌, ◌<◌, ◌≤◌, Bool, true, ◌&&◌, List, [], ◌∷◌, ◌++◌, IfSome, slice_index_or, take, drop, nat_le, nat_lt, if◌then◌else◌, refl, sym, ap, ◌∙◌, codes, append_assoc, eq-zero-or-pos, arith, inl, inr}
-use Rattle.std.specs.Prelude.{decimal}
+use Rattle.std.proofs.Common.{◌≡◌, ℕ, zero, suc, ◌+◌, ◌-◌, ◌/◌, ◌%◌, ◌<◌, ◌≤◌, Bool, true, ◌&&◌, List, [], ◌∷◌, ◌++◌, IfSome, slice_index_or, take, drop, nat_le, nat_lt, if◌then◌else◌, refl, sym, ap, ◌∙◌, codes, append_assoc, eq-zero-or-pos, arith, inl, inr, decimal}
 use Rattle.std.specs.List.{list_all, find, join_with_byte}
-use Rattle.std.proofs.lemmas.Bool.{cases_Bool, eqb-true, and_parts, leb-true, le-leb, ne_eqb}
+use Rattle.std.proofs.lemmas.Bool.{and_parts}
 use Rattle.std.proofs.lemmas.Fmt.{decimal_digit}
 use Rattle.itoa.proofs.Decimal.{decimal_two, decimal_pair}
 use Rattle.std.specs.Str.{bytes_eq}
@@ -18,20 +17,13 @@ use Rattle.n2k_table.proofs.Escapes.{text_json-plain}
 
 -- numbers of up to three digits
 one_digit : (n : ℕ) → n < 10 → decimal n ≡ (48 + n % 10) ∷ []
-one_digit n small =
-    let same : n % 10 ≡ n = omega arith in
-    rw (same, decimal_digit n small) refl
+one_digit n small = grind (arith, decimal_digit)
 
 two_digits : (n : ℕ) → 10 ≤ n → n < 100 → decimal n ≡ (48 + n / 10 % 10) ∷ (48 + n % 10) ∷ []
-two_digits n large small =
-    let same : n / 10 % 10 ≡ n / 10 = omega arith in
-    rw (same, decimal_two n large small) refl
+two_digits n large small = grind (arith, decimal_two)
 
 three_digits : (n : ℕ) → 100 ≤ n → n < 1000 → decimal n ≡ (48 + n / 100) ∷ (48 + n / 10 % 10) ∷ (48 + n % 10) ∷ []
-three_digits n large small =
-    let tens : n % 100 / 10 ≡ n / 10 % 10 = omega arith in
-    let ones : n % 100 % 10 ≡ n % 10 = omega arith in
-    rw (decimal_pair n large (omega arith), decimal_digit (n / 100) (omega arith), tens, ones) refl
+three_digits n large small = grind (arith, decimal_pair, decimal_digit)
 
 -- the same, as a check of a table computes it
 abbrev few_digits : ℕ → List ℕ
@@ -60,12 +52,7 @@ are_number_texts zero = true
 are_number_texts (suc n) = is_number_text n (slice_index_or NUMBERS n []) && are_number_texts n
 
 number_text_of : (n : ℕ) (text : List ℕ) → n < 1000 → is_number_text n text ≡ true → IsNumberText n text
-number_text_of n text small is =
-    let place = slice_index_or text 3 0 in
-    let digits = bytes_eq (take (place - 48) text) (few_digits n) in
-    let parts = and_parts (nat_le 48 place && nat_le place 51) digits is in
-    let range = and_parts (nat_le 48 place) (nat_le place 51) parts.0 in
-    record { low = leb-true 48 place range.0; high = leb-true place 51 range.1; is = (bytes_eq-Decides (take (place - 48) text) (few_digits n)).0 parts.1 ∙ few_digits_are n small }
+number_text_of n text small is = grind (arith, bytes_eq-Decides, few_digits_are)
 
 number_text_below : (m n : ℕ) → are_number_texts m ≡ true → n < m → n < 1000 → IsNumberText n (slice_index_or NUMBERS n [])
 number_text_below zero n all h small = absurd (omega arith)
@@ -111,11 +98,7 @@ unmatched_parts m =
 found_number : (pgn : ℕ) (payload : List ℕ) (ds : List DefinitionParts)
     → IfSome (find (λ (d : DefinitionParts). is_of pgn d && matches payload d) ds) (λ (d : DefinitionParts). d.pgn ≡ pgn)
 found_number pgn payload [] = tt
-found_number pgn payload (d ∷ ds) =
-    elim (cases_Bool (is_of pgn d && matches payload d)) [
-      | inl found ↦ rw found (eqb-true d.pgn pgn (and_parts (is_of pgn d) (matches payload d) found).0)
-      | inr other ↦ rw other (found_number pgn payload ds)
-    ]
+found_number pgn payload (d ∷ ds) = grind (arith, found_number pgn payload ds)
 
 -- a definition that is chosen for a message describes its PGN
 pub choice_number : (t : TableParts) (pgn : ℕ) (payload : List ℕ) → IfSome (choice t pgn payload) (λ (d : DefinitionParts). d.pgn ≡ pgn)
@@ -134,22 +117,11 @@ all_overlap : (p : ℕ → Bool) (k n : ℕ) (xs : List ℕ) → k ≤ n → lis
 all_overlap p zero n xs le first last = last
 all_overlap p (suc k) n [] le first last = refl
 all_overlap p (suc k) zero (x ∷ xs) le first last = absurd (omega arith)
-all_overlap p (suc k) (suc n) (x ∷ xs) le first last =
-    let both = and_parts (p x) (list_all p (take n xs)) first in
-    rw both.0 (all_overlap p k n xs (omega arith) both.1 last)
-
-usual_is_plain : (b : ℕ) → is_usual b ≡ true → is_plain b ≡ true
-usual_is_plain b is =
-    let both = and_parts (nat_le 45 b) (nat_le b 90) is in
-    let low = leb-true 45 b both.0 in
-    let high = leb-true b 90 both.1 in
-    rw (le-leb 32 b (omega (arith, low)), ne_eqb b 34 (omega (arith, low)), ne_eqb b 92 (omega (arith, high))) refl
+all_overlap p (suc k) (suc n) (x ∷ xs) le first last = grind (arith, all_overlap p k n xs (omega arith) (and_parts (p x) (list_all p (take n xs)) first).1 last)
 
 all_usual_plain : (xs : List ℕ) → list_all is_usual xs ≡ true → list_all is_plain xs ≡ true
 all_usual_plain [] all = refl
-all_usual_plain (x ∷ xs) all =
-    let both = and_parts (is_usual x) (list_all is_usual xs) all in
-    rw (usual_is_plain x both.0) (all_usual_plain xs both.1)
+all_usual_plain (x ∷ xs) all = grind (arith, all_usual_plain xs)
 
 -- a stamp of usual bytes stands for itself
 pub usual_stamp : (stamp first last : List ℕ) (k : ℕ) → k ≤ 16 → first ≡ take 16 stamp → last ≡ drop k stamp

@@ -1,12 +1,10 @@
 -- The lookups of a table by their names, as the code's map has them.
-use Rattle.std.proofs.Common.{◌≡◌, ℕ, true, false, List, [], ◌∷◌, ◌++◌, String, Global, string_bytes, map, Option, Some, None, is_some, option_map, Err, refl, sym, ap, ◌∙◌, append_assoc, subst, inl, inr, Bor}
+use Rattle.std.proofs.Common.{arith, ◌≡◌, ℕ, true, false, List, [], ◌∷◌, ◌++◌, String, Global, string_bytes, map, Option, None, is_some, option_map, Err, refl, sym, ap, ◌∙◌, append_assoc, subst, Bor, option_copied}
 use Rattle.std.specs.Cmp.Lexicographic.{nat_list_eq_equiv}
-use Rattle.std.specs.Prelude.{option_copied}
 use Rattle.std.specs.Str.{bytes_eq}
 use Rattle.std.specs.String.{string_eq}
 use Rattle.std.specs.Map.{lookup as value_at}
 use Rattle.std.specs.List.{list_any, find}
-use Rattle.std.proofs.lemmas.Bool.{cases_Bool}
 use Rattle.std.proofs.lemmas.List.{map-append}
 use Rattle.indexmap.specs.IndexMap.{IndexMap, insert_entry}
 use Rattle.indexmap.proofs.CallerLemmas.{insert_entry-new}
@@ -23,22 +21,13 @@ lookups_in value entries = map (λ e. value e.1) entries
 module _ {R : Type 0} (value : R → LookupParts) where
   -- what is found behind a reference
   copied : (r : Option (Bor R)) → option_map (λ x. value x.now) r ≡ option_map value (option_copied r)
-  copied None = refl
-  copied (Some x) = refl
+  copied r = grind arith
 
   -- a lookup by its name is the first of the name
   find-named : (q : List ℕ) (es : List (String Global × R)) → AreNamed value es
       → option_map value (value_at (λ k. bytes_eq q (string_bytes k)) es) ≡ find (λ l. bytes_eq q l.name) (lookups_in value es)
   find-named q [] named = refl
-  find-named q (e ∷ es) named =
-      elim (cases_Bool (bytes_eq q (value e.1).name)) [
-        | inl same ↦
-            let key : bytes_eq q (string_bytes e.0) ≡ true = ap (bytes_eq q) named.0 ∙ same in
-            rw (key, same) refl
-        | inr other ↦
-            let key : bytes_eq q (string_bytes e.0) ≡ false = ap (bytes_eq q) named.0 ∙ other in
-            rw (key, other) (find-named q es named.1)
-      ]
+  find-named q (e ∷ es) named = grind (arith, find-named q es named.1)
 
   -- the same of what the map answers
   pub found-named : (r : Option (Bor R)) (q : List ℕ) (es : List (String Global × R)) → option_copied r ≡ value_at (λ k. bytes_eq q (string_bytes k)) es → AreNamed value es
@@ -49,12 +38,7 @@ module _ {R : Type 0} (value : R → LookupParts) where
   pub is_some-named : (l : LookupParts) (name : String Global) (es : List (String Global × R)) → AreNamed value es → string_bytes name ≡ l.name
       → is_some (value_at (string_eq name) es) ≡ list_any (is_same_lookup l) (lookups_in value es)
   is_some-named l name [] named is = refl
-  is_some-named l name (e ∷ es) named is =
-      let key : string_eq name e.0 ≡ is_same_lookup l (value e.1) = ap (λ n. bytes_eq n (string_bytes e.0)) is ∙ ap (bytes_eq l.name) named.0 in
-      elim (cases_Bool (is_same_lookup l (value e.1))) [
-        | inl same ↦ rw (key ∙ same, same) refl
-        | inr other ↦ rw (key ∙ other, other) (is_some-named l name es named.1 is)
-      ]
+  is_some-named l name (e ∷ es) named is = grind (arith, is_some-named l name es named.1 is)
 
 same_turned : (a b : LookupParts) → is_same_lookup a b ≡ is_same_lookup b a
 same_turned a b = nat_list_eq_equiv.symm a.name b.name
@@ -63,10 +47,7 @@ same_turned a b = nat_list_eq_equiv.symm a.name b.name
 pub twice_lookup : {R : Type 0} (value : R → LookupParts) (l : LookupParts) (name : String Global) (es : List (String Global × R)) (rest left all : List LookupParts)
     → AreNamed value es → string_bytes name ≡ l.name → left ≡ l ∷ rest → lookups_in value es ++ left ≡ all → is_some (value_at (string_eq name) es) ≡ true
     → apart all ≡ Err Twice
-twice_lookup value l name es rest left all named is at so_far found =
-    let among : list_any (is_same_lookup l) (lookups_in value es) ≡ true = sym (is_some-named value l name es named is) ∙ found in
-    let whole : all ≡ lookups_in value es ++ l ∷ rest = sym so_far ∙ ap (λ (ls : List LookupParts). lookups_in value es ++ ls) at in
-    rw (ap (has_duplicate is_same_lookup) whole ∙ twice_here is_same_lookup same_turned l (lookups_in value es) rest among) refl
+twice_lookup value l name es rest left all named is at so_far found = grind (arith, is_some-named, twice_here, same_turned)
 
 named_more : {R : Type 0} (value : R → LookupParts) (es : List (String Global × R)) (name : String Global) (r : R) → AreNamed value es → string_bytes name ≡ (value r).name
     → AreNamed value (es ++ (name, r) ∷ [])
@@ -77,9 +58,7 @@ module _ {R S : Type 0} (value : R → LookupParts) (m : IndexMap (String Global
   -- a lookup whose name none has so far
   pub lookup_more : (es : List (String Global × R)) (rest left all : List LookupParts) → es ≡ insert_entry string_eq m.entries name r → left ≡ value r ∷ rest
       → lookups_in value m.entries ++ left ≡ all → lookups_in value es ++ rest ≡ all
-  lookup_more es rest left all is at so_far =
-      ap (λ (l : List LookupParts). l ++ rest) (ap (lookups_in value) (is ∙ insert_entry-new string_eq m name r none) ∙ map-append (λ (e : String Global × R). value e.1) m.entries ((name, r) ∷ []))
-      ∙ append_assoc (lookups_in value m.entries) (value r ∷ []) rest ∙ ap (λ (l : List LookupParts). lookups_in value m.entries ++ l) (sym at) ∙ so_far
+  lookup_more es rest left all is at so_far = grind (arith, insert_entry-new, map-append, append_assoc)
 
   pub still_apart : (es : List (String Global × R)) → es ≡ insert_entry string_eq m.entries name r → AreNamed value m.entries → string_bytes name ≡ (value r).name
       → has_duplicate is_same_lookup (lookups_in value m.entries) ≡ false → has_duplicate is_same_lookup (lookups_in value es) ≡ false

@@ -1,8 +1,6 @@
 -- The members of an object, one after the other.
-use Rattle.std.proofs.Common.{◌≡◌, ℕ, Bool, true, false, ◌||◌, List, [], ◌∷◌, ◌++◌, length, Option, Some, None, is_some, refl, sym, ap, ◌∙◌, append_assoc, arith, Result, Ok, Err, OnOk, codes}
-use Rattle.std.specs.Prelude.{if◌then◌else◌}
+use Rattle.std.proofs.Common.{◌≡◌, ℕ, Bool, true, false, ◌||◌, List, [], ◌∷◌, ◌++◌, length, Option, Some, is_some, refl, sym, ap, ◌∙◌, append_assoc, arith, Result, OnOk, codes, if◌then◌else◌, append-nil}
 use Rattle.std.specs.List.{filter_map, cons_option, join_with_byte}
-use Rattle.std.proofs.lemmas.List.{append-nil}
 use Rattle.n2k_table.specs.Field.{FieldParts}
 use Rattle.n2k_table.specs.Shown.{all_shown, shown}
 use Rattle.n2k_table.specs.Json.{colon, member_json}
@@ -24,18 +22,13 @@ members_from-joined (m ∷ n ∷ ms) = ap (λ rest. m ++ (44 ∷ rest)) (members
 -- one more field, which may be left out
 one_more : (later : Bool) (m : Option (List ℕ)) (rest : List (List ℕ)) (line : List ℕ)
     → line ++ members_from later (cons_option m rest) ≡ (line ++ member_text later m) ++ members_from (later || is_some m) rest
-one_more false None rest line = ap (λ t. t ++ members_from false rest) (sym (append-nil line))
-one_more true None rest line = ap (λ t. t ++ members_from true rest) (sym (append-nil line))
-one_more false (Some m) rest line = sym (append_assoc line m (members_from true rest))
-one_more true (Some m) rest line = sym (append_assoc line (44 ∷ m) (members_from true rest))
+one_more later m rest line = grind (arith, append_assoc)
 
 pub goes_on : (empty later : Bool) (rest others : List FieldParts) (payload : List ℕ) (f : FieldParts) (line total : List ℕ) → rest ≡ f ∷ others
     → line ++ members_from later (filter_map (member_json empty) (all_shown rest payload)) ≡ total
     → (line ++ member_text later (member_json empty (f.name, shown f payload)))
     ++ members_from (later || is_some (member_json empty (f.name, shown f payload))) (filter_map (member_json empty) (all_shown others payload)) ≡ total
-goes_on empty later rest others payload f line total here so_far =
-    sym (one_more later (member_json empty (f.name, shown f payload)) (filter_map (member_json empty) (all_shown others payload)) line)
-    ∙ sym (ap (λ fs. line ++ members_from later (filter_map (member_json empty) (all_shown fs payload))) here) ∙ so_far
+goes_on empty later rest others payload f line total here so_far = grind (arith, one_more)
 
 pub is_done : (empty later : Bool) (rest : List FieldParts) (payload line total : List ℕ) → length rest ≡ 0
     → line ++ members_from later (filter_map (member_json empty) (all_shown rest payload)) ≡ total → line ≡ total
@@ -48,22 +41,13 @@ joined_more [] m = refl
 joined_more (x ∷ []) m = refl
 joined_more (x ∷ y ∷ ms) m = ap (λ rest. x ++ (44 ∷ rest)) (joined_more (y ∷ ms) m) ∙ sym (append_assoc x (44 ∷ join_with_byte 44 (y ∷ ms)) (44 ∷ m))
 
--- whether a member stands before the next
-flag_more : (later : Bool) (m : Option (List ℕ)) (rest : List (List ℕ)) → (later || has_members (cons_option m rest)) ≡ ((later || is_some m) || has_members rest)
-flag_more true m rest = refl
-flag_more false None rest = refl
-flag_more false (Some m) rest = refl
-
 flag_end : (later : Bool) → (later || false) ≡ later
-flag_end true = refl
-flag_end false = refl
+flag_end later = grind arith
 
 pub flag_goes_on : (empty later total : Bool) (rest others : List FieldParts) (payload : List ℕ) (f : FieldParts) → rest ≡ f ∷ others
     → (later || has_members (filter_map (member_json empty) (all_shown rest payload))) ≡ total
     → ((later || is_some (member_json empty (f.name, shown f payload))) || has_members (filter_map (member_json empty) (all_shown others payload))) ≡ total
-flag_goes_on empty later total rest others payload f here so_far =
-    sym (flag_more later (member_json empty (f.name, shown f payload)) (filter_map (member_json empty) (all_shown others payload)))
-    ∙ sym (ap (λ fs. later || has_members (filter_map (member_json empty) (all_shown fs payload))) here) ∙ so_far
+flag_goes_on empty later total rest others payload f here so_far = grind arith
 
 pub flag_is_done : (empty later total : Bool) (rest : List FieldParts) (payload : List ℕ) → length rest ≡ 0
     → (later || has_members (filter_map (member_json empty) (all_shown rest payload))) ≡ total → later ≡ total
@@ -72,19 +56,12 @@ flag_is_done empty later total (f ∷ fs) payload none so_far = absurd (omega ar
 
 -- what holds of an answer
 pub on_ok : {T E : Type 0} {P Q : Type 0} (r : Result T E) → (P → Q) → OnOk r P → OnOk r Q
-on_ok (Ok x) f p = f p
-on_ok (Err e) f p = p
+on_ok r f p = grind arith
 
 -- the sets as a last member, in three parts
 pub last_parts : (line sets l1 l2 l3 : List ℕ) (later : Bool) → l1 ≡ line ++ (if later then codes ",\"list\":[" else codes "\"list\":[") → l2 ≡ l1 ++ sets → l3 ≡ l2 ++ codes "]"
     → l3 ≡ line ++ member_text later (Some (text_json list_name ++ colon ∷ (codes "[" ++ sets ++ codes "]")))
-last_parts line sets l1 l2 l3 later p1 p2 p3 =
-    let name : text_json list_name ≡ codes "\"list\"" = text_json-plain list_name refl in
-    rw (p3, p2, p1, name) (by_later later)
-  where
-    by_later : (b : Bool) → ((line ++ (if b then codes ",\"list\":[" else codes "\"list\":[")) ++ sets) ++ codes "]" ≡ line ++ member_text b (Some (codes "\"list\"" ++ colon ∷ (codes "[" ++ sets ++ codes "]")))
-    by_later true = simp append_assoc
-    by_later false = simp append_assoc
+last_parts line sets l1 l2 l3 later p1 p2 p3 = grind (arith, text_json-plain, append_assoc)
 
 -- the fields of a message, and a last member behind them
 pub with_last : (ms : List (List ℕ)) (m line l1 l2 : List ℕ) (later : Bool) → l1 ≡ line ++ join_with_byte 44 ms → later ≡ has_members ms → l2 ≡ l1 ++ member_text later (Some m)

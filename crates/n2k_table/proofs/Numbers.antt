@@ -1,8 +1,7 @@
 -- What a raw value shows by what is kept of its field, and numbers whose sign stands apart.
-use Rattle.std.proofs.Common.{◌≡◌, ◌≢◌, ℕ, zero, suc, ◌+◌, ◌-◌, ◌*◌, ◌^◌, ◌<◌, ◌≤◌, Bool, true, false, not, ◌&&◌, ◌||◌, ℤ, pos, negsuc, neg_ℤ, ◌*ℤ◌, List, [], ◌∷◌, if◌then◌else◌, nat_le, nat_lt, unsigned_abs, refl, sym, ap, ◌∙◌, arith, inl, inr}
+use Rattle.std.proofs.Common.{◌≡◌, ℕ, zero, suc, ◌+◌, ◌-◌, ◌*◌, ◌^◌, ◌<◌, ◌≤◌, Bool, true, false, not, ◌&&◌, ◌||◌, ℤ, pos, neg_ℤ, ◌*ℤ◌, List, [], ◌∷◌, if◌then◌else◌, nat_le, nat_lt, unsigned_abs, refl, sym, ap, ◌∙◌, arith, inl, inr}
 use Rattle.std.proofs.Math.IntN.{pos-*ℤ-pos, negsuc-*ℤ-pos}
-use Rattle.std.proofs.lemmas.Int.{ints}
-use Rattle.std.proofs.lemmas.Bool.{le-leb, lt-leb, lt-ltb, le-ltb, cases_Bool, cases_lt}
+use Rattle.std.proofs.lemmas.Bool.{le-leb, lt-leb, lt-ltb, cases_lt}
 use Rattle.std.proofs.lemmas.Bool.Decides.{Decides-int_eq}
 use Rattle.std.specs.Int.Signed.{lt_z}
 use Rattle.std.specs.Ordering.{int_eq}
@@ -14,10 +13,10 @@ use Rattle.n2k_table.specs.declared.number.Shift.{Shift}
 use Rattle.n2k_table.specs.Bits.{raw, greatest, signed_value}
 use Rattle.n2k_table.specs.Decimal.{minus, sign_of}
 use Rattle.n2k_table.specs.Field.{FieldParts}
-use Rattle.n2k_table.specs.Shown.{ShownParts, absent, number, says_none, shown_number, shown_shifted, lies_inside, shown_from, shown_inside, shown_part}
+use Rattle.n2k_table.specs.Shown.{absent, number, shown_number, shown_shifted, lies_inside, shown_from}
 use Rattle.n2k_table.specs.Inner.Kept.{HasRoom, meaning}
-use Rattle.n2k_table.specs.Inner.Number.{IsScale, IsShift, reserved_values, scaled, shifted, shifted_value, value_of}
-use Rattle.n2k_table.proofs.RawBits.{pow_le, twice_half}
+use Rattle.n2k_table.specs.Inner.Number.{IsScale, IsShift, reserved_values, scaled, shifted, value_of}
+use Rattle.n2k_table.proofs.RawBits.{pow_le}
 
 -- the product of a size and a mantissa, its sign apart
 product : (b : Bool) (k m : ℕ) → (if b then neg_ℤ (pos k) else pos k) *ℤ pos m ≡ (if b then neg_ℤ (pos (k * m)) else pos (k * m))
@@ -45,100 +44,40 @@ sign_is n = signed_so n.negative (n.size * n.resolution.mantissa) ∙ ap sign_of
 
 -- the sign of a number whose sign does not
 pub sign_of_below : (x : ℤ) → (if lt_z x (pos 0) then minus ∷ [] else []) ≡ sign_of x
-sign_of_below (pos n) = rw (le-ltb n 0 (omega arith)) refl
-sign_of_below (negsuc n) = refl
+sign_of_below x = grind arith
 
 -- the equality of integers at natural numbers
 same_int : (m n : ℕ) → m ≡ n → int_eq (pos m) (pos n) ≡ true
 same_int m n is = (Decides-int_eq (pos m) (pos n)).1 (ap pos is)
 
-other_int : (m n : ℕ) → m ≢ n → int_eq (pos m) (pos n) ≡ false
-other_int m n isnt =
-    elim (cases_Bool (int_eq (pos m) (pos n))) [
-      | inl found ↦ absurd (isnt (ap unsigned_abs ((Decides-int_eq (pos m) (pos n)).0 found)))
-      | inr other ↦ other
-    ]
-
 -- the values that count are those up to the last
 counts : (n g r : ℕ) → r ≤ g → (2 ≤ n → 1 ≤ g) → (4 ≤ n → 2 ≤ g)
     → nat_le r (g - reserved_values n) ≡ not ((nat_le 2 n && int_eq (pos r) (pos g)) || (nat_le 4 n && int_eq (pos r) (pos (g - 1))))
-counts n g r inside one more =
-    elim (cases_lt n 2) [
-      | inl lt ↦ rw (lt-leb 4 n (omega arith), lt-leb 2 n lt) (le-leb r (g - 0) (omega arith))
-      | inr two ↦
-          elim (cases_lt n 4) [
-            | inl lt ↦
-                elim (cases_lt r g) [
-                  | inl low ↦ rw (lt-leb 4 n lt, le-leb 2 n two, other_int r g (omega arith)) (le-leb r (g - 1) (omega arith))
-                  | inr le ↦ rw (lt-leb 4 n lt, le-leb 2 n two, same_int r g (omega arith)) (lt-leb r (g - 1) (omega (arith, one two)))
-                ]
-            | inr four ↦
-                elim (cases_lt r g) [
-                  | inl low ↦
-                      elim (cases_lt (r + 1) g) [
-                        | inl lower ↦ rw (le-leb 4 n four, le-leb 2 n two, other_int r g (omega arith), other_int r (g - 1) (omega arith)) (le-leb r (g - 2) (omega arith))
-                        | inr next ↦ rw (le-leb 4 n four, le-leb 2 n two, other_int r g (omega arith), same_int r (g - 1) (omega arith)) (lt-leb r (g - 2) (omega (arith, more four)))
-                      ]
-                  | inr le ↦ rw (le-leb 4 n four, le-leb 2 n two, same_int r g (omega arith)) (lt-leb r (g - 2) (omega (arith, more four)))
-                ]
-          ]
-    ]
+counts n g r inside one more = grind (arith, lt-leb, le-leb, same_int)
 
 -- how great the greatest value is at least
 greatest_of_two : (signed : Bool) (n : ℕ) → 2 ≤ n → 1 ≤ greatest signed n
-greatest_of_two true n le = omega (arith, pow_le 1 (n - 1) (omega arith))
-greatest_of_two false n le = omega (arith, pow_le 2 n le)
+greatest_of_two signed n le = grind (arith, pow_le 1 (n - 1) (omega arith), pow_le 2 n le)
 
 greatest_of_four : (signed : Bool) (n : ℕ) → 4 ≤ n → 2 ≤ greatest signed n
-greatest_of_four true n le = omega (arith, pow_le 3 (n - 1) (omega arith))
-greatest_of_four false n le = omega (arith, pow_le 4 n le)
+greatest_of_four signed n le = grind (arith, pow_le 3 (n - 1) (omega arith), pow_le 4 n le)
 
 -- up to the greatest value a raw value is the value
 value_upto : (signed : Bool) (n r : ℕ) → r ≤ greatest signed n → signed_value signed n r ≡ pos r
 value_upto false n r le = refl
-value_upto true n r le =
-    let here : nat_lt r (2 ^ (n - 1)) ≡ true = lt-ltb r (2 ^ (n - 1)) (omega (arith, pow_le 0 (n - 1) (omega arith))) in
-    rw here refl
+value_upto true n r le = grind (arith, pow_le 0 (n - 1) (omega arith))
 
 -- past it, it is a negative one
 value_past : (n r : ℕ) → 1 ≤ n → greatest true n < r → r < 2 ^ n → signed_value true n r ≡ neg_ℤ (pos (2 ^ n - 1 - r + 1))
-value_past n r some past lt =
-    let half = pow_le 0 (n - 1) (omega arith) in
-    let twice = twice_half n some in
-    let here : nat_lt r (2 ^ (n - 1)) ≡ false = le-ltb r (2 ^ (n - 1)) (omega (arith, half)) in
-    rw here (omega (arith, ints, half, twice))
-
-none_below : (a b : Bool) → ((a && false) || (b && false)) ≡ false
-none_below false false = refl
-none_below false true = refl
-none_below true false = refl
-none_below true true = refl
-
-turned : (b : Bool) (x y : ShownParts) → (if not b then x else y) ≡ (if b then y else x)
-turned true x y = refl
-turned false x y = refl
+value_past n r some past lt = grind arith
 
 shows_upto : (n r : ℕ) (s : Scale) → IsScale n s → r ≤ greatest s.signed n
     → (if nat_le r s.max_valid then number (pos r *ℤ pos s.resolution.mantissa) s.resolution.decimals else absent) ≡ shown_number s.signed s.resolution n r
-shows_upto n r s h le =
-    let g = greatest s.signed n in
-    let shows = λ (v : ℤ). number (v *ℤ pos s.resolution.mantissa) s.resolution.decimals in
-    let last : nat_le r s.max_valid ≡ not (says_none s.signed n (pos r)) =
-    ap (nat_le r) h.max_valid ∙ counts n g r le (greatest_of_two s.signed n) (greatest_of_four s.signed n) in
-    ap (λ (b : Bool). if b then shows (pos r) else absent) last ∙ turned (says_none s.signed n (pos r)) (shows (pos r)) absent
-    ∙ sym (ap (λ (v : ℤ). if says_none s.signed n v then absent else shows v) (value_upto s.signed n r le))
+shows_upto n r s h le = grind (arith, counts, greatest_of_two, greatest_of_four, value_upto)
 
 shows_past : (signed : Bool) (n r : ℕ) (s : Scale) → s.signed ≡ signed → 1 ≤ n → IsScale n s → r < 2 ^ n → greatest signed n < r
     → number (neg_ℤ (pos (s.max_raw - r + 1)) *ℤ pos s.resolution.mantissa) s.resolution.decimals ≡ shown_number signed s.resolution n r
-shows_past false n r s is some h lt past = absurd (omega arith)
-shows_past true n r s is some h lt past =
-    let k = 2 ^ n - 1 - r in
-    let shows = λ (v : ℤ). number (v *ℤ pos s.resolution.mantissa) s.resolution.decimals in
-    let none : says_none true n (neg_ℤ (pos (k + 1))) ≡ false =
-    ap (λ j. says_none true n (neg_ℤ (pos j))) (let e : k + 1 ≡ suc k = omega arith in e) ∙ none_below (nat_le 2 n) (nat_le 4 n) in
-    ap (λ a. shows (neg_ℤ (pos (a - r + 1)))) h.max_raw
-    ∙ sym (ap (λ (v : ℤ). if says_none true n v then absent else shows v) (value_past n r some past lt)
-    ∙ ap (λ (b : Bool). if b then absent else shows (neg_ℤ (pos (k + 1)))) none)
+shows_past signed n r s is some h lt past = grind (arith, value_past)
 
 -- a raw value shows by what is kept what its bits show
 pub scaled_is : (n r : ℕ) (s : Scale) → 1 ≤ n → IsScale n s → r < 2 ^ n → scaled s r ≡ shown_number s.signed s.resolution n r
@@ -151,25 +90,13 @@ scaled_is n r s some h lt =
 
 -- the same of a number with an offset
 pub shifted_is : (n r : ℕ) (s : Shift) → IsShift n s → r < 2 ^ n → shifted s r ≡ shown_shifted s.offset s.resolution n r
-shifted_is n r s h lt =
-    let shows = number (shifted_value s r) s.resolution.decimals in
-    let last : nat_le r s.max_valid ≡ not (says_none false n (pos r)) =
-    ap (nat_le r) h.max_valid ∙ counts n (greatest false n) r (omega arith) (greatest_of_two false n) (greatest_of_four false n) in
-    ap (λ (b : Bool). if b then shows else absent) last ∙ turned (says_none false n (pos r)) shows absent
+shifted_is n r s h lt = grind (arith, counts n (greatest false n) r (omega arith) (greatest_of_two false n) (greatest_of_four false n))
 
 -- a field shows so
 pub field_shows : (f : FieldParts) (payload : List ℕ) (m : CodeMeaning) (s : Scale) (r : ℕ) → f.meaning ≡ meaning m → m ≡ code.Number s
     → HasRoom m f.bits → r ≡ raw payload f.at f.bits → r < 2 ^ f.bits → lies_inside f payload ≡ true → scaled s r ≡ shown_from f payload
-field_shows f payload m s r means is room so lt inside =
-    let kept : HasRoom (code.Number s) f.bits = rw is at room in
-    scaled_is f.bits r s kept.0 kept.2 lt ∙ ap (shown_number s.signed s.resolution f.bits) so
-    ∙ ap (λ m. shown_inside m f payload) (sym (means ∙ ap meaning is))
-    ∙ sym (ap (λ (b : Bool). if b then shown_inside f.meaning f payload else shown_part f payload) inside)
+field_shows f payload m s r means is room so lt inside = grind (arith, scaled_is)
 
 pub field_shows_shifted : (f : FieldParts) (payload : List ℕ) (m : CodeMeaning) (s : Shift) (r : ℕ) → f.meaning ≡ meaning m → m ≡ code.Shifted s
     → HasRoom m f.bits → r ≡ raw payload f.at f.bits → r < 2 ^ f.bits → lies_inside f payload ≡ true → shifted s r ≡ shown_from f payload
-field_shows_shifted f payload m s r means is room so lt inside =
-    let kept : HasRoom (code.Shifted s) f.bits = rw is at room in
-    shifted_is f.bits r s kept.2 lt ∙ ap (shown_shifted s.offset s.resolution f.bits) so
-    ∙ ap (λ m. shown_inside m f payload) (sym (means ∙ ap meaning is))
-    ∙ sym (ap (λ (b : Bool). if b then shown_inside f.meaning f payload else shown_part f payload) inside)
+field_shows_shifted f payload m s r means is room so lt inside = grind (arith, shifted_is)

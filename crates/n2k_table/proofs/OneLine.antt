@@ -1,19 +1,17 @@
 -- A JSON line is one line: no byte below the space stands before the line feed at its end.
-use Rattle.std.proofs.Common.{◌≡◌, ℕ, zero, suc, ◌+◌, ◌-◌, ◌/◌, ◌%◌, ◌<◌, ◌≤◌, Bool, true, false, cond, ◌||◌, List, [], ◌∷◌, ◌++◌, length, take, drop, replicate, map, refl, sym, arith, append_assoc, Option, Some, None, inl, inr}
-use Rattle.std.specs.Prelude.{option_to_list, ◌==◌, nat_le, nat_lt, codes, decimal, filter_map, if◌then◌else◌, ℤ, pos, negsuc}
-use Rattle.std.specs.List.{AllByRecursion, list_all, cons_option, join_with_byte}
+use Rattle.std.proofs.Common.{◌≡◌, ℕ, zero, suc, ◌+◌, ◌-◌, ◌/◌, ◌%◌, ◌≤◌, Bool, true, false, List, [], ◌∷◌, ◌++◌, length, take, drop, replicate, map, refl, sym, arith, append_assoc, Option, Some, None, option_to_list, ◌==◌, nat_le, codes, decimal, filter_map, if◌then◌else◌, ℤ}
+use Rattle.std.specs.List.{AllByRecursion, list_all, join_with_byte}
 use Rattle.std.specs.Fmt.{digit_glyph, digits_onto, digits}
-use Rattle.std.specs.Char.{digit_char}
-use Rattle.std.proofs.lemmas.Bool.{ltb-true, ltb-false, leb-true, eqb-true, and_parts, or_cases}
+use Rattle.std.proofs.lemmas.Bool.{ltb-true, ltb-false, leb-true, and_parts}
 use Rattle.std.proofs.lemmas.List.Elements.{All-from_recursion}
-use Rattle.json.specs.Print.{escape_letter, escape_byte, escape}
+use Rattle.json.specs.Print.{escape_byte, escape}
 use Rattle.n2k_wire.specs.Packet.{PacketParts}
 use Rattle.n2k_wire.specs.declared.identifier.Id.{Id}
 use Rattle.n2k_table.specs.Text.{text_json}
 use Rattle.n2k_table.specs.Decimal.{sign_of, after_dot, padded_digits, dotted, dec}
-use Rattle.n2k_table.specs.Definition.{DefinitionParts, list_name}
-use Rattle.n2k_table.specs.Repeat.{RepeatParts, all_sets}
-use Rattle.n2k_table.specs.Shown.{FlagParts, flag_name, flag_bit, ShownParts, absent, number, name, text, utf8, wide, bytes, flags, digits as digit_bytes, all_shown}
+use Rattle.n2k_table.specs.Definition.{DefinitionParts}
+use Rattle.n2k_table.specs.Repeat.{RepeatParts}
+use Rattle.n2k_table.specs.Shown.{FlagParts, ShownParts, absent, number, name, text, utf8, wide, bytes, flags, digits as digit_bytes}
 use Rattle.n2k_table.specs.Table.{TableParts, choice}
 use Rattle.n2k_table.specs.Json.{flag_json, value_json, pair_json, member_json, members, object, set_json, repeat_members, message_members, id_json, head_json, line_json, chosen_json, json}
 use Rattle.n2k_table.specs.OneLine.{IsOneLine}
@@ -46,19 +44,14 @@ clean-literal (b ∷ bs) e = let parts = and_parts _ _ e in clean-cons b bs (leb
 
 -- decimals
 glyph : (d : ℕ) → 32 ≤ digit_glyph false d
-glyph d = by_test (nat_lt d 10)
-  where
-    by_test : (b : Bool) → 32 ≤ (if b then 48 + d else (if false then 55 + d else 87 + d))
-    by_test true = omega arith
-    by_test false = omega arith
+glyph d = grind arith
 
 clean-digits : (k base n : ℕ) (acc : List ℕ) → IsClean acc → IsClean (digits_onto k base false n acc)
 clean-digits zero base n acc is = is
 clean-digits (suc k) base n acc is = by_test (n / base == 0) (clean-digits k base (n / base) _ (clean-cons _ acc (glyph (n % base)) is))
   where
     by_test : (b : Bool) → IsClean (digits_onto k base false (n / base) (digit_glyph false (n % base) ∷ acc)) → IsClean (if b then digit_glyph false (n % base) ∷ acc else digits_onto k base false (n / base) (digit_glyph false (n % base) ∷ acc))
-    by_test true more = clean-cons _ acc (glyph (n % base)) is
-    by_test false more = more
+    by_test b more = grind arith
 
 clean-decimal : (n : ℕ) → IsClean (decimal n)
 unfolding digits
@@ -79,8 +72,7 @@ clean-replicate zero b h = clean-nil
 clean-replicate (suc n) b h = clean-cons b (replicate n b) h (clean-replicate n b h)
 
 clean-sign : (x : ℤ) → IsClean (sign_of x)
-clean-sign (pos n) = clean-nil
-clean-sign (negsuc n) = clean-cons 45 [] (omega arith) clean-nil
+clean-sign x = grind arith
 
 clean-after_dot : (ds : List ℕ) → IsClean ds → IsClean (after_dot ds)
 clean-after_dot [] is = clean-nil
@@ -96,34 +88,9 @@ clean-dec : (x : ℤ) (e : ℕ) → IsClean (dec x e)
 unfolding dec
 clean-dec x e = clean-append (sign_of x) _ (clean-sign x) (clean-dotted e _ (clean-padded _ e))
 
--- texts
-letter-step : (b : Bool) (c rest : ℕ) → (b ≡ true → 32 ≤ c) → (0 < rest → 32 ≤ rest) → 0 < cond b c rest → 32 ≤ cond b c rest
-letter-step true c rest h more some = h refl
-letter-step false c rest h more some = more some
-
-letter-clean : (x : ℕ) → 0 < escape_letter x → 32 ≤ escape_letter x
-letter-clean x =
-    letter-step ((x == 34) || (x == 92)) x _ (λ e. elim (or_cases (x == 34) (x == 92) e) [ inl quote ↦ omega (arith, eqb-true x 34 quote) | inr backslash ↦ omega (arith, eqb-true x 92 backslash) ])
-    (letter-step (x == 8) 98 _ (λ e. omega arith) (letter-step (x == 12) 102 _ (λ e. omega arith) (letter-step (x == 10) 110 _ (λ e. omega arith) (letter-step (x == 13) 114 _ (λ e. omega arith) (letter-step (x == 9) 116 0 (λ e. omega arith) (λ some. omega arith))))))
-
-char-clean : (d : ℕ) → 32 ≤ digit_char d
-char-clean d = by_test (nat_lt d 10)
-  where
-    by_test : (b : Bool) → 32 ≤ cond b (48 + d) (87 + d)
-    by_test true = omega arith
-    by_test false = omega arith
-
 clean-escape_byte : (x : ℕ) → IsClean (escape_byte x)
 unfolding escape_byte
-clean-escape_byte x = by_letter (nat_lt 0 (escape_letter x)) refl
-  where
-    by_size : (b : Bool) → nat_lt x 32 ≡ b → IsClean (cond b (92 ∷ 117 ∷ 48 ∷ 48 ∷ digit_char (x / 16) ∷ digit_char (x % 16) ∷ []) (x ∷ []))
-    by_size true e = record { each = (omega arith, (omega arith, (omega arith, (omega arith, (char-clean (x / 16), (char-clean (x % 16), tt)))))) }
-    by_size false e = record { each = (ltb-false x 32 e, tt) }
-
-    by_letter : (b : Bool) → nat_lt 0 (escape_letter x) ≡ b → IsClean (cond b (92 ∷ escape_letter x ∷ []) (cond (nat_lt x 32) (92 ∷ 117 ∷ 48 ∷ 48 ∷ digit_char (x / 16) ∷ digit_char (x % 16) ∷ []) (x ∷ [])))
-    by_letter true e = record { each = (omega arith, (letter-clean x (ltb-true 0 (escape_letter x) e), tt)) }
-    by_letter false e = by_size (nat_lt x 32) refl
+clean-escape_byte x = grind (arith, ltb-false, ltb-true)
 
 clean-escape : (xs : List ℕ) → IsClean (escape xs)
 clean-escape [] = clean-nil
@@ -139,12 +106,10 @@ clean-joined (t ∷ []) is = is.0
 clean-joined (t ∷ u ∷ texts) is = clean-append t _ is.0 (clean-cons 44 _ (omega arith) (clean-joined (u ∷ texts) is.1))
 
 clean-array : (first last : ℕ) (texts : List (List ℕ)) → 32 ≤ first → 32 ≤ last → AllByRecursion IsClean texts → IsClean (first ∷ (join_with_byte 44 texts ++ last ∷ []))
-clean-array first last texts h i is =
-    clean-cons first _ h (clean-append (join_with_byte 44 texts) (last ∷ []) (clean-joined texts is) (clean-cons last [] i clean-nil))
+clean-array first last texts h i is = grind (arith, clean-append, clean-joined)
 
 clean-flag : (f : FlagParts) → IsClean (flag_json f)
-clean-flag (flag_name n) = clean-text n
-clean-flag (flag_bit i) = clean-decimal i
+clean-flag f = grind (arith, clean-text, clean-decimal)
 
 clean-flags : (fs : List FlagParts) → AllByRecursion IsClean (map flag_json fs)
 clean-flags [] = tt
@@ -164,16 +129,11 @@ clean-value empty (digit_bytes payload) = (clean-text _, tt)
 clean-value empty (flags fs) = (clean-array 91 93 (map flag_json fs) (omega arith) (omega arith) (clean-flags fs), tt)
 
 clean-pair : (key : List ℕ) (value : Option (List ℕ)) → AllByRecursion IsClean (option_to_list value) → AllByRecursion IsClean (option_to_list (pair_json key value))
-clean-pair key None is = tt
-clean-pair key (Some value) is = (clean-append (text_json key) _ (clean-text key) (clean-cons 58 value (omega arith) is.0), tt)
+clean-pair key value is = grind (arith, clean-append, clean-text)
 
 clean-members : (empty : Bool) (fields : List (List ℕ × ShownParts)) → AllByRecursion IsClean (filter_map (member_json empty) fields)
 clean-members empty [] = tt
-clean-members empty (f ∷ fields) = by_member (member_json empty f) (clean-pair f.0 (value_json empty f.1) (clean-value empty f.1)) (clean-members empty fields)
-  where
-    by_member : (o : Option (List ℕ)) → AllByRecursion IsClean (option_to_list o) → AllByRecursion IsClean (filter_map (member_json empty) fields) → AllByRecursion IsClean (cons_option o (filter_map (member_json empty) fields))
-    by_member None is rest = rest
-    by_member (Some member) is rest = (is.0, rest)
+clean-members empty (f ∷ fields) = grind (arith, clean-members empty fields, clean-pair f.0 (value_json empty f.1) (clean-value empty f.1))
 
 clean-object : (ms : List (List ℕ)) → AllByRecursion IsClean ms → IsClean (object ms)
 clean-object ms is = clean-array 123 125 ms (omega arith) (omega arith) is
@@ -184,28 +144,22 @@ clean-sets empty [] = tt
 clean-sets empty (set ∷ sets) = (clean-object (members empty set) (clean-members empty set), clean-sets empty sets)
 
 clean-repeat : (empty : Bool) (r : Option RepeatParts) (payload : List ℕ) → AllByRecursion IsClean (repeat_members empty r payload)
-clean-repeat empty None payload = tt
-clean-repeat empty (Some r) payload =
-    let sets = map (set_json empty) (all_sets r payload) in
-    (clean-append (text_json list_name) _ (clean-text list_name) (clean-cons 58 _ (omega arith) (clean-array 91 93 sets (omega arith) (omega arith) (clean-sets empty (all_sets r payload)))), tt)
+clean-repeat empty r payload = grind (arith, clean-append, clean-text, clean-array, clean-sets)
 
 clean-both : (xs ys : List (List ℕ)) → AllByRecursion IsClean xs → AllByRecursion IsClean ys → AllByRecursion IsClean (xs ++ ys)
 clean-both [] ys a b = b
 clean-both (x ∷ xs) ys a b = (a.0, clean-both xs ys a.1 b)
 
 clean-message : (empty : Bool) (d : DefinitionParts) (payload : List ℕ) → AllByRecursion IsClean (message_members empty d payload)
-clean-message empty d payload =
-    clean-both (members empty (all_shown d.fields payload)) (repeat_members empty d.repeat payload) (clean-members empty (all_shown d.fields payload)) (clean-repeat empty d.repeat payload)
+clean-message empty d payload = grind (arith, clean-both, clean-members, clean-repeat)
 
 clean-id : (id : Id) → IsClean (id_json id)
 unfolding id_json
-clean-id id =
-    onward (onward (onward (onward (onward (onward (onward (clean-literal (codes ",\"prio\":") refl) (decimal id.prio) (clean-decimal id.prio)) (codes ",\"src\":") (clean-literal (codes ",\"src\":") refl)) (decimal id.src) (clean-decimal id.src)) (codes ",\"dst\":") (clean-literal (codes ",\"dst\":") refl)) (decimal id.dst) (clean-decimal id.dst)) (codes ",\"pgn\":") (clean-literal (codes ",\"pgn\":") refl)) (decimal id.pgn) (clean-decimal id.pgn)
+clean-id id = grind (arith, onward, clean-decimal)
 
 clean-head : (description : List ℕ) (m : PacketParts) → IsClean description → IsClean (head_json description m)
 unfolding head_json
-clean-head description m is =
-    onward (onward (onward (onward (onward (clean-literal (codes "{\"timestamp\":") refl) (text_json m.stamp) (clean-text m.stamp)) (id_json m.id) (clean-id m.id)) (codes ",\"description\":") (clean-literal (codes ",\"description\":") refl)) description is) (codes ",\"fields\":") (clean-literal (codes ",\"fields\":") refl)
+clean-head description m is = grind (arith, onward, clean-text, clean-id)
 
 line-one : (description : List ℕ) (ms : List (List ℕ)) (m : PacketParts) → AllByRecursion IsClean ms → IsOneLine (line_json description ms m)
 line-one description ms m is = record {

@@ -1,13 +1,11 @@
 -- Where the definitions of a PGN stand.
-use Rattle.std.proofs.Common.{◌≡◌, ℕ, zero, suc, ◌+◌, ◌<◌, ◌≤◌, ltb, Bool, true, false, ◌&&◌, nat_eq, cond, List, [], ◌∷◌, ◌++◌, length, get_or, drop, slice_get, Option, Some, None, is_some, option_map, IfSome, refl, sym, ap, ◌∙◌, append_assoc, inl, inr, arith}
+use Rattle.std.proofs.Common.{◌≡◌, ℕ, zero, suc, ◌+◌, ◌<◌, ltb, Bool, true, false, ◌&&◌, nat_eq, cond, List, [], ◌∷◌, ◌++◌, length, get_or, drop, slice_get, Option, Some, None, is_some, option_map, IfSome, refl, ap, ◌∙◌, append_assoc, inl, inr, arith, All, if◌then◌else◌}
 use Rattle.std.specs.List.{find}
 use Rattle.std.specs.Option.{option_map_or}
 use Rattle.std.proofs.lemmas.Option.{slice_get-get_or, slice_get_past, slice_get_cases}
 use Rattle.std.proofs.lemmas.Bool.{cases_Bool}
-use Rattle.std.proofs.lemmas.Bool.Decides.{nat_tests}
 use Rattle.std.proofs.lemmas.List.{drop_more, length-append, append-nil, map-append, length-map, get_or-map}
 use Rattle.std.proofs.lemmas.List.Elements.{All-append}
-use Rattle.std.specs.Prelude.{All, if◌then◌else◌}
 use Rattle.n2k_table.specs.Definition.{DefinitionParts}
 use Rattle.n2k_table.specs.Table.{is_of}
 use Rattle.n2k_table.specs.declared.glance.Glance.{Glance}
@@ -32,20 +30,7 @@ there (e ∷ es) d ds = there es d ds
 find_from : (p q : DefinitionParts → Bool) (pgn : ℕ) → ((d : DefinitionParts) → p d ≡ (is_of pgn d && q d)) → (front ds : List DefinitionParts)
     → find p ds ≡ first_at q (front ++ ds) (places_from (length front) pgn (pgns ds))
 find_from p q pgn h front [] = refl
-find_from p q pgn h front (d ∷ ds) =
-    let len : length (front ++ d ∷ []) ≡ suc (length front) = omega (arith, length-append front (d ∷ [])) in
-    let moved : front ++ d ∷ ds ≡ (front ++ d ∷ []) ++ ds = sym (append_assoc front (d ∷ []) ds) in
-    let rest : find p ds ≡ first_at q (front ++ d ∷ ds) (places_from (suc (length front)) pgn (pgns ds)) =
-    find_from p q pgn h (front ++ d ∷ []) ds ∙ ap (λ (es : List DefinitionParts). first_at q es (places_from (length (front ++ d ∷ [])) pgn (pgns ds))) (sym moved)
-    ∙ ap (λ (n : ℕ). first_at q (front ++ d ∷ ds) (places_from n pgn (pgns ds))) len in
-    elim (cases_Bool (nat_eq d.pgn pgn)) [
-      | inl same ↦
-          let passes : p d ≡ q d = h d ∙ ap (λ b. b && q d) same in
-          rw (same, there front d ds, passes) (ap (λ (o : Option DefinitionParts). cond (q d) (Some d) o) rest)
-      | inr other ↦
-          let passes : p d ≡ false = h d ∙ ap (λ b. b && q d) other in
-          rw (other, passes) rest
-    ]
+find_from p q pgn h front (d ∷ ds) = grind (arith, find_from p q pgn h (front ++ d ∷ []) ds, length-append, append_assoc, there)
 
 pub find_places : (p q : DefinitionParts → Bool) (pgn : ℕ) → ((d : DefinitionParts) → p d ≡ (is_of pgn d && q d)) → (ds : List DefinitionParts)
     → find p ds ≡ first_at q ds (places pgn (pgns ds))
@@ -71,20 +56,13 @@ place_within number (n ∷ ns) i k lt =
 -- the definition at a place
 pub first_here : (q : DefinitionParts → Bool) (ds : List DefinitionParts) (is : List ℕ) (k : ℕ) (d : DefinitionParts) → k < length is → get_or is k 0 < length ds → d ≡ get_or ds (get_or is k 0) d
     → first_at q ds (drop k is) ≡ cond (q d) (Some d) (first_at q ds (drop (k + 1) is))
-first_here q ds is k d lt within at =
-    let here : drop k is ≡ get_or is k 0 ∷ drop (k + 1) is = drop_more is k 0 lt in
-    let found : slice_get ds (get_or is k 0) ≡ Some d = slice_get-get_or ds (get_or is k 0) d within ∙ ap (λ e. Some e) (sym at) in
-    rw (here, found) refl
+first_here q ds is k d lt within at = grind (arith, drop_more, slice_get-get_or)
 
 pub places_within : (is : List ℕ) (pgn : ℕ) (ds : List DefinitionParts) → is ≡ places pgn (pgns ds) → (k : ℕ) → k < length is → get_or is k 0 < length ds
-places_within is pgn ds same k lt =
-    let below : k < length (places pgn (pgns ds)) = rw same at lt in
-    let within : get_or (places pgn (pgns ds)) k 0 < 0 + length (pgns ds) = place_within pgn (pgns ds) 0 k below in
-    rw same (omega (arith, within, length-pgns ds))
+places_within is pgn ds same k lt = grind (arith, place_within, length-pgns)
 
 both_true : (b : Bool) → b ≡ (b && true)
-both_true true = refl
-both_true false = refl
+both_true b = grind arith
 
 -- the first definition of a PGN
 first_any : (ds : List DefinitionParts) (is : List ℕ) (r : Option ℕ) → slice_get is 0 ≡ r
@@ -93,14 +71,11 @@ first_any ds [] r at = rw (← at) refl
 first_any ds (i ∷ is) r at = rw (← at) refl
 
 pub no_kind : (pgn : ℕ) (ds : List DefinitionParts) (is : List ℕ) → is ≡ places pgn (pgns ds) → slice_get is 0 ≡ None → find (is_of pgn) ds ≡ None
-no_kind pgn ds is same none =
-    find_places (is_of pgn) (λ d. true) pgn (λ d. both_true (is_of pgn d)) ds ∙ ap (first_at (λ d. true) ds) (sym same) ∙ first_any ds is None none
+no_kind pgn ds is same none = grind (arith, find_places (is_of pgn) (λ d. true) pgn (λ d. both_true (is_of pgn d)) ds, first_any ds is None none)
 
 pub one_kind : (pgn : ℕ) (ds : List DefinitionParts) (is : List ℕ) (i : ℕ) (d : DefinitionParts) → is ≡ places pgn (pgns ds) → slice_get is 0 ≡ Some i
     → i < length ds → d ≡ get_or ds i d → find (is_of pgn) ds ≡ Some d
-one_kind pgn ds is i d same first within at =
-    let found : slice_get ds i ≡ Some d = slice_get-get_or ds i d within ∙ ap (λ e. Some e) (sym at) in
-    find_places (is_of pgn) (λ d. true) pgn (λ d. both_true (is_of pgn d)) ds ∙ ap (first_at (λ d. true) ds) (sym same) ∙ first_any ds is (Some i) first ∙ (rw found refl)
+one_kind pgn ds is i d same first within at = grind (arith, slice_get-get_or ds i d within, find_places (is_of pgn) (λ d. true) pgn (λ d. both_true (is_of pgn d)) ds, first_any ds is (Some i) first)
 
 pub first_within : (is : List ℕ) (i n : ℕ) → slice_get is 0 ≡ Some i → ((k : ℕ) → k < length is → get_or is k 0 < n) → i < n
 first_within [] i n first within = absurd cc
@@ -112,45 +87,16 @@ first_within (j ∷ is) i n first within =
 -- what a slice's `get` finds
 pub got : {R : Type 0} (view : R → DefinitionParts) (r : Option R) (ds : List DefinitionParts) (i : ℕ) → is_some r ≡ ltb i (length ds)
     → IfSome r (λ x. view x ≡ get_or ds i (view x)) → option_map view r ≡ slice_get ds i
-got view None ds i there at =
-    let past : length ds ≤ i = grind (arith, nat_tests) in
-    sym (slice_get_past ds i past)
-got view (Some x) ds i there at =
-    let within : i < length ds = grind (arith, nat_tests) in
-    sym (slice_get-get_or ds i (view x) within ∙ ap (λ d. Some d) (sym at))
+got view r ds i there at = grind (arith, slice_get_past, slice_get-get_or)
 
 -- the first definition of a PGN stands at the first of its places
 pub first_is : (pgn : ℕ) (ds : List DefinitionParts) (is : List ℕ) (i : ℕ) → is ≡ places pgn (pgns ds) → slice_get is 0 ≡ Some i → slice_get ds i ≡ find (is_of pgn) ds
-first_is pgn ds is i same first =
-    let within : i < length ds = first_within is i (length ds) first (places_within is pgn ds same) in
-    elim ((slice_get_cases ds i).1) [
-      | inl at ↦ at.2 ∙ sym (one_kind pgn ds is i at.0 same first within (sym at.3))
-      | inr past ↦ absurd (omega (arith, within, past.0))
-    ]
+first_is pgn ds is i same first = grind (arith, first_within is i (length ds) first (places_within is pgn ds same), slice_get_cases ds i, one_kind)
 
 -- one candidate more of the PGN of a definition
 pub noted : (ds : List DefinitionParts) (k n : ℕ) (d : DefinitionParts) (cs new : List Candidate) (c : Candidate) (all : List ℕ) → k < length ds → d ≡ get_or ds k d → c.place ≡ k
     → new ≡ cs ++ (if nat_eq d.pgn n then c ∷ [] else []) → places_of cs ++ places_from k n (pgns (drop k ds)) ≡ all → places_of new ++ places_from (k + 1) n (pgns (drop (k + 1) ds)) ≡ all
-noted ds k n d cs new c all lt at is gain before =
-    let rest = pgns (drop (k + 1) ds) in
-    let here : drop k ds ≡ d ∷ drop (k + 1) ds = drop_more ds k d lt ∙ ap (λ (e : DefinitionParts). e ∷ drop (k + 1) ds) (sym at) in
-    let next : k + 1 ≡ suc k = omega arith in
-    let so_far : places_of cs ++ cond (nat_eq d.pgn n) (k ∷ places_from (suc k) n rest) (places_from (suc k) n rest) ≡ all =
-    ap (λ (es : List DefinitionParts). places_of cs ++ places_from k n (pgns es)) (sym here) ∙ before in
-    let moved : places_from (k + 1) n rest ≡ places_from (suc k) n rest = ap (λ j. places_from j n rest) next in
-    elim (cases_Bool (nat_eq d.pgn n)) [
-      | inl same ↦
-          let gained : new ≡ cs ++ c ∷ [] = rw same at gain in
-          let whole : places_of cs ++ k ∷ places_from (suc k) n rest ≡ all = rw same at so_far in
-          ap (λ (xs : List Candidate). places_of xs ++ places_from (k + 1) n rest) gained
-          ∙ ap (λ (xs : List ℕ). xs ++ places_from (k + 1) n rest) (map-append (λ (x : Candidate). x.place) cs (c ∷ []))
-          ∙ append_assoc (places_of cs) (c.place ∷ []) (places_from (k + 1) n rest)
-          ∙ ap (λ j. places_of cs ++ j ∷ places_from (k + 1) n rest) is ∙ ap (λ (xs : List ℕ). places_of cs ++ k ∷ xs) moved ∙ whole
-      | inr other ↦
-          let kept : new ≡ cs = (let e : new ≡ cs ++ [] = rw other at gain in e) ∙ append-nil cs in
-          let whole : places_of cs ++ places_from (suc k) n rest ≡ all = rw other at so_far in
-          ap (λ (xs : List Candidate). places_of xs ++ places_from (k + 1) n rest) kept ∙ ap (λ (xs : List ℕ). places_of cs ++ xs) moved ∙ whole
-    ]
+noted ds k n d cs new c all lt at is gain before = grind (arith, drop_more, map-append, append_assoc)
 
 all_of_one : (P : Candidate → Type 0) (c : Candidate) → P c → All P (c ∷ [])
 all_of_one P c holds zero d lt = holds
@@ -163,16 +109,11 @@ noted_all P false cs new c holds gain all = rw (gain ∙ append-nil cs) all
 
 -- what a definition asks for, as the candidate of its place has it
 pub of_place : (ds : List DefinitionParts) (k : ℕ) (d : DefinitionParts) (glance : Glance) → k < length ds → d ≡ get_or ds k d → IsGlance glance d.fields → IsOfPlace ds (record { place = k; glance = glance })
-of_place ds k d glance lt at is =
-    let found : slice_get ds k ≡ Some d = slice_get-get_or ds k d lt ∙ ap (λ e. Some e) (sym at) in
-    rw found is
+of_place ds k d glance lt at is = grind (arith, slice_get-get_or)
 
 -- the places of candidates are places of definitions
 pub candidates_within : (cs : List Candidate) (pgn : ℕ) (ds : List DefinitionParts) → places_of cs ≡ places pgn (pgns ds) → All (λ (c : Candidate). c.place < length ds) cs
-candidates_within cs pgn ds same k d lt =
-    let many : length (places_of cs) ≡ length cs = length-map cs (λ (c : Candidate). c.place) in
-    let within : get_or (places_of cs) k 0 < length ds = places_within (places_of cs) pgn ds same k (omega (arith, lt, many)) in
-    omega (arith, within, get_or-map (λ (c : Candidate). c.place) cs k d 0 lt)
+candidates_within cs pgn ds same k d lt = grind (arith, places_within (places_of cs) pgn ds same k (omega (arith, lt, (length-map cs (λ (c : Candidate). c.place)))), get_or-map (λ (c : Candidate). c.place) cs k d 0 lt)
 
 -- the first of some candidates, by its place
 pub first_place : (cs : List Candidate) (r : Option Candidate) → slice_get cs 0 ≡ r → slice_get (places_of cs) 0 ≡ option_map (λ (c : Candidate). c.place) r
@@ -182,21 +123,12 @@ first_place (c ∷ cs) r at = rw (← at) refl
 -- the definition of a candidate
 pub candidate_here : (q : DefinitionParts → Bool) (ds : List DefinitionParts) (cs : List Candidate) (k : ℕ) (c e : Candidate) (d : DefinitionParts) → k < length cs → c ≡ get_or cs k e
     → c.place < length ds → d ≡ get_or ds c.place d → first_at q ds (drop k (places_of cs)) ≡ cond (q d) (Some d) (first_at q ds (drop (k + 1) (places_of cs)))
-candidate_here q ds cs k c e d lt is within at =
-    let many : length (places_of cs) ≡ length cs = length-map cs (λ (x : Candidate). x.place) in
-    let place : get_or (places_of cs) k 0 ≡ c.place = get_or-map (λ (x : Candidate). x.place) cs k e 0 lt ∙ ap (λ (x : Candidate). x.place) (sym is) in
-    first_here q ds (places_of cs) k d (omega (arith, lt, many)) (omega (arith, within, place)) (at ∙ ap (λ i. get_or ds i d) (sym place))
+candidate_here q ds cs k c e d lt is within at = grind (arith, length-map, get_or-map, first_here)
 
 passed : (q : DefinitionParts → Bool) (rest o : Option DefinitionParts) → ((d : DefinitionParts) → o ≡ Some d → q d ≡ false) → option_map_or (λ d. cond (q d) (Some d) rest) o rest ≡ rest
-passed q rest None fails = refl
-passed q rest (Some d) fails = rw (fails d refl) refl
+passed q rest o fails = grind arith
 
 -- a candidate whose definition doesn't pass is no answer
 pub passed_over : (q : DefinitionParts → Bool) (ds : List DefinitionParts) (cs : List Candidate) (k : ℕ) (c e : Candidate) → k < length cs → c ≡ get_or cs k e
     → ((d : DefinitionParts) → slice_get ds c.place ≡ Some d → q d ≡ false) → first_at q ds (drop k (places_of cs)) ≡ first_at q ds (drop (k + 1) (places_of cs))
-passed_over q ds cs k c e lt is fails =
-    let many : length (places_of cs) ≡ length cs = length-map cs (λ (x : Candidate). x.place) in
-    let place : get_or (places_of cs) k 0 ≡ c.place = get_or-map (λ (x : Candidate). x.place) cs k e 0 lt ∙ ap (λ (x : Candidate). x.place) (sym is) in
-    let here : drop k (places_of cs) ≡ c.place ∷ drop (k + 1) (places_of cs) =
-    drop_more (places_of cs) k 0 (omega (arith, lt, many)) ∙ ap (λ i. i ∷ drop (k + 1) (places_of cs)) place in
-    ap (first_at q ds) here ∙ passed q (first_at q ds (drop (k + 1) (places_of cs))) (slice_get ds c.place) fails
+passed_over q ds cs k c e lt is fails = grind (arith, get_or-map (λ (x : Candidate). x.place) cs k e 0 lt, drop_more (places_of cs) k 0 (omega (arith, lt, (length-map cs (λ (x : Candidate). x.place)))))

@@ -1,13 +1,9 @@
 -- What a room holds of a line, as bytes are written to it.
-use Rattle.std.proofs.Common.{◌≡◌, ℕ, suc, ◌+◌, ◌<◌, ◌≤◌, List, [], ◌∷◌, ◌++◌, length, take, sym, ap, ◌∙◌, append_assoc, arith}
-use Rattle.std.proofs.lemmas.List.{append-nil, length-take-le, take-take}
+use Rattle.std.proofs.Common.{◌≡◌, ℕ, suc, ◌+◌, ◌<◌, ◌≤◌, List, [], ◌∷◌, ◌++◌, length, take, sym, ap, append_assoc, arith, append-nil, length-take-le, take-take}
 use Rattle.n2k_table.specs.Decimal.{after_dot}
-use Rattle.n2k_table.proofs.Placed.{after_some}
 
 take_past : (p q : List ℕ) (k : ℕ) → take (length p + k) (p ++ q) ≡ p ++ take k q
-take_past [] q k =
-    let none : length {A = ℕ} [] + k ≡ k = omega arith in
-    ap (λ j. take j q) none
+take_past [] q k = grind arith
 take_past (x ∷ p) q k =
     let one : length (x ∷ p) + k ≡ suc (length p + k) = omega arith in
     rw one (ap (λ (t : List ℕ). x ∷ t) (take_past p q k))
@@ -15,11 +11,7 @@ take_past (x ∷ p) q k =
 -- the first of some bytes that were written behind others
 pub partly : (room old bytes : List ℕ) (at count n : ℕ) → take (at + n) room ≡ take at old ++ bytes → count ≤ n → at ≤ length old
     → take (at + count) room ≡ take at old ++ take count bytes
-partly room old bytes at count n is few inside =
-    let len : length (take at old) ≡ at = length-take-le at old inside in
-    let place : length (take at old) + count ≡ at + count = omega (arith, len) in
-    sym (take-take (at + count) (at + n) room (omega arith)) ∙ ap (take (at + count)) is
-    ∙ ap (λ k. take k (take at old ++ bytes)) (sym place) ∙ take_past (take at old) bytes count
+partly room old bytes at count n is few inside = grind (arith, length-take-le at old inside, take-take (at + count) (at + n) room (omega arith), take_past (take at old) bytes count)
 
 -- bytes behind what a room holds stand behind the whole
 pub appended : (items out held bytes text : List ℕ) → items ≡ out ++ held → text ≡ held ++ bytes → out ++ text ≡ items ++ bytes
@@ -27,30 +19,18 @@ appended items out held bytes text is more = rw (is, more) (sym (append_assoc ou
 
 -- bytes that were written behind others leave those
 kept : (room old bytes : List ℕ) (at n : ℕ) → take (at + n) room ≡ take at old ++ bytes → at ≤ length old → take at room ≡ take at old
-kept room old bytes at n is inside =
-    let same : at + 0 ≡ at = omega arith in
-    ap (λ k. take k room) (sym same) ∙ partly room old bytes at 0 n is (omega arith) inside ∙ append-nil (take at old)
+kept room old bytes at n is inside = grind (arith, partly room old bytes at 0 n is (omega arith) inside, append-nil (take at old))
 
 -- digits, a dot behind the first of them, and more digits: each is written over what is left of the one before
 pub with_dot : (r0 r1 r2 r3 front back : List ℕ) (at whole e : ℕ)
     → take (at + 8) r1 ≡ take at r0 ++ front → take (at + whole + 1) r2 ≡ take (at + whole) r1 ++ 46 ∷ [] → take (at + whole + 1 + 8) r3 ≡ take (at + whole + 1) r2 ++ back
     → whole ≤ 8 → e ≤ 8 → 0 < e → length back ≡ 8 → at ≤ length r0 → at + whole + 1 ≤ length r2
     → take (at + whole + 1 + e) r3 ≡ take at r0 ++ (take whole front ++ after_dot (take e back))
-with_dot r0 r1 r2 r3 front back at whole e p1 p2 p3 few short some long inside more =
-    let before = partly r1 r0 front at whole 8 p1 few inside in
-    let after = partly r3 r2 back (at + whole + 1) e 8 p3 short more in
-    let dot : after_dot (take e back) ≡ 46 ∷ take e back = after_some (take e back) (omega (arith, long, some, length-take-le e back (omega (arith, long, short)))) in
-    rw (after, p2, before, dot) (append_assoc (take at r0 ++ take whole front) (46 ∷ []) (take e back) ∙ append_assoc (take at r0) (take whole front) (46 ∷ take e back))
+with_dot r0 r1 r2 r3 front back at whole e p1 p2 p3 few short some long inside more = grind (arith, partly r1 r0 front at whole 8 p1 few inside, partly r3 r2 back (at + whole + 1) e 8 p3 short more, length-take-le e back (omega (arith, long, short)), append_assoc (take at r0 ++ take whole front) (46 ∷ []) (take e back), append_assoc (take at r0) (take whole front) (46 ∷ take e back))
 
 -- the same without more digits
 pub without_dot : (r0 r1 r2 r3 front back : List ℕ) (at whole e : ℕ)
     → take (at + 8) r1 ≡ take at r0 ++ front → take (at + whole + 1) r2 ≡ take (at + whole) r1 ++ 46 ∷ [] → take (at + whole + 1 + 8) r3 ≡ take (at + whole + 1) r2 ++ back
     → whole ≤ 8 → e ≡ 0 → at ≤ length r0 → at + whole ≤ length r1 → at + whole + 1 ≤ length r2
     → take (at + whole) r3 ≡ take at r0 ++ (take whole front ++ after_dot (take e back))
-without_dot r0 r1 r2 r3 front back at whole e p1 p2 p3 few none inside inside1 more =
-    let before = partly r1 r0 front at whole 8 p1 few inside in
-    let third = kept r3 r2 back (at + whole + 1) 8 p3 more in
-    let second = kept r2 r1 (46 ∷ []) (at + whole) 1 p2 inside1 in
-    let le : at + whole ≤ at + whole + 1 = omega arith in
-    rw none (sym (take-take (at + whole) (at + whole + 1) r3 le) ∙ ap (take (at + whole)) third ∙ take-take (at + whole) (at + whole + 1) r2 le ∙ second ∙ before
-    ∙ ap (λ (t : List ℕ). take at r0 ++ t) (sym (append-nil (take whole front))))
+without_dot r0 r1 r2 r3 front back at whole e p1 p2 p3 few none inside inside1 more = grind (arith, partly, kept, take-take, append-nil, partly r1 r0 front at whole 8 p1 few inside, kept r3 r2 back (at + whole + 1) 8 p3 more)

@@ -1,20 +1,16 @@
 -- Places behind strings, as far as the table says them.
-use Rattle.std.proofs.Common.{◌≡◌, ℕ, ◌+◌, ◌≤◌, List, [], ◌∷◌, ◌++◌, refl, ap, ◌∙◌, arith}
+use Rattle.std.proofs.Common.{◌≡◌, ℕ, ◌+◌, ◌≤◌, List, [], ◌∷◌, ◌++◌, refl, arith}
 use Rattle.n2k_table.specs.declared.string_place.Step.{Step}
 use Rattle.n2k_table.specs.Field.{fixed_place}
 
 -- a place that begins later ends as much later
 pub later_place : (ss : List Step) (a b : ℕ) → fixed_place ss (a + b) ≡ a + fixed_place ss b
 later_place [] a b = refl
-later_place (s ∷ ss) a b =
-    let turned : s.at + (a + b) ≡ a + (s.at + b) = omega arith in
-    ap (fixed_place ss) turned ∙ later_place ss a (s.at + b)
+later_place (s ∷ ss) a b = grind (arith, later_place ss a)
 
 -- so it ends as much later than one from the beginning
 pub from_beginning : (ss : List Step) (at : ℕ) → fixed_place ss at ≡ at + fixed_place ss 0
-from_beginning ss at =
-    let whole : at ≡ at + 0 = omega arith in
-    ap (fixed_place ss) whole ∙ later_place ss at 0
+from_beginning ss at = grind (arith, later_place ss at 0)
 
 -- no place is before the one that it begins with
 pub not_before : (ss : List Step) (at : ℕ) → at ≤ fixed_place ss at
@@ -28,6 +24,4 @@ one_more (t ∷ ss) s at = one_more ss s (t.at + at)
 
 -- what stands behind a string begins no later than where that ends
 pub behind_string : (steps ss : List Step) (s : Step) → steps ≡ ss ++ s ∷ [] → fixed_place steps 0 ≤ fixed_place ss s.at
-behind_string steps ss s is =
-    let whole : fixed_place steps 0 ≡ s.at + fixed_place ss 0 = ap (λ (ts : List Step). fixed_place ts 0) is ∙ one_more ss s 0 in
-    omega (arith, whole, from_beginning ss s.at)
+behind_string steps ss s is = grind (arith, one_more, from_beginning)

@@ -1,6 +1,5 @@
 -- The characters of strings, and units of UTF-16.
-use Rattle.std.proofs.Common.{◌≡◌, ℕ, zero, suc, ◌+◌, ◌*◌, ◌/◌, ◌%◌, ◌≤◌, true, false, List, [], ◌∷◌, ◌++◌, length, get_or, take, refl, sym, ap, ◌∙◌, arith, inl, inr}
-use Rattle.std.specs.Prelude.{IsUtf8, ◌==◌, ◌&&◌, unwrap_or, flat_map}
+use Rattle.std.proofs.Common.{◌≡◌, ℕ, zero, suc, ◌+◌, ◌*◌, ◌/◌, ◌%◌, ◌≤◌, true, false, List, [], ◌∷◌, ◌++◌, length, get_or, take, refl, sym, ap, ◌∙◌, arith, inl, inr, IsUtf8, ◌==◌, ◌&&◌, unwrap_or, flat_map}
 use Rattle.std.specs.Char.Utf16.{is_high_surrogate, is_low_surrogate, surrogate_pair_char, lone_unit_char, utf16_chars, utf16_lossy_chars}
 use Rattle.std.specs.Str.{is_utf8}
 use Rattle.std.proofs.lemmas.Bool.{cases_Bool, false≢true}
@@ -68,20 +67,12 @@ count (suc k) (b ∷ []) enough = absurd (omega (arith, enough))
 count (suc k) (b ∷ c ∷ bs) enough = ap suc (count k bs (omega (arith, enough)))
 
 last_unit : (n : ℕ) (bs : List ℕ) → n % 2 ≡ 0 → n + 2 ≤ length bs → units (take (n + 2) bs) ≡ units (take n bs) ++ (get_or bs n 0 + 256 * get_or bs (n + 1) 0) ∷ []
-last_unit n bs even enough =
-    let k = n / 2 in
-    let is : twice k ≡ n = twice_half n even in
-    let two : suc (suc (twice k)) ≡ n + 2 = omega (arith, is) in
-    let one : suc (twice k) ≡ n + 1 = omega (arith, is) in
-    ap (λ m. units (take m bs)) (sym two) ∙ last k bs (omega (arith, is, enough))
-    ∙ ap (λ m. units (take m bs) ++ (get_or bs m 0 + 256 * get_or bs (suc (twice k)) 0) ∷ []) is
-    ∙ ap (λ m. units (take n bs) ++ (get_or bs n 0 + 256 * get_or bs m 0) ∷ []) one
+last_unit n bs even enough = grind (arith, twice_half n even, last (n / 2) bs (omega (arith, (twice_half n even), enough)))
 
 -- a last unit that fills up is cut
 pub unit_more : (n : ℕ) (bs : List ℕ) → n % 2 ≡ 0 → n + 2 ≤ length bs → is_filling_unit (get_or bs n 0 + 256 * get_or bs (n + 1) 0) ≡ true
     → trimmed_of is_filling_unit (units (take (n + 2) bs)) ≡ trimmed_of is_filling_unit (units (take n bs))
-unit_more n bs even enough fills =
-    ap (trimmed_of is_filling_unit) (last_unit n bs even enough) ∙ trimmed_more is_filling_unit (units (take n bs)) (get_or bs n 0 + 256 * get_or bs (n + 1) 0) fills
+unit_more n bs even enough fills = grind (arith, last_unit, trimmed_more)
 
 -- and with none left, or at one that does not, all that is left is kept
 pub units_done : (bs : List ℕ) → [] ≡ trimmed_of is_filling_unit (units bs) → [] ≡ trimmed_units bs
@@ -89,16 +80,7 @@ units_done bs none = ap (λ (us : List ℕ). take (2 * length us) bs) none
 
 pub unit_done : (n : ℕ) (bs : List ℕ) → n % 2 ≡ 0 → n + 2 ≤ length bs → is_filling_unit (get_or bs n 0 + 256 * get_or bs (n + 1) 0) ≡ false
     → trimmed_of is_filling_unit (units (take (n + 2) bs)) ≡ trimmed_of is_filling_unit (units bs) → take (n + 2) bs ≡ trimmed_units bs
-unit_done n bs even enough keeps so_far =
-    let k = (n + 2) / 2 in
-    let is : twice k ≡ n + 2 = twice_half (n + 2) (omega (arith, even)) in
-    let all : trimmed_of is_filling_unit (units (take (n + 2) bs)) ≡ units (take (n + 2) bs) =
-    ap (trimmed_of is_filling_unit) (last_unit n bs even enough) ∙ trimmed_done is_filling_unit (units (take n bs)) (get_or bs n 0 + 256 * get_or bs (n + 1) 0) keeps
-    ∙ sym (last_unit n bs even enough) in
-    let size : length (units (take (n + 2) bs)) ≡ k = ap (λ m. length (units (take m bs))) (sym is) ∙ count k bs (omega (arith, is, enough)) in
-    let ends : 2 * length (trimmed_of is_filling_unit (units bs)) ≡ n + 2 =
-    ap (λ (us : List ℕ). 2 * length us) (sym so_far ∙ all) ∙ ap (λ m. 2 * m) size ∙ sym (twice_is k) ∙ is in
-    ap (λ m. take m bs) (sym ends)
+unit_done n bs even enough keeps so_far = grind (arith, last_unit n bs even enough, trimmed_done is_filling_unit (units (take n bs)) (get_or bs n 0 + 256 * get_or bs (n + 1) 0) keeps, count ((n + 2) / 2) bs (omega (arith, (twice_half (n + 2) (omega (arith, even))), enough)), twice_is ((n + 2) / 2))
 
 -- two units that are a pair
 pub paired : (u v : ℕ) (us : List ℕ) → (is_high_surrogate u && is_low_surrogate v) ≡ true → utf16_lossy_chars (u ∷ v ∷ us) ≡ surrogate_pair_char u v ∷ utf16_lossy_chars us

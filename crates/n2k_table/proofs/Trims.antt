@@ -1,12 +1,10 @@
 -- Bytes without what fills them up, from their end.
-use Rattle.std.proofs.Common.{◌≡◌, ℕ, Bool, true, false, ◌&&◌, List, [], ◌∷◌, ◌++◌, refl, ap, ◌∙◌, inl, inr}
+use Rattle.std.proofs.Common.{arith, ◌≡◌, ℕ, Bool, true, false, ◌&&◌, List, [], ◌∷◌, ◌++◌, refl, ap, ◌∙◌}
 use Rattle.std.specs.List.{list_all}
-use Rattle.std.proofs.lemmas.Bool.{cases_Bool}
 use Rattle.n2k_table.specs.Shown.{trimmed_of}
 
 and_false : (b : Bool) → (b && false) ≡ false
-and_false true = refl
-and_false false = refl
+and_false b = grind arith
 
 all_but : (p : ℕ → Bool) (front : List ℕ) (last : ℕ) → p last ≡ true → list_all p (front ++ last ∷ []) ≡ list_all p front
 all_but p [] last fills = rw fills refl
@@ -19,11 +17,7 @@ not_all p (b ∷ bs) last keeps = ap (λ r. p b && r) (not_all p bs last keeps) 
 -- a last byte that fills up is cut
 pub trimmed_more : (p : ℕ → Bool) (front : List ℕ) (last : ℕ) → p last ≡ true → trimmed_of p (front ++ last ∷ []) ≡ trimmed_of p front
 trimmed_more p [] last fills = rw fills refl
-trimmed_more p (b ∷ bs) last fills =
-    elim (cases_Bool (list_all p (b ∷ bs))) [
-      | inl all ↦ rw (all_but p (b ∷ bs) last fills ∙ all, all) refl
-      | inr some ↦ rw (all_but p (b ∷ bs) last fills ∙ some, some) (ap (λ (t : List ℕ). b ∷ t) (trimmed_more p bs last fills))
-    ]
+trimmed_more p (b ∷ bs) last fills = grind (arith, trimmed_more p bs last fills, all_but)
 
 -- and one that does not is kept, with all before it
 pub trimmed_done : (p : ℕ → Bool) (front : List ℕ) (last : ℕ) → p last ≡ false → trimmed_of p (front ++ last ∷ []) ≡ front ++ last ∷ []

@@ -1,6 +1,5 @@
 -- The eight digits of a number as the bytes of a word.
-use Rattle.std.proofs.Common.{◌≡◌, ℕ, zero, suc, ◌+◌, ◌-◌, ◌*◌, ◌/◌, ◌%◌, ◌^◌, ◌<◌, ◌≤◌, List, [], ◌∷◌, ◌++◌, length, take, drop, replicate, refl, sym, ap, ◌∙◌, append_assoc, eq-zero-or-pos, arith, inl, inr, min}
-use Rattle.std.specs.Prelude.{decimal}
+use Rattle.std.proofs.Common.{◌≡◌, ℕ, zero, suc, ◌+◌, ◌-◌, ◌*◌, ◌/◌, ◌%◌, ◌^◌, ◌<◌, ◌≤◌, List, [], ◌∷◌, ◌++◌, length, take, drop, replicate, refl, sym, ap, ◌∙◌, append_assoc, eq-zero-or-pos, arith, inl, inr, min, decimal}
 use Rattle.std.specs.Int.{w64, to_le_bytes, trailing_zeros}
 use Rattle.std.specs.Int.Count.{count_trailing_zeros, trailing_of_zero}
 use Rattle.std.proofs.lemmas.Bool.{cases_lt}
@@ -23,9 +22,7 @@ more_of (suc k) z = ap (λ (t : List ℕ). z ∷ t) (more_of k z)
 
 none_left : (z k : ℕ) → last_of z k 0 ≡ replicate k z
 none_left z zero = refl
-none_left z (suc k) =
-    let same : z + 0 ≡ z = omega arith in
-    rw (none_left z k, same) (more_of k z)
+none_left z (suc k) = grind (arith, none_left z k, more_of)
 
 length_digit : (n : ℕ) → n < 10 → length (decimal n) ≡ 1
 length_digit n small = rw (decimal_digit n small) refl
@@ -38,11 +35,7 @@ tenth : (k n : ℕ) → n < 10 ^ suc k → n / 10 < 10 ^ k
 tenth k n small = div_below n 10 (10 ^ k) (omega arith) (omega (arith, small))
 
 one_left : (z k n : ℕ) → n < 10 → last_of z (suc k) n ≡ replicate (suc k - length (decimal n)) z ++ (z + n) ∷ []
-one_left z k n digit =
-    let none : n / 10 ≡ 0 = omega arith in
-    let same : n % 10 ≡ n = omega arith in
-    let count : suc k - 1 ≡ k = omega arith in
-    rw (none, same, length_digit n digit, count, none_left z k) refl
+one_left z k n digit = grind (arith, length_digit, none_left)
 
 digit_is : (k n : ℕ) → n < 10 → last_of 48 (suc k) n ≡ replicate (suc k - length (decimal n)) 48 ++ decimal n
 digit_is k n digit = one_left 48 k n digit ∙ ap (λ (t : List ℕ). replicate (suc k - length (decimal n)) 48 ++ t) (sym (decimal_digit n digit))
@@ -95,10 +88,7 @@ values_are n small = omega arith
 -- a byte that is 0 has eight zeros
 zero_bit : (k v : ℕ) → count_trailing_zeros (suc k) (2 * v) ≡ suc (count_trailing_zeros k v)
 unfolding count_trailing_zeros
-zero_bit k v =
-    let even : 2 * v % 2 ≡ 0 = omega arith in
-    let half : 2 * v / 2 ≡ v = omega arith in
-    rw (even, half) refl
+zero_bit k v = grind arith
 
 zero_byte : (k v : ℕ) → count_trailing_zeros (8 + k) (256 * v) ≡ 8 + count_trailing_zeros k v
 zero_byte k v =
@@ -122,13 +112,8 @@ few_zeros (suc j) (suc k) x some =
     ]
 
 leading_zeros_of : (z m : ℕ) (bs : List ℕ) → count_trailing_zeros (8 * z + m) (word_of (replicate z 0 ++ bs)) ≡ 8 * z + count_trailing_zeros m (word_of bs)
-leading_zeros_of zero m bs =
-    let same : 8 * 0 + m ≡ m = omega arith in
-    rw same (omega arith)
-leading_zeros_of (suc z) m bs =
-    let more : 8 * suc z + m ≡ 8 + (8 * z + m) = omega arith in
-    let first : word_of (replicate (suc z) 0 ++ bs) ≡ 256 * word_of (replicate z 0 ++ bs) = omega arith in
-    rw (more, first) (zero_byte (8 * z + m) (word_of (replicate z 0 ++ bs)) ∙ ap (λ k. 8 + k) (leading_zeros_of z m bs) ∙ omega arith)
+leading_zeros_of zero m bs = grind arith
+leading_zeros_of (suc z) m bs = grind (arith, leading_zeros_of z m bs, zero_byte (8 * z + m) (word_of (replicate z 0 ++ bs)))
 
 -- ---- bytes of a word
 
@@ -136,45 +121,17 @@ leading_zeros_of (suc z) m bs =
 abbrev noughts : ℕ
 noughts = 0x3030303030303030
 
-eight_of : (x a b c d e f g h : ℕ) → a < 256 → b < 256 → c < 256 → d < 256 → e < 256 → f < 256 → g < 256 → h < 256
-    → x ≡ word_of (a ∷ b ∷ c ∷ d ∷ e ∷ f ∷ g ∷ h ∷ []) → to_le_bytes w64 x ≡ a ∷ b ∷ c ∷ d ∷ e ∷ f ∷ g ∷ h ∷ []
-eight_of x a b c d e f g h A B C D E F G H is =
-    let first : x % 256 ≡ a = omega arith in
-    let second : x / 256 ^ 1 % 256 ≡ b = omega arith in
-    let third : x / 256 ^ 2 % 256 ≡ c = omega arith in
-    let fourth : x / 256 ^ 3 % 256 ≡ d = omega arith in
-    let fifth : x / 256 ^ 4 % 256 ≡ e = omega arith in
-    let sixth : x / 256 ^ 5 % 256 ≡ f = omega arith in
-    let seventh : x / 256 ^ 6 % 256 ≡ g = omega arith in
-    let eighth : x / 256 ^ 7 % 256 ≡ h = omega arith in
-    λ i. first i ∷ second i ∷ third i ∷ fourth i ∷ fifth i ∷ sixth i ∷ seventh i ∷ eighth i ∷ []
-
 eight_bytes : (n : ℕ) → n < 10 ^ 8 → to_le_bytes w64 (values_word n + noughts) ≡ last_of 48 8 n
-eight_bytes n small =
-    eight_of _ _ _ _ _ _ _ _ _ (omega arith) (omega arith) (omega arith) (omega arith) (omega arith) (omega arith) (omega arith) (omega arith) (omega arith)
+eight_bytes n small = grind arith
 
 -- a word without its lowest byte
 one_step : (x : ℕ) → take 7 (to_le_bytes w64 (x / 2 ^ 8)) ≡ drop 1 (to_le_bytes w64 x)
-one_step x =
-    let second : x / 256 / 256 % 256 ≡ x / 65536 % 256 = omega arith in
-    let third : x / 256 / 65536 % 256 ≡ x / 16777216 % 256 = omega arith in
-    let fourth : x / 256 / 16777216 % 256 ≡ x / 4294967296 % 256 = omega arith in
-    let fifth : x / 256 / 4294967296 % 256 ≡ x / 1099511627776 % 256 = omega arith in
-    let sixth : x / 256 / 1099511627776 % 256 ≡ x / 281474976710656 % 256 = omega arith in
-    let seventh : x / 256 / 281474976710656 % 256 ≡ x / 72057594037927936 % 256 = omega arith in
-    λ i. (x / 256 % 256) ∷ second i ∷ third i ∷ fourth i ∷ fifth i ∷ sixth i ∷ seventh i ∷ []
+one_step x = grind arith
 
 -- and without its k lowest
 shifted : (m k x : ℕ) → m + k ≤ 8 → take m (to_le_bytes w64 (x / 2 ^ (8 * k))) ≡ take m (drop k (to_le_bytes w64 x))
 shifted m zero x few = (let same : x / 2 ^ (8 * 0) ≡ x = omega arith in ap (λ t. take m (to_le_bytes w64 t)) same)
-shifted m (suc k) x few =
-    let low = to_le_bytes w64 (x / 2 ^ 8) in
-    let all = to_le_bytes w64 x in
-    let more : 8 * suc k ≡ 8 + 8 * k = omega arith in
-    let word : x / 2 ^ (8 * suc k) ≡ x / 2 ^ 8 / 2 ^ (8 * k) = ap (λ i. x / 2 ^ i) more ∙ sym (shr-shr x 8 (8 * k)) in
-    let cut : take (k + m) low ≡ take (k + m) (drop 1 all) = sym (take-take (k + m) 7 low (omega (arith, few))) ∙ ap (take (k + m)) (one_step x) in
-    ap (λ t. take m (to_le_bytes w64 t)) word ∙ shifted m k (x / 2 ^ 8) (omega (arith, few))
-    ∙ sym (drop-take k m low) ∙ ap (drop k) cut ∙ drop-take k m (drop 1 all)
+shifted m (suc k) x few = grind (arith, shifted m k (x / 2 ^ 8) (omega (arith, few)), shr-shr x 8 (8 * k), take-take (k + m) 7 (to_le_bytes w64 (x / 2 ^ 8)) (omega (arith, few)), one_step x, drop-take k m (to_le_bytes w64 (x / 2 ^ 8)), drop-take k m (drop 1 (to_le_bytes w64 x)))
 
 -- how many of the eight digits are zeros before the first that is none
 zeros_before : (n : ℕ) → 0 < n → n < 10 ^ 8 → trailing_zeros w64 (values_word n) / 8 ≡ 8 - length (decimal n)

@@ -1,5 +1,5 @@
 -- From what `clap` says of a parse to what the words ask for.
-use Rattle.std.proofs.Common.{◌≡◌, ◌⊎◌, ◌∙◌, ℕ, List, [], ◌∷◌, true, Option, Some, None, Result, Ok, Err, IfErr, IfOk, IfSome, ap, sym, subst, refl, inl, inr, codes}
+use Rattle.std.proofs.Common.{arith, ◌≡◌, ◌⊎◌, ℕ, List, [], true, Option, Some, None, Result, Ok, Err, IfErr, IfOk, IfSome, ap, subst, refl, inl, inr, ◌≢◌, Vec}
 use Rattle.std.specs.Borrow.{Bor}
 use Rattle.std.specs.List.{flat_map}
 use Rattle.std.proofs.lemmas.List.Folds.{flat_map-map}
@@ -8,9 +8,8 @@ use Rattle.clap.specs.Words.{App, FailsBy, HasKind, HasMatchesOf, IsAmong, Kinds
 use Rattle.clap.specs.declared.error.Error.{Error}
 use Rattle.clap.specs.declared.parser.matches.ArgMatches.{ArgMatches}
 use Rattle.clap.specs.declared.error.kind.ErrorKind.{ErrorKind}
-use Rattle.clap.specs.declared.error.kind.ErrorKind.TheVariants.{DisplayHelp, DisplayVersion, OutOfMemory}
+use Rattle.clap.specs.declared.error.kind.ErrorKind.TheVariants.{OutOfMemory}
 use Rattle.clap.proofs.OnLiterals.{clap_on_literals}
-use Rattle.std.specs.Prelude.{◌≢◌, Vec}
 use Rattle.std.specs.declared.alloc.AllocError.{AllocError}
 use Rattle.std.specs.declared.alloc.Global.{Global}
 use Rattle.n2kdec.specs.declared.asked.Command.{Command}
@@ -19,10 +18,10 @@ use Rattle.n2kdec.specs.declared.asked.Request.TheVariants as to
 use Rattle.n2kdec.specs.declared.fault.Fault.{Fault}
 use Rattle.n2kdec.specs.declared.fault.Fault.TheVariants as fault
 use Rattle.n2kdec.specs.Usage.{program_app}
-use Rattle.n2kdec.specs.Asked.{HasLines, IsAsked, IsUnasked}
+use Rattle.n2kdec.specs.Asked.{HasLines, IsAsked}
 use Rattle.n2kdec.specs.Machine.{AsksFor, World}
 use Rattle.n2kdec.specs.Inner.Parse.{AnswersKind}
-use Rattle.n2kdec.specs.Parser.{AreMatchesOf, IsRefusal, Shown, no_window, said_at, said_of}
+use Rattle.n2kdec.specs.Parser.{AreMatchesOf, IsRefusal, Shown, no_window, said_at}
 use Rattle.n2kdec.specs.Words.{Names, command_of, named}
 
 -- the command is one of those whose matches and faults are known
@@ -34,45 +33,27 @@ program_is_free : is_simple_and_free program_app ≡ true
 unfolding program_app clap_on_literals
 program_is_free = refl
 
--- it has one request for each of these words, and nothing else at them; so neither is refused
-help_is_a_request : fault_of program_app (codes "n2kdec" ∷ codes "--help" ∷ []) ≡ DisplayHelp ∷ []
-unfolding program_app clap_on_literals
-help_is_a_request = refl
-
-version_is_a_request : fault_of program_app (codes "n2kdec" ∷ codes "--version" ∷ []) ≡ DisplayVersion ∷ []
-unfolding program_app clap_on_literals
-version_is_a_request = refl
-
 -- so what a parse by it gives is what the definition says
 pub matches_as_defined : (app : App) (words : List Text) (r : Result ArgMatches Error) → app ≡ program_app → IfOk r (HasMatchesOf app words)
     → (is_simple_and_free app ≡ true → FailsBy (fault_of app words) r) → IfOk r (AreMatchesOf words)
-matches_as_defined app words (Ok matches) is found kinds =
-    (subst (λ (a : App). fault_of a words ≡ []) is (kinds (ap is_simple_and_free is ∙ program_is_free)), (found (ap is_simple is ∙ program_is_simple)).1 ∙ ap (λ (a : App). subcommand_of a words) is)
-matches_as_defined app words (Err e) is found kinds = tt
+matches_as_defined app words r is found kinds = grind (arith, program_is_free, program_is_simple)
 
 pub kinds_as_defined : (app : App) (words : List Text) (r : Result ArgMatches Error) → app ≡ program_app → (is_simple_and_free app ≡ true → FailsBy (fault_of app words) r)
     → IfErr r (HasKind (fault_of program_app words))
-kinds_as_defined app words (Ok matches) is kinds = tt
-kinds_as_defined app words (Err e) is kinds = subst (λ (a : App). HasKind (fault_of a words) e) is (kinds (ap is_simple_and_free is ∙ program_is_free))
+kinds_as_defined app words r is kinds = grind (arith, program_is_free)
 
 pub taken_as_defined : (app : App) (words : List Text) (r : Result ArgMatches Error) → app ≡ program_app → IfErr r (λ e. takes app words ≡ true → kind_of e ≡ OutOfMemory)
     → IfErr r (λ e. takes program_app words ≡ true → kind_of e ≡ OutOfMemory)
-taken_as_defined app words (Ok matches) is passes = tt
-taken_as_defined app words (Err e) is passes = subst (λ (a : App). takes a words ≡ true → kind_of e ≡ OutOfMemory) is passes
+taken_as_defined app words r is passes = grind arith
 
 -- what it shows is not known
 pub refused_as_defined : (words : List Text) (e : Error) (kind : ErrorKind) → kind ≡ kind_of e → HasKind (fault_of program_app words) e → IsRefusal (λ words. None) words kind None
-refused_as_defined words e kind is (inl memory) = inl (is ∙ memory)
-refused_as_defined words e kind is (inr among) = inr (subst (λ k. IsAmong k (fault_of program_app words)) (sym is) among, refl)
+refused_as_defined words e kind is h = grind arith
 
 -- ---- what is said of refused words
 
-said_without_fault : (shown : Shown) (words : List Text) → fault_of program_app words ≡ [] → said_of shown words ≡ Some no_window
-said_without_fault shown words none = ap (λ kinds. said_at kinds (shown words)) none
-
 said_at_fault : (kinds : Kinds) (kind : ErrorKind) (text : Option Text) → IsAmong kind kinds → said_at kinds text ≡ text
-said_at_fault [] kind text among = absurd among
-said_at_fault (k ∷ kinds) kind text among = refl
+said_at_fault kinds kind text among = grind arith
 
 said_of_words : (one other : Option Text) (lines : Option (Result (Vec ℕ Global) AllocError)) → one ≡ other → HasLines fault.Words one lines → HasLines fault.Words other lines
 said_of_words one other lines same said = subst (λ t. HasLines fault.Words t lines) same said
@@ -86,11 +67,8 @@ module _ (shown : Shown) (w : World) (r : Request) where
 
   -- memory was refused
   pub memory_asks : r ≡ to.Refused (fault.Memory None) None → AsksFor shown w r
-  memory_asks is = inl (some w.typed)
-    where
-      some : (known : Option (List Text)) → (typed : List Text) × IfSome known (λ known. typed ≡ known) × IsAsked shown r typed
-      some None = ([], tt, subst (λ r. IsAsked shown r []) (sym is) (refl, refl))
-      some (Some typed) = (typed, refl, subst (λ r. IsAsked shown r typed) (sym is) (refl, refl))
+  memory_asks is =
+      inl (elim w.typed as (λ k. (typed : List Text) × IfSome k (λ known. typed ≡ known) × IsAsked shown r typed) [ None ↦ ([], tt, grind arith) | Some typed ↦ (typed, refl, grind arith) ])
 
 pub ruleset asks = (typed_asks, memory_asks)
 
@@ -108,37 +86,21 @@ module _ (shown : Shown) (words : List Text) (rows : Option (Text × List Row)) 
   pub asked_command : (c : Command) → Names (named rows) (Ok c) → IsAsked shown (to.Command c) words
   asked_command c names = (none, named_by_matches (Ok c) names)
 
-  unasked : (f : Fault) → Names (command_of words) (Err f) → IsUnasked f words
-  unasked fault.Words names = inr (none, names)
-  unasked fault.Interface names = (none, names)
-  unasked (fault.Memory read) names = names
-  unasked _ names = absurd names
-
   pub asked_fault : (f : Fault) → f ≢ fault.Words → Names (named rows) (Err f) → IsAsked shown (to.Refused f None) words
-  asked_fault f other names = (unasked f (named_by_matches (Err f) names), unsaid f other)
-    where
-      unsaid : (f : Fault) → f ≢ fault.Words → HasLines f (said_of shown words) None
-      unsaid fault.Words other = absurd (other refl)
-      unsaid _ other = refl
+  unfolding command_of
+  asked_fault f other names = grind arith
 
   pub asked_words : (lines : Option (Result (Vec ℕ Global) AllocError)) → Names (named rows) (Err fault.Words) → HasLines fault.Words (Some no_window) lines → IsAsked shown (to.Refused fault.Words lines) words
-  asked_words lines names said = (
-    unasked fault.Words (named_by_matches (Err fault.Words) names),
-    said_of_words (Some no_window) (said_of shown words) lines (sym (said_without_fault shown words none)) said,
-  )
+  unfolding command_of
+  asked_words lines names said = grind arith
 
 -- the parse failed, by a kind among those of the definition, or for want of memory
 module _ (shown : Shown) (words : List Text) (kind : ErrorKind) (text : Option Text) where
   pub asked_by_refusal : (r : Request) → IsRefusal shown words kind text → AnswersKind kind text r → IsAsked shown r words
-  asked_by_refusal (to.Help help) (inl memory) (inl is) = let bad : DisplayHelp ≡ OutOfMemory = sym is.0 ∙ memory in cc
-  asked_by_refusal (to.Help help) (inl memory) (inr is) = let bad : DisplayVersion ≡ OutOfMemory = sym is.0 ∙ memory in cc
-  asked_by_refusal (to.Help help) (inr (among, same)) (inl is) =
-      inl (subst (λ k. IsAmong k (fault_of program_app words)) is.0 among, subst (λ t. IfSome t (λ known. help ≡ known)) same is.1)
-  asked_by_refusal (to.Help help) (inr (among, same)) (inr is) = inr (subst (λ k. IsAmong k (fault_of program_app words)) is.0 among, is.1)
+  asked_by_refusal (to.Help help) fails answers = grind arith
   asked_by_refusal (to.Command command) fails answers = absurd answers
   asked_by_refusal (to.Refused fault.Words lines) (inl memory) answers = absurd (answers.2 memory)
-  asked_by_refusal (to.Refused fault.Words lines) (inr (among, same)) answers =
-      (inl (kind, among, answers.0, answers.1), said_of_words text (said_of shown words) lines (same ∙ sym (said_at_fault (fault_of program_app words) kind (shown words) among)) answers.3)
+  asked_by_refusal (to.Refused fault.Words lines) (inr (among, same)) answers = (inl (kind, among, answers.0, answers.1), grind (arith, said_at_fault))
   asked_by_refusal (to.Refused (fault.Memory read) lines) fails answers = answers
   asked_by_refusal (to.Refused _ lines) fails answers = absurd answers
 

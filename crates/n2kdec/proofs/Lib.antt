@@ -1,8 +1,5 @@
 pub mod AskedLemmas
-pub mod CommandLemmas
-pub mod DecodeLemmas
 pub mod Finding
-pub mod Lines
 pub mod MachineLemmas
 pub mod Making
 pub mod Replacing

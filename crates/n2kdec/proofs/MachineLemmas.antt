@@ -1,8 +1,5 @@
 -- From what a call leaves to what the program leaves.
-use Rattle.std.proofs.Common.{◌≡◌, ◌⊎◌, ◌∙◌, ◌++◌, append-nil, append_assoc, ap, ℕ, List, [], ◌∷◌, Option, Some, None, Result, Ok, Err, IfErr, option_map, inl, inr, refl, subst, sym}
-use Rattle.std.specs.Prelude.{◌<◌, ◌≤◌, IfSome, IsErrAnd, IsSome, length}
-use Rattle.std.proofs.lemmas.Bool.{false≢true}
-use Rattle.std.specs.Option.{unwrap_or}
+use Rattle.std.proofs.Common.{arith, ◌≡◌, ◌⊎◌, ◌++◌, append_assoc, ℕ, List, [], ◌∷◌, Option, Some, None, Result, Ok, Err, IfErr, option_map, inl, inr, refl, subst, sym, ◌<◌, ◌≤◌, IfSome, IsErrAnd, IsSome, length, unwrap_or}
 use Rattle.std.specs.declared.alloc.AllocError.{AllocError}
 use Rattle.std.specs.declared.io.Error.{Error}
 use Rattle.clap.specs.Words.{Text}
@@ -29,21 +26,13 @@ use Rattle.n2kdec.specs.declared.machine.FileCall.TheVariants.{Opened, Closed}
 
 -- ---- which calls of files were made
 
-pub makes_none : (a b : Calls) → b ≡ a → Makes [] a b
-makes_none None b same = same
-makes_none (Some had) b same = subst (Makes [] (Some had)) (sym same) (sym (append-nil had))
-
 pub makes_then : (a b c : Calls) (first then : List FileCall) → Makes first a b → Makes then b c → Makes (first ++ then) a c
-makes_then None b c first then made more = subst (λ m. Makes then m c) made more
-makes_then (Some had) None c first then made more = subst (Makes (first ++ then) (Some had)) (sym more) tt
-makes_then (Some had) (Some mid) None first then made more = tt
-makes_then (Some had) (Some mid) (Some all) first then made more = more ∙ ap (λ l. l ++ then) made ∙ append_assoc had first then
+makes_then a b c first then made more = grind (arith, append_assoc)
 
 -- a file is opened, and closed again
 pub opened_closed : (a b c : Calls) (name : Option Text) (reads : ℕ) (why known : Option Error) → Makes (Opened name None ∷ []) a b → Makes (Closed reads why ∷ []) b c → why ≡ known
     → Makes (Opened name None ∷ Closed reads known ∷ []) a c
-opened_closed a b c name reads why known opened closed is =
-    subst (λ w. Makes (Opened name None ∷ Closed reads w ∷ []) a c) is (makes_then a b c (Opened name None ∷ []) (Closed reads why ∷ []) opened closed)
+opened_closed a b c name reads why known opened closed is = grind (arith, makes_then)
 
 -- a file that was opened and closed
 module _ (w : World) (named : Option Text) (name : Text) (is_name : named ≡ Some name) (read : Reading) (a b c : Calls) (reads failed : ℕ) (why : Option Error) (is_why : IsWhy failed why)
@@ -64,11 +53,8 @@ module _ (w : World) (named : Option Text) (name : Text) (is_name : named ≡ So
   was_too_large T fault is none many = so T (Err fault) (_, taken none, inl (is, many, (reads, refl)))
 
   pub was_unread : (T : Type 0) (fault : Fault) → fault ≡ unread read why → 0 < failed → Comes T (Err fault)
-  was_unread T fault is some = subst (λ f. Comes T (Err f)) (sym is) (go why (is_why.1 some) closed)
-    where
-      go : (told : Option Error) → IsSome told → Makes (Closed reads told ∷ []) b c → Comes T (Err (unread read told))
-      go None is closed = absurd (false≢true is)
-      go (Some error) is closed = so T (Err (unread read (Some error))) (_, opened_closed a b c (Some name) reads (Some error) (Some error) opened closed refl, inr (inr (inl (error, refl, (reads, refl)))))
+  was_unread T fault is some =
+      grind (arith, so T (Err fault) (Opened (Some name) None ∷ Closed reads why ∷ [], opened_closed a b c (Some name) reads why why opened closed refl, grind arith))
 
   pub was_refused_memory : (T : Type 0) → failed ≡ 0 → Comes T (Err (Memory (Some read)))
   was_refused_memory T none = so T (Err (Memory (Some read))) (_, taken none, inr (inr (inr (refl, (reads, refl)))))
@@ -86,22 +72,16 @@ module _ (task : Task) (table : List ℕ) (handed : Option (List ℕ)) (before a
 
   pub performed_over : (held : List ℕ) (lent left known : Option (List ℕ)) (calls failed : ℕ) → held ≡ table → lent ≡ handed → left ≡ known → calls ≡ 0 → failed ≡ 0
       → PerformsAfter held lent left calls failed → TellsAfter held lent left → IsPerformedOver task table handed known log before after result
-  performed_over held lent left known calls failed is_table is_state is none none_failed performs told = record {
-    performs = subst (λ t. PerformsAfter t handed known 0 0) is_table (subst (λ h. PerformsAfter held h known 0 0) is_state
-        (subst (λ l. PerformsAfter held lent l 0 0) is (subst (λ n. PerformsAfter held lent left 0 n) none_failed (subst (λ n. PerformsAfter held lent left n failed) none performs))));
-    told = subst (λ t. TellsAfter t handed known) is_table (subst (λ h. TellsAfter held h known) is_state (subst (λ l. TellsAfter held lent l) is told));
-  }
+  performed_over held lent left known calls failed is_table is_state is none none_failed performs told = grind arith
 
 -- the bytes of a table that was read, or none
 pub table_is : {T : Type 0} (items : T → List ℕ) (read : Option T) (none held : T) → items none ≡ [] → held ≡ unwrap_or read none → items held ≡ table_bytes (option_map items read)
-table_is items None none held empty is = ap items is ∙ empty
-table_is items (Some bytes) none held empty is = ap items is
+table_is items read none held empty is = grind arith
 
 -- a command that is performed is run
 pub performed : (w : World) (command : Command) (before after : Outside) (result : Result Ending Fault) → IsPerformed w command before after result
     → RunsCommand w command before after result
-performed w command before after (Ok status) done = done
-performed w command before after (Err fault) done = inl done
+performed w command before after result done = grind arith
 
 -- one whose state is not admitted
 pub not_admitted : (w : World) (command : Command) (o : Outside) (why : Unkept) → IsSome (save_name command.task) → IsAdmittedSo o.admits command (Err why)
@@ -115,20 +95,7 @@ module _ (w : World) (command : Command) (o : Outside) (used : Calls) (fault : F
 
   pub not_begun : (read : Reading) (first last : List FileCall) → IsAdmittedSo o.admits command (Ok tt) → IsReadBefore w command.files read first
       → IsNotRead w command.files read fault last → Makes (first ++ last) o.calls used → IsNotBegunSo
-  not_begun read first last admitted before_it unread calls = go result is
-    where
-      go : (r : Result Ending Fault) → IsErrAnd r (λ told. told ≡ fault) → RunsCommand w command o (record o { calls = used }) r
-      go (Ok ending) is = absurd is
-      go (Err told) is = inr (inl (record {
-        read = read;
-        admitted = admitted;
-        first = first;
-        before_it = before_it;
-        last = last;
-        unread = subst (λ f. IsNotRead w command.files read f last) (sym is) unread;
-        calls = calls;
-        else_same = refl;
-      }))
+  not_begun read first last admitted before_it unread calls = grind arith
 
   pub table_unread : IsAdmittedSo o.admits command (Ok tt) → (of_table : List FileCall) × Makes of_table o.calls used × IsUnread w command.files.table reading.Table fault of_table
       → IsNotBegunSo
@@ -136,41 +103,26 @@ module _ (w : World) (command : Command) (o : Outside) (used : Calls) (fault : F
 
   pub state_unread : (mid : Calls) → IsAdmittedSo o.admits command (Ok tt) → (of_table : List FileCall) × Makes of_table o.calls mid × IsRead w command.files.table of_table
       → (of_state : List FileCall) × Makes of_state mid used × IsUnread w command.files.state reading.State fault of_state → IsNotBegunSo
-  state_unread mid admitted table state =
-      not_begun reading.State table.0 state.0 admitted table.2 state.2 (makes_then o.calls mid used table.0 state.0 table.1 state.1)
+  state_unread mid admitted table state = grind (arith, makes_then)
 
   pub log_unread : (mid then : Calls) → IsAdmittedSo o.admits command (Ok tt) → (of_table : List FileCall) × Makes of_table o.calls mid × IsRead w command.files.table of_table
       → (of_state : List FileCall) × Makes of_state mid then × IsRead w command.files.state of_state
       → (error : Error) → (IsSome command.files.log ⊎ IsOfMemory error) × Makes (Opened command.files.log (Some error) ∷ []) then used → fault ≡ unopened reading.Log error → IsNotBegunSo
   log_unread mid then admitted table state error opens same =
-      not_begun reading.Log (table.0 ++ state.0) (Opened command.files.log (Some error) ∷ []) admitted (table.0, state.0, table.2, state.2, refl)
-      (error, opens.0, same, refl)
-      (makes_then o.calls then used (table.0 ++ state.0) (Opened command.files.log (Some error) ∷ []) (makes_then o.calls mid then table.0 state.0 table.1 state.1) opens.1)
+      not_begun reading.Log (table.0 ++ state.0) _ admitted (table.0, state.0, table.2, state.2, refl) (error, opens.0, same, refl) (grind (arith, append_assoc))
 
 -- all files were read, and the log was opened and closed
 pub all_calls : (files : Files) (a b c d e : Calls) (of_table of_state : List FileCall) (reads : ℕ) (why : Option Error) → Makes of_table a b → Makes of_state b c
     → Makes (Opened files.log None ∷ []) c d → Makes (Closed reads why ∷ []) d e → Makes (of_table ++ of_state ++ Opened files.log None ∷ Closed reads why ∷ []) a e
-all_calls files a b c d e of_table of_state reads why table state opened closed =
-    makes_then a c e (of_table ++ of_state) (Opened files.log None ∷ Closed reads why ∷ []) (makes_then a b c of_table of_state table state)
-    (opened_closed c d e files.log reads why why opened closed refl)
+all_calls files a b c d e of_table of_state reads why table state opened closed = grind (arith, append_assoc)
 
 -- a fault of what was typed is reported
 pub reported : (w : World) (words : SystemWords) (request : Request) (before done : Outside) (result : Result Ending Fault) (fault : Fault) (said : Result (Unit {0}) AllocError) (errors : Place) (status : ℕ)
     → DoesAsked w request before done result → result ≡ Err fault → ReportsFault w words request fault said done.errors errors → status ≡ status_of fault
     → RunsRequest w words request before (record done { errors = errors }) status said
-reported w words request before done result fault said errors status does is reports answered = record {
-  result = Err fault;
-  done = done;
-  does = subst (DoesAsked w request before done) is does;
-  concludes = (answered, reports, refl);
-}
+reported w words request before done result fault said errors status does is reports answered = grind arith
 
 -- a command that came to its end, of which is said what there is to say
 pub ended : (w : World) (words : SystemWords) (request : Request) (before done : Outside) (result : Result Ending Fault) (ending : Ending) (said : Result (Unit {0}) AllocError) (errors : Place) (status : ℕ)
     → DoesAsked w request before done result → result ≡ Ok ending → Hints w ending.has_other_form done.errors errors → status ≡ ending.status → RunsRequest w words request before (record done { errors = errors }) status said
-ended w words request before done result ending said errors status does is hints answered = record {
-  result = Ok ending;
-  done = done;
-  does = subst (DoesAsked w request before done) is does;
-  concludes = (answered, hints, refl);
-}
+ended w words request before done result ending said errors status does is hints answered = grind arith

@@ -1,5 +1,5 @@
 -- Which calls a function makes of a folder, one after the other.
-use Rattle.std.proofs.Common.{◌≡◌, ◌≢◌, ◌⊎◌, ℕ, true, false, List, [], ◌∷◌, ◌++◌, Option, None, Some, option_map, Result, Ok, Err, IsErrAnd, inl, inr, refl, subst, sym, ap, ◌∙◌}
+use Rattle.std.proofs.Common.{arith, ◌≡◌, ◌≢◌, ℕ, true, false, List, [], ◌∷◌, ◌++◌, Option, None, Some, option_map, Result, Ok, Err, IsErrAnd, inl, inr, refl, subst, sym, ap, ◌∙◌}
 use Rattle.std.specs.declared.fs.OpenOptions.{OpenOptions}
 use Rattle.std.specs.declared.io.Error.{Error}
 use Rattle.clap.specs.Words.{Text}
@@ -25,28 +25,23 @@ module _ (d : Destination) where
 
   pub opened : (a b : Acts) (name : Name) (path : Text) (how asked : OpenOptions) (result : Result (Unit {0}) Error) → path ≡ path_of d name → asked ≡ how → b ≡ noted (acted (open_at path asked) result) a
       → Makes d a b (IsOne (open_at name how)) result
-  opened a b name path how asked result at so is =
-      one a b (open_at name how) result (subst (λ p. b ≡ noted (acted (open_at p how) result) a) at (subst (λ h. b ≡ noted (acted (open_at path h) result) a) so is))
+  opened a b name path how asked result at so is = grind arith
 
   pub removed : (a b : Acts) (name : Name) (path : Text) (result : Result (Unit {0}) Error) → path ≡ path_of d name → b ≡ noted (acted (remove path) result) a → Makes d a b (IsOne (remove name)) result
   removed a b name path result at is = one a b (remove name) result (subst (λ p. b ≡ noted (acted (remove p) result) a) at is)
 
   pub renamed : (a b : Acts) (from to : Text) (result : Result (Unit {0}) Error) → from ≡ d.temp → to ≡ d.target → b ≡ noted (acted (rename from to) result) a → Makes d a b (IsOne (rename Temp Target)) result
-  renamed a b from to result is_from is_to is =
-      one a b (rename Temp Target) result (subst (λ p. b ≡ noted (acted (rename p d.target) result) a) is_from (subst (λ p. b ≡ noted (acted (rename from p) result) a) is_to is))
+  renamed a b from to result is_from is_to is = grind arith
 
   pub folder_synced : (a b : Acts) (path folder : Text) (result : Result (Unit {0}) Error) → folder ≡ folder_of path → path ≡ d.target → b ≡ noted (acted (sync_folder folder) result) a
       → Makes d a b (IsOne (sync_folder Target)) result
-  folder_synced a b path folder result of_path at is =
-      one a b (sync_folder Target) result (subst (λ p. b ≡ noted (acted (sync_folder p) result) a) (of_path ∙ ap folder_of at) is)
+  folder_synced a b path folder result of_path at is = grind arith
 
   pub after : {E : Type 0} (a b c : Acts) (One Other : Doing E) (value : Unit {0}) (result : Result (Unit {0}) E) → Makes d a b One (Ok value) → Makes d b c Other result → Makes d a c (Then One Other) result
-  after a b c One Other value result (first, from, one_is) (later, to, other_is) =
-      (later ++ first, to ∙ ap (behind d later) from ∙ sym (both later first a), inl (first, later, one_is, other_is, refl))
+  after a b c One Other value result (first, from, one_is) (later, to, other_is) = grind (arith, both later first a)
 
   pub ended : {E : Type 0} (a b : Acts) (One Other : Doing E) (error : E) (result : Result (Unit {0}) E) → Makes d a b One (Err error) → IsErrAnd result (λ why. why ≡ error) → Makes d a b (Then One Other) result
-  ended a b One Other error (Ok value) makes told = absurd told
-  ended {E} a b One Other error (Err why) (made, from, is) told = (made, from, inr (subst (λ (e : E). One (Err e) made) (sym told) is))
+  ended a b One Other error result makes told = grind arith
 
   pub by : (a b : Acts) (answers : Result (Unit {0}) Error → Result (Unit {0}) Unplaced) (Does : Doing Error) (answer : Result (Unit {0}) Error) (result : Result (Unit {0}) Unplaced)
       → Makes d a b Does answer → result ≡ answers answer → Makes d a b (By answers Does) result
@@ -57,8 +52,7 @@ module _ (d : Destination) where
   made_at_once a b answer result (made, from, is) free same = (made, from, (answer, inl (free, same, is)))
 
   pub made_anew : (a b c : Acts) (answer : Result (Unit {0}) Error) (result : Result (Unit {0}) Unplaced) → Makes d a b (IsOne make) answer → is_taken (option_map kind_of (failure answer)) ≡ true → Makes d b c (Then (By judged (IsOne (remove Temp))) (By failed (IsOne make))) result → Makes d a c IsMade result
-  made_anew a b c answer result (made, from, is) taken (later, to, anew) =
-      (later ++ made, to ∙ ap (behind d later) from ∙ sym (both later made a), (answer, inr (later, taken, anew, ap (λ acts. later ++ acts) is)))
+  made_anew a b c answer result (made, from, is) taken (later, to, anew) = grind (arith, both later made a)
 
   pub moded : (a b : Acts) (mode : Option ℕ) (bits : ℕ) (result : Result (Unit {0}) Error) → mode ≡ Some bits → b ≡ noted (acted (set_mode bits) result) a → Makes d a b (IsModed mode) result
   moded a b mode bits result is noted_so = subst (λ m. Makes d a b (IsModed m) result) (sym is) (one a b (set_mode bits) result noted_so)
@@ -71,19 +65,15 @@ module _ (d : Destination) where
   named a b kind result is makes = subst (λ k. Makes d a b (IsNamed k) result) (sym is) makes
 
   pub not_named : (a : Acts) (kind : Kind) → kind ≢ Alone → Makes d a a (IsNamed kind) (Err Refused)
-  not_named a Alone other = absurd (other refl)
-  not_named a Shared other = ([], refl, (refl, refl))
-  not_named a Special other = ([], refl, (refl, refl))
+  not_named a kind other = grind arith
 
   -- ---- in the three ways
   module _ (text : List ℕ) where
     pub over : (a b c : Acts) (value done : Unit {0}) (removed : Result (Unit {0}) Error) → Makes d a b (IsWritten d text) (Ok value) → Makes d b c (IsOne (remove Temp)) removed → Makes d a c (IsOver d text) (Ok done)
-    over a b c value done removed (written, from, is) (gone, to, gone_is) =
-        (gone ++ written, to ∙ ap (behind d gone) from ∙ sym (both gone written a), (written, is, (failure removed, ap (λ acts. acts ++ written) gone_is)))
+    over a b c value done removed (written, from, is) (gone, to, gone_is) = grind (arith, both gone written a)
 
     pub not_over : (a b : Acts) (error : Error) (result : Result (Unit {0}) Error) → Makes d a b (IsWritten d text) (Err error) → IsErrAnd result (λ why. why ≡ error) → Makes d a b (IsOver d text) result
-    not_over a b error (Ok value) makes told = absurd told
-    not_over a b error (Err why) (made, from, is) told = (made, from, (made, subst (λ e. IsWritten d text (Err e) made) (sym told) is, refl))
+    not_over a b error result makes told = grind arith
 
     pub synced : (a b c : Acts) (value : Unit {0}) (result : Result (Unit {0}) Error) → Makes d a b (IsPlaced d text) (Ok value) → Makes d b c (IsOne (sync_folder Target)) result → Makes d a c (IsKept d text) result
     synced a b c value result (placed, from, is) (last, to, last_is) =
@@ -119,11 +109,7 @@ pub ruleset steps = (one, opened, removed, renamed, folder_synced, after, ended,
 
 module _ (answers : Option Answers) (old new : Acts) (name : Text) (text : List ℕ) (result : Result (Unit {0}) Error) where
   pub kept_nowhere : (error : Error) → IsFoundFor answers name (Err error) → IsErrAnd result (λ why. why ≡ error) → KeepsText answers old old name text result
-  kept_nowhere error nowhere is = by result is
-    where
-      by : (r : Result (Unit {0}) Error) → IsErrAnd r (λ why. why ≡ error) → KeepsText answers old old name text r
-      by (Ok value) told = absurd told
-      by (Err why) told = inr (refl, subst (λ e. IsFoundFor answers name (Err e)) (sym told) nowhere)
+  kept_nowhere error nowhere is = grind arith
 
   pub kept_as : (d : Destination) → IsFoundFor answers name (Ok d) → Makes d old new (IsKeptAs d.kind d text) result → KeepsText answers old new name text result
   kept_as d found keeps = inl (d, found, keeps)

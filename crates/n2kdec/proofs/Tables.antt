@@ -1,6 +1,5 @@
 -- From what is done by the table that was read to what the command does.
-use Rattle.std.proofs.Common.{◌≡◌, ◌≢◌, ℕ, List, [], Option, Ok, Err, Result, subst, sym, refl, inr}
-use Rattle.std.specs.Prelude.{Contains}
+use Rattle.std.proofs.Common.{arith, ◌≡◌, ◌≢◌, ℕ, List, [], Option, Result, subst, sym, refl, Contains}
 use Rattle.n2k_run.specs.Runs.{Devices}
 use Rattle.n2k_run.specs.declared.options.Options.{Options}
 use Rattle.n2k_run.specs.declared.part.Part.{Part}
@@ -19,20 +18,14 @@ pub refused : (found : List TableFault) (devices : Devices) (fault : TableFault)
 refused found devices fault stop told stands = record { fault = fault; told = told; stands = stands; untouched = refl }
 
 module _ (bytes : List ℕ) (before after : Devices) where
-  by_table : (Does : TableParts → Type 0) (r : Result Part Stop) → faults bytes ≡ [] → Does (table_of bytes) → ByTable bytes before after r Does
-  by_table Does (Ok part) none does = (none, does)
-  by_table Does (Err stop) none does = inr (none, does)
-
   -- a table was read, and the command did its work by it
   pub decoded_by : (o : Options) (handed : Option (List ℕ)) (t : TableParts) (r : Result Part Stop) → (faults bytes ≡ []) × (t ≡ table_of bytes)
       → DoesDecode t o handed before after r → ByTable bytes before after r (λ t. DoesDecode t o handed before after r)
-  decoded_by o handed t r read does =
-      by_table (λ t. DoesDecode t o handed before after r) r read.0 (subst (λ t. DoesDecode t o handed before after r) read.1 does)
+  decoded_by o handed t r read does = grind arith
 
   pub framed_by : (interface : Option (List ℕ)) (t : TableParts) (r : Result Part Stop) → (faults bytes ≡ []) × (t ≡ table_of bytes)
       → DoesFrames t interface before after r → ByTable bytes before after r (λ t. DoesFrames t interface before after r)
-  framed_by interface t r read does =
-      by_table (λ t. DoesFrames t interface before after r) r read.0 (subst (λ t. DoesFrames t interface before after r) read.1 does)
+  framed_by interface t r read does = grind arith
 
 -- the command was this one
 module _ (task : Task) (bytes : List ℕ) (handed : Option (List ℕ)) (before after : Devices) (r : Result Part Stop) where
@@ -45,5 +38,4 @@ module _ (task : Task) (bytes : List ℕ) (handed : Option (List ℕ)) (before a
 
   pub works_frames : (interface told : Option (List ℕ)) → task ≡ Frames interface → told ≡ interface
       → ByTable bytes before after r (λ t. DoesFrames t told before after r) → Works task bytes handed before after r
-  works_frames interface told is same does =
-      subst (λ c. Works c bytes handed before after r) (sym is) (subst (λ i. ByTable bytes before after r (λ t. DoesFrames t i before after r)) same does)
+  works_frames interface told is same does = grind arith

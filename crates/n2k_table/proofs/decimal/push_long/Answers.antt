@@ -1,5 +1,4 @@
-use Rattle.std.proofs.Common.{◌≡◌, ◌++◌, ◌<◌, ◌^◌, ℕ, List, length, ap, ◌∙◌, arith}
-use Rattle.std.specs.Prelude.{decimal}
+use Rattle.std.proofs.Common.{◌≡◌, ◌++◌, ◌<◌, ◌^◌, ℕ, List, length, ap, ◌∙◌, arith, decimal}
 use Rattle.n2k_table.specs.Inner.Digits.{zero_filled}
 use Rattle.n2k_table.proofs.Members.{on_ok}
 use Rattle.n2k_table.proofs.Decimals.{zero_filled_padded}

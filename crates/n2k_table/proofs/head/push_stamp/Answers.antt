@@ -1,5 +1,4 @@
-use Rattle.std.proofs.Common.{◌≡◌, ◌++◌, ℕ, List, length, take, ap, ◌∙◌, arith}
-use Rattle.std.proofs.lemmas.List.{take_all}
+use Rattle.std.proofs.Common.{◌≡◌, ◌++◌, ℕ, List, length, take, ap, ◌∙◌, arith, take_all}
 use Rattle.n2k_table.proofs.Members.{on_ok}
 use Rattle.n2k_table.proofs.head.push_stamp.Goals as goal
 

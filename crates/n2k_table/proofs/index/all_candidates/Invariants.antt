@@ -1,6 +1,5 @@
 -- The candidates so far, and the places among the definitions that are left, are the places of each number.
-use Rattle.std.proofs.Common.{◌≡◌, ◌++◌, ℕ, drop}
-use Rattle.std.specs.Prelude.{All}
+use Rattle.std.proofs.Common.{◌≡◌, ◌++◌, ℕ, drop, All}
 use Rattle.n2k_table.specs.Inner.Index.{IsOfPlace, pgns, places, places_from, places_of, candidates_in}
 use Rattle.n2k_table.proofs.index.all_candidates.Given as goal
 

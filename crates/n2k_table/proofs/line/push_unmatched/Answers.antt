@@ -1,5 +1,4 @@
-use Rattle.std.proofs.Common.{ℕ, List, ◌++◌, codes, refl, ap, ◌∙◌}
-use Rattle.std.specs.Prelude.{decimal}
+use Rattle.std.proofs.Common.{ℕ, List, ◌++◌, codes, refl, ap, ◌∙◌, decimal}
 use Rattle.n2k_table.specs.Inner.Line.{before_pgn_json}
 use Rattle.n2k_table.specs.Text.{text_json, hex_pairs}
 use Rattle.n2k_table.proofs.Members.{on_ok, six_parts}

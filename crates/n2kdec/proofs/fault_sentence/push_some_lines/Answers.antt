@@ -1,5 +1,4 @@
-use Rattle.std.proofs.Common.{◌≡◌, ◌++◌, ◌∙◌, ℕ, List, Result, Ok, Err, OnOk, ap, append_assoc, decimal}
-use Rattle.std.specs.Prelude.{codes, if◌then◌else◌, is_ok}
+use Rattle.std.proofs.Common.{◌≡◌, ◌++◌, ◌∙◌, ℕ, List, Result, Ok, Err, OnOk, ap, append_assoc, decimal, codes, if◌then◌else◌, is_ok}
 use Rattle.n2kdec.proofs.fault_sentence.push_some_lines.Goals as goal
 
 -- three texts that are appended, one behind the other

@@ -1,5 +1,4 @@
-use Rattle.std.proofs.Common.{rules, ◌≡◌, Some}
-use Rattle.std.specs.Prelude.{◌<◌, ◌≤◌, IfSome, length}
+use Rattle.std.proofs.Common.{rules, ◌≡◌, Some, ◌<◌, ◌≤◌, IfSome, length}
 use Rattle.n2kdec.specs.Fault.{longest_file}
 use Rattle.n2kdec.proofs.MachineLemmas.{was_read, was_refused_memory, was_too_large, was_unread}
 use Rattle.n2kdec.proofs.program.read_file.Goals as goal

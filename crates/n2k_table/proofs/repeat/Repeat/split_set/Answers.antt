@@ -1,5 +1,4 @@
-use Rattle.std.proofs.Common.{◌≡◌, ◌-◌, ◌*◌, ◌∷◌, ◌||◌, Bool, List, ℕ, length, take, sym, ap, ◌∙◌}
-use Rattle.std.specs.Prelude.{nat_le}
+use Rattle.std.proofs.Common.{◌≡◌, ◌-◌, ◌*◌, ◌∷◌, ◌||◌, Bool, List, ℕ, length, take, sym, ap, ◌∙◌, nat_le}
 use Rattle.std.specs.List.{list_any}
 use Rattle.n2k_table.specs.Field.{is_string}
 use Rattle.n2k_table.specs.Repeat.{RepeatParts, strings_size, sets_in}
