@@ -1,5 +1,5 @@
 -- From what `clap` says of a parse to what the words ask for.
-use Rattle.std.proofs.Common.{arith, ◌≡◌, ◌⊎◌, ℕ, List, [], true, Option, Some, None, Result, Ok, Err, IfErr, IfOk, IfSome, ap, subst, refl, inl, inr, ◌≢◌, Vec}
+use Rattle.std.proofs.Common.{arith, ◌≡◌, ◌⊎◌, ℕ, List, [], ◌∷◌, codes, true, Option, Some, None, Result, Ok, Err, IfErr, IfOk, IfSome, ap, subst, refl, inl, inr, ◌≢◌, Vec}
 use Rattle.std.specs.Borrow.{Bor}
 use Rattle.std.specs.List.{flat_map}
 use Rattle.std.proofs.lemmas.List.Folds.{flat_map-map}
@@ -8,7 +8,7 @@ use Rattle.clap.specs.Words.{App, FailsBy, HasKind, HasMatchesOf, IsAmong, Kinds
 use Rattle.clap.specs.declared.error.Error.{Error}
 use Rattle.clap.specs.declared.parser.matches.ArgMatches.{ArgMatches}
 use Rattle.clap.specs.declared.error.kind.ErrorKind.{ErrorKind}
-use Rattle.clap.specs.declared.error.kind.ErrorKind.TheVariants.{OutOfMemory}
+use Rattle.clap.specs.declared.error.kind.ErrorKind.TheVariants.{DisplayHelp, DisplayVersion, OutOfMemory}
 use Rattle.clap.proofs.OnLiterals.{clap_on_literals}
 use Rattle.std.specs.declared.alloc.AllocError.{AllocError}
 use Rattle.std.specs.declared.alloc.Global.{Global}
@@ -32,6 +32,15 @@ program_is_simple = refl
 program_is_free : is_simple_and_free program_app ≡ true
 unfolding program_app clap_on_literals
 program_is_free = refl
+
+-- it has one request for each of these words, and nothing else at them; so neither is refused
+help_is_a_request : fault_of program_app (codes "n2kdec" ∷ codes "--help" ∷ []) ≡ DisplayHelp ∷ []
+unfolding program_app clap_on_literals
+help_is_a_request = refl
+
+version_is_a_request : fault_of program_app (codes "n2kdec" ∷ codes "--version" ∷ []) ≡ DisplayVersion ∷ []
+unfolding program_app clap_on_literals
+version_is_a_request = refl
 
 -- so what a parse by it gives is what the definition says
 pub matches_as_defined : (app : App) (words : List Text) (r : Result ArgMatches Error) → app ≡ program_app → IfOk r (HasMatchesOf app words)
