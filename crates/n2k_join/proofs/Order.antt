@@ -238,6 +238,21 @@ module _ (es : Entries) (e : FrameKey × Linked) (few : length es < nowhere) whe
   pub pushed-other : (j : ℕ) → (j ≡ length es → ⊥) → item_in (es ++ e ∷ []) j ≡ item_in es j
   pushed-other j q = grind (arith, slice_get-front, slice_get_past, length-append)
 
+-- the last entry, written anew
+pub last-value : (es zs : Entries) (k : FrameKey) (v : Linked) (at : ℕ) → at ≡ length es → zs ≡ es ++ (k, v) ∷ [] → slice_get (values_of zs) at ≡ Some v
+last-value es zs k v at here is = (λ i. slice_get (values_of (is i)) (here i)) ∙ by es
+  where
+    by : (es : Entries) → slice_get (values_of (es ++ (k, v) ∷ [])) (length es) ≡ Some v
+    by [] = refl
+    by (e ∷ es) = by es
+
+pub last-written : (es zs : Entries) (k : FrameKey) (v w : Linked) (at : ℕ) → at ≡ length es → zs ≡ es ++ (k, v) ∷ [] → set_value_at zs at w ≡ es ++ (k, w) ∷ []
+last-written es zs k v w at here is = (λ i. set_value_at (is i) (here i) w) ∙ by es
+  where
+    by : (es : Entries) → set_value_at (es ++ (k, v) ∷ []) (length es) w ≡ es ++ (k, w) ∷ []
+    by [] = refl
+    by (e ∷ es) = ap (λ zs. e ∷ zs) (by es)
+
 -- a group of a key that has none
 pub inserted : (next : ℕ) (g s r : OpenGroups) (k : FrameKey) (l : Linked) (at : ℕ) → at ≡ length g.groups.entries → IsKept next g → s.groups.entries ≡ g.groups.entries ++ (k, l) ∷ [] → s.first ≡ g.first → s.last ≡ g.last → length s.groups.entries < nowhere
     → l.before ≡ g.last → l.behind ≡ nowhere → l.group.first ≡ next → AreRelinked s r (put g.last at (behind_of s)) (before_of s)

@@ -7,7 +7,7 @@ ghost use Rattle.n2k_join.specs.Inner.Stored.{rejects, key_of, frame_of, of_the_
 ghost use Rattle.n2k_join.specs.Inner.Order.{found, StandsAt, listed, IsKept};
 ghost use Rattle.n2k_join.specs.Step.{message_in};
 
-use crate::open_groups::OpenGroups;
+use crate::open_groups::{OpenGroups, note_of};
 use crate::piece::{FastFrame, FrameKey, OpenGroup};
 use crate::step::Broken;
 use n2k_wire::Packet;
@@ -18,7 +18,11 @@ fn place_of(groups: &OpenGroups, key: &FrameKey) -> Option<usize>
     ensures place { IfSome result (λ at. StandsAt groups.now.groups.entries key.now at) }
     ensures none { IsNone result → found groups.now.groups.entries key.now ≡ None }
 {
-    groups.groups.get_index_of(key)
+    let at = usize::from(groups.noted[note_of(key)]);
+    match groups.groups.get_index(at) {
+        Some((found, _)) if found == key => Some(at),
+        _ => groups.groups.get_index_of(key),
+    }
 }
 
 /// What a frame gives: whether it completes a message, which its packet then is, and the group that it breaks.
@@ -50,7 +54,7 @@ fn open_last(
         begun.write_message(packet);
         return Ok(true);
     }
-    groups.insert(frame.key, begun)?;
+    groups.insert(frame.key, &begun)?;
     Ok(false)
 }
 

@@ -14,6 +14,9 @@ use crate::window::{Window, is_waiting};
 use indexmap::IndexMap;
 use std::alloc::{AllocError, Global};
 
+/// How many places of keys are noted.
+const NOTED: usize = 256;
+
 /// The place of no group.
 const NOWHERE: usize = usize::MAX;
 
@@ -32,6 +35,17 @@ pub(crate) struct OpenGroups {
     pub(crate) groups: IndexMap<FrameKey, Linked>,
     pub(crate) first: usize,
     pub(crate) last: usize,
+    /// For the mixed bits of a key where its group may stand in the map. Whoever goes by it compares the key; that costs
+    /// less than a hash.
+    pub(crate) noted: [u16; NOTED],
+}
+
+/// The bits of a key by which its place is noted.
+#[inline(always)]
+pub(crate) fn note_of(key: &FrameKey) -> usize
+    ensures { result < 256 }
+{
+    (key.pgn ^ u32::from(key.src) ^ u32::from(key.sequence) << 5) as usize % NOTED
 }
 
 impl OpenGroups {
@@ -43,6 +57,7 @@ impl OpenGroups {
             groups: IndexMap::new(alloc),
             first: NOWHERE,
             last: NOWHERE,
+            noted: [0; NOTED],
         }
     }
 
@@ -77,23 +92,29 @@ impl OpenGroups {
         }
     }
 
-    /// Adds a group of a key that has none open. After a refusal of memory they are as they were.
-    pub(crate) fn insert(&mut self, key: FrameKey, group: OpenGroup) -> Result<(), AllocError>
-        requires kept { IsKept group.first self.old }
+    /// Adds a group of a key that has none open. It is copied to where it stays, once: what is handed to the map is
+    /// copied twice, word by word. After a refusal of memory they are as they were.
+    pub(crate) fn insert(&mut self, key: FrameKey, group: &OpenGroup) -> Result<(), AllocError>
+        requires kept { IsKept group.now.first self.old }
         requires new { found self.old.groups.entries key ≡ None }
-        ensures added { OnOk result (listed self.new ≡ listed self.old ++ group_in (key_of key) group ∷ []) }
-        ensures kept { OnOk result (IsKept (group.first + 1) self.new) }
+        ensures added { OnOk result (listed self.new ≡ listed self.old ++ group_in (key_of key) group.now ∷ []) }
+        ensures kept { OnOk result (IsKept (group.now.first + 1) self.new) }
         ensures unchanged { OnErr result (listed self.new ≡ listed self.old) }
-        ensures still { OnErr result (IsKept group.first self.new) }
+        ensures still { OnErr result (IsKept group.now.first self.new) }
     {
         let at = self.groups.len();
         let before = self.last;
-        let linked = Linked {
-            group,
+        let empty = Linked {
+            group: OpenGroup::new(0),
             before,
             behind: NOWHERE,
         };
-        self.groups.insert(key, linked)?;
+        self.groups.insert(key, empty)?;
+        let Some(linked) = self.groups.get_index_mut(at) else {
+            unreachable!()
+        };
+        linked.group = *group;
+        self.noted[note_of(&key)] = (at % 0x1_0000) as u16;
         self.set_behind(before, at);
         self.last = at;
         Ok(())
@@ -147,9 +168,10 @@ impl OpenGroups {
     {
         self.unlink(at);
         self.groups.swap_remove_index(at);
-        if let Some((_, moved)) = self.groups.get_index(at) {
+        if let Some((key, moved)) = self.groups.get_index(at) {
             let before = moved.before;
             let behind = moved.behind;
+            self.noted[note_of(key)] = (at % 0x1_0000) as u16;
             self.set_behind(before, at);
             self.set_before(behind, at);
         }

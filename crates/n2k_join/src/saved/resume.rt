@@ -97,7 +97,7 @@ pub(crate) fn stored_groups(
         if stored.groups.contains_key(&key) {
             return Err(StateFault::Invalid);
         }
-        stored.insert(key, open)?;
+        stored.insert(key, &open)?;
     }
     Ok(stored)
 }

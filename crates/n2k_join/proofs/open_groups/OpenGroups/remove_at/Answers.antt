@@ -1,4 +1,4 @@
-use Rattle.std.proofs.Common.{◌≡◌, ◌<◌, length, refl, sym, subst, ◌∙◌, arith}
+use Rattle.std.proofs.Common.{◌≡◌, ◌<◌, ◌%◌, slice_set, length, refl, sym, subst, ◌∙◌, arith}
 use Rattle.std.proofs.lemmas.Option.{slice_get_within}
 use Rattle.n2k_join.specs.declared.piece.FrameKey.{FrameKey}
 use Rattle.n2k_join.specs.declared.open_groups.Linked.{Linked}
@@ -13,11 +13,11 @@ pub set_behind-requires : goal.set_behind-requires
 set_behind-requires c =
     let g = c.args.self.now in
     let s = c.unlink.new.self in
-    let t : OpenGroups = record { groups = c.swap_remove_index.new.self; first = s.first; last = s.last } in
+    let t : OpenGroups = record { groups = c.swap_remove_index.new.self; first = s.first; last = s.last; noted = slice_set s.noted c.note_of.result (c.args.at % 65536) } in
     let m = length t.groups.entries in
     let low : c.args.at < length s.groups.entries = omega (arith, c.requires.within, c.unlink.ensures.count) in
     let left = removed-left s.groups.entries t.groups.entries c.args.at low c.swap_remove_index.result c.swap_remove_index.ensures.entry c.swap_remove_index.ensures.entries c.swap_remove_index.ensures.len in
-    let e : FrameKey × Linked = (c.in-Some.field-0-0.now, c.in-Some.moved.now) in
+    let e : FrameKey × Linked = (c.in-Some.key.now, c.in-Some.moved.now) in
     let less = slice_get_within t.groups.entries c.args.at e (sym c.in-Some.ensures.entry) in
     let at = place-split c.requires.kept.0 g c.requires.kept.1 c.args.at c.requires.within in
     let places = moved-places c.requires.kept.0 g s c.args.at at.xs at.ys c.requires.kept.1 c.requires.within at.is c.unlink.ensures t m left refl refl less in
@@ -31,11 +31,11 @@ pub set_before-requires : goal.set_before-requires
 set_before-requires c =
     let g = c.args.self.now in
     let s = c.unlink.new.self in
-    let t : OpenGroups = record { groups = c.swap_remove_index.new.self; first = s.first; last = s.last } in
+    let t : OpenGroups = record { groups = c.swap_remove_index.new.self; first = s.first; last = s.last; noted = slice_set s.noted c.note_of.result (c.args.at % 65536) } in
     let m = length t.groups.entries in
     let low : c.args.at < length s.groups.entries = omega (arith, c.requires.within, c.unlink.ensures.count) in
     let left = removed-left s.groups.entries t.groups.entries c.args.at low c.swap_remove_index.result c.swap_remove_index.ensures.entry c.swap_remove_index.ensures.entries c.swap_remove_index.ensures.len in
-    let e : FrameKey × Linked = (c.in-Some.field-0-0.now, c.in-Some.moved.now) in
+    let e : FrameKey × Linked = (c.in-Some.key.now, c.in-Some.moved.now) in
     let less = slice_get_within t.groups.entries c.args.at e (sym c.in-Some.ensures.entry) in
     let at = place-split c.requires.kept.0 g c.requires.kept.1 c.args.at c.requires.within in
     let places = moved-places c.requires.kept.0 g s c.args.at at.xs at.ys c.requires.kept.1 c.requires.within at.is c.unlink.ensures t m left refl refl less in
@@ -49,11 +49,11 @@ pub returns-in-Some : goal.returns-in-Some
 returns-in-Some c =
     let g = c.args.self.now in
     let s = c.unlink.new.self in
-    let t : OpenGroups = record { groups = c.swap_remove_index.new.self; first = s.first; last = s.last } in
+    let t : OpenGroups = record { groups = c.swap_remove_index.new.self; first = s.first; last = s.last; noted = slice_set s.noted c.note_of.result (c.args.at % 65536) } in
     let m = length t.groups.entries in
     let low : c.args.at < length s.groups.entries = omega (arith, c.requires.within, c.unlink.ensures.count) in
     let left = removed-left s.groups.entries t.groups.entries c.args.at low c.swap_remove_index.result c.swap_remove_index.ensures.entry c.swap_remove_index.ensures.entries c.swap_remove_index.ensures.len in
-    let e : FrameKey × Linked = (c.in-Some.field-0-0.now, c.in-Some.moved.now) in
+    let e : FrameKey × Linked = (c.in-Some.key.now, c.in-Some.moved.now) in
     let less = slice_get_within t.groups.entries c.args.at e (sym c.in-Some.ensures.entry) in
     let inside : c.args.at ≡ nowhere → ⊥ = λ q. omega (arith, q, c.requires.within, c.requires.kept.1.few) in
     let told : AreRelinked t c.set_before.new.self (put (before_of t c.args.at) c.args.at (behind_of t)) (put (behind_of t c.args.at) c.args.at (before_of t)) =
@@ -69,7 +69,7 @@ pub returns-in_default : goal.returns-in_default
 returns-in_default c =
     let g = c.args.self.now in
     let s = c.unlink.new.self in
-    let t : OpenGroups = record { groups = c.swap_remove_index.new.self; first = s.first; last = s.last } in
+    let t : OpenGroups = record { groups = c.swap_remove_index.new.self; first = s.first; last = s.last; noted = s.noted } in
     let m = length t.groups.entries in
     let low : c.args.at < length s.groups.entries = omega (arith, c.requires.within, c.unlink.ensures.count) in
     let left = removed-left s.groups.entries t.groups.entries c.args.at low c.swap_remove_index.result c.swap_remove_index.ensures.entry c.swap_remove_index.ensures.entries c.swap_remove_index.ensures.len in
