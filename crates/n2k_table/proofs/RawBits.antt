@@ -1,6 +1,6 @@
 -- Raw values, a byte at a time and in parts.
-use Rattle.std.proofs.Common.{◌≡◌, ℕ, zero, suc, ◌+◌, ◌-◌, ◌*◌, ◌/◌, ◌%◌, ◌^◌, ◌<◌, ◌≤◌, List, slice_index, take, drop, sym, ap, ◌∙◌, arith, lit<}
-use Rattle.std.specs.Int.{w64, from_le_bytes}
+use Rattle.std.proofs.Common.{◌≡◌, ℕ, zero, suc, ◌+◌, ◌-◌, ◌*◌, ◌/◌, ◌%◌, ◌^◌, ◌<◌, ◌≤◌, List, length, slice_index, take, drop, refl, sym, ap, ◌∙◌, arith, lit<}
+use Rattle.std.specs.Int.{w32, w64, from_le_bytes}
 use Rattle.std.proofs.lemmas.List.{get_or-take, get_or-drop}
 use Rattle.std.proofs.lemmas.Nat.{pow-add, shr_high, mod_low}
 use Rattle.std.proofs.Math.Nat.{pow-suc, mul-le-mul_left, pow-le-pow_right}
@@ -107,8 +107,8 @@ next_byte d f k m small =
     let place : 8 * f + 8 * k + 8 ≡ 8 * f + 8 * (k + 1) = omega arith in
     rw (byte, place) at (raw_byte d (8 * f + 8 * k) m (omega arith) (rw byte small))
 
-index_taken : (d : List ℕ) (f k : ℕ) → k < 8 → slice_index (take 8 (drop f d)) k ≡ slice_index d (f + k)
-index_taken d f k lt = get_or-take 8 (drop f d) k 0 lt ∙ get_or-drop f d k 0
+index_taken : (n : ℕ) (d : List ℕ) (f k : ℕ) → k < n → slice_index (take n (drop f d)) k ≡ slice_index d (f + k)
+index_taken n d f k lt = get_or-take n (drop f d) k 0 lt ∙ get_or-drop f d k 0
 
 -- a number's eight bytes, each worth 256 times the one before
 worth : (a b c d e f g h : ℕ)
@@ -120,7 +120,7 @@ worth a b c d e f g h = omega arith
 pub raw_eight_bytes : (d eight : List ℕ) (f : ℕ) → ((k : ℕ) → slice_index d k < 256) → eight ≡ take 8 (drop f d) → from_le_bytes w64 eight ≡ raw d (8 * f) 64
 unfolding raw
 raw_eight_bytes d eight f small is =
-    let at = λ (k : ℕ) (lt : k < 8). ap (λ (bs : List ℕ). slice_index bs k) is ∙ index_taken d f k lt in
+    let at = λ (k : ℕ) (lt : k < 8). ap (λ (bs : List ℕ). slice_index bs k) is ∙ index_taken 8 d f k lt in
     let b = λ (k : ℕ). slice_index d (f + k) in
     let next = λ (k m : ℕ). next_byte d f k m (small (f + k)) in
     let start : 8 * f ≡ 8 * f + 8 * 0 = omega arith in
@@ -128,3 +128,51 @@ raw_eight_bytes d eight f small is =
     (worth (b 0) (b 1) (b 2) (b 3) (b 4) (b 5) (b 6) (b 7)
     ∙ sym (ap (λ p. raw d p 64) start ∙ next 0 56 ∙ ap (λ r. b 0 + 256 * r) (next 1 48 ∙ ap (λ r. b 1 + 256 * r) (next 2 40 ∙ ap (λ r. b 2 + 256 * r) (next 3 32
     ∙ ap (λ r. b 3 + 256 * r) (next 4 24 ∙ ap (λ r. b 4 + 256 * r) (next 5 16 ∙ ap (λ r. b 5 + 256 * r) (next 6 8 ∙ ap (λ r. b 6 + 256 * r) (next 7 0)))))))))
+
+-- four bytes as one number
+pub raw_four_bytes : (d four : List ℕ) (f : ℕ) → ((k : ℕ) → slice_index d k < 256) → four ≡ take 4 (drop f d) → from_le_bytes w32 four ≡ raw d (8 * f) 32
+unfolding raw
+raw_four_bytes d four f small is =
+    let at = λ (k : ℕ) (lt : k < 4). ap (λ (bs : List ℕ). slice_index bs k) is ∙ index_taken 4 d f k lt in
+    let b = λ (k : ℕ). slice_index d (f + k) in
+    let next = λ (k m : ℕ). next_byte d f k m (small (f + k)) in
+    let start : 8 * f ≡ 8 * f + 8 * 0 = omega arith in
+    let none : raw d (8 * f + 8 * (3 + 1)) 0 ≡ 0 = refl in
+    rw (at 0 (lit< tt), at 1 (lit< tt), at 2 (lit< tt), at 3 (lit< tt)) (omega (arith, ap (λ p. raw d p 32) start, next 0 24, next 1 16, next 2 8, next 3 0, none))
+
+-- bits behind the first bytes
+pub raw_drop : (d : List ℕ) (f a n : ℕ) → raw (drop f d) a n ≡ raw d (8 * f + a) n
+unfolding raw
+raw_drop d f a zero = refl
+raw_drop d f a (suc n) =
+    let byte : (8 * f + a + n) / 8 ≡ f + (a + n) / 8 = omega arith in
+    let place : (8 * f + a + n) % 8 ≡ (a + n) % 8 = omega arith in
+    let here : bit (drop f d) (a + n) ≡ bit d (8 * f + a + n) = rw (byte, place, get_or-drop f d ((a + n) / 8) 0) refl in
+    rw (raw_drop d f a n, here) refl
+
+-- the bytes of four to eight as two numbers of four: those of the second that are not of the first stand above them
+pub raw_short : (d : List ℕ) (low high : ℕ) → 4 ≤ length d → length d < 8 → low ≡ raw d 0 32 → high ≡ raw d (8 * (length d - 4)) 32
+    → low + high / 2 ^ (8 * (8 - length d)) * 4294967296 ≡ raw d 0 (8 * length d)
+raw_short d low high many few low_is high_is =
+    let n = 8 * length d - 32 in
+    let s = 8 * (8 - length d) in
+    let p = 8 * (length d - 4) in
+    let count : 32 ≡ s + n = omega (arith, many, few) in
+    let place : p + s ≡ 32 = omega (arith, many, few) in
+    let whole : 8 * length d ≡ 32 + n = omega (arith, many) in
+    let parts : high ≡ raw d 32 n * 2 ^ s + raw d p s = high_is ∙ ap (raw d p) count ∙ raw_split d p s n ∙ ap (λ q. raw d q n * 2 ^ s + raw d p s) place in
+    let rest : high / 2 ^ s ≡ raw d 32 n = ap (λ h. h / 2 ^ s) parts ∙ shr_high (raw d 32 n) s (raw d p s) (raw_lt d p s) in
+    omega (arith, ap (raw d 0) whole, raw_split d 0 32 n, rest, low_is)
+
+-- up to three bytes
+pub raw_one : (d : List ℕ) → ((k : ℕ) → slice_index d k < 256) → slice_index d 0 ≡ raw d 0 8
+unfolding raw
+raw_one d small = let none : raw d 8 0 ≡ 0 = refl in omega (arith, raw_byte d 0 0 refl (small 0), none)
+
+pub raw_two : (d : List ℕ) → ((k : ℕ) → slice_index d k < 256) → slice_index d 0 + 256 * slice_index d 1 ≡ raw d 0 16
+unfolding raw
+raw_two d small = let none : raw d 16 0 ≡ 0 = refl in omega (arith, raw_byte d 0 8 refl (small 0), raw_byte d 8 0 refl (small 1), none)
+
+pub raw_three : (d : List ℕ) → ((k : ℕ) → slice_index d k < 256) → slice_index d 0 + 256 * (slice_index d 1 + 256 * slice_index d 2) ≡ raw d 0 24
+unfolding raw
+raw_three d small = let none : raw d 24 0 ≡ 0 = refl in omega (arith, raw_byte d 0 16 refl (small 0), raw_byte d 8 8 refl (small 1), raw_byte d 16 0 refl (small 2), none)

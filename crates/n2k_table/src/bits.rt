@@ -8,27 +8,39 @@ const MOST_AT_ONCE: u32 = 56;
 /// The lower bits of a raw value that is put together of two.
 const HALF: u32 = 32;
 
-/// The raw value of some bits, by the bytes in which they lie, from the last down. It is not inlined: most data have
-/// eight bytes.
+/// Fewer than eight bytes as one number, the first lowest: of four or more, which may have bytes in common, two numbers.
+/// It is not inlined: most data have eight bytes.
 #[cold]
 #[inline(never)]
-fn raw_by_bytes(data: &[u8], at: usize, bits: u32) -> u64
-    requires place { at < 2 ^ 33 }
-    requires within { at + bits ≤ 8 * length «data».now }
-    requires room { bits ≤ 56 }
-    ensures { result ≡ raw «data».now at bits }
+fn short_word(data: &[u8]) -> u64
+    requires { length «data».now < 8 }
+    ensures { result ≡ raw «data».now 0 (8 * length «data».now) }
 {
-    let first = at / 8;
-    let mut left = (at + bits as usize + 7) / 8;
-    let mut value: u64 = 0;
-    while left > first {
-        left -= 1;
-        value = 256 * value + u64::from(data[left]);
+    if let (Some(low), Some(high)) = (data.first_chunk::<4>(), data.last_chunk::<4>()) {
+        let rest = u64::from(u32::from_le_bytes(*high)) >> (8 * (8 - data.len()));
+        return u64::from(u32::from_le_bytes(*low)) + rest * 0x1_0000_0000;
     }
-    (value >> (at % 8)) % (1 << bits)
+    match data {
+        [a, b, c] => u64::from(*a) + 0x100 * (u64::from(*b) + 0x100 * u64::from(*c)),
+        [a, b] => u64::from(*a) + 0x100 * u64::from(*b),
+        [a] => u64::from(*a),
+        _ => 0,
+    }
 }
 
-/// The raw value of bits that lie in eight bytes, which are read as one number where the data have so many.
+/// The first eight bytes as one number, the first lowest, or all where there are fewer.
+#[inline(always)]
+fn first_word(data: &[u8]) -> u64
+    ensures all { length «data».now < 8 → result ≡ raw «data».now 0 (8 * length «data».now) }
+    ensures eight { 8 ≤ length «data».now → result ≡ raw «data».now 0 64 }
+{
+    match data.first_chunk::<8>() {
+        Some(eight) => u64::from_le_bytes(*eight),
+        None => short_word(data),
+    }
+}
+
+/// The raw value of bits that lie in eight bytes: in the first, or in those up to their last.
 #[inline(always)]
 fn raw_at_once(data: &[u8], at: usize, bits: u32, mask: u64) -> u64
     requires place { at < 2 ^ 33 }
@@ -38,13 +50,12 @@ fn raw_at_once(data: &[u8], at: usize, bits: u32, mask: u64) -> u64
     requires mask { mask ≡ 2 ^ bits - 1 }
     ensures { result ≡ raw «data».now at bits }
 {
-    if data.len() >= 8 {
-        let from = (data.len() - 8).min(at / 8);
-        if let Some(eight) = data[from..from + 8].as_array::<8>() {
-            return (u64::from_le_bytes(*eight) >> (at - 8 * from)) & mask;
-        }
+    let end = at + bits as usize;
+    if end <= 64 {
+        return (first_word(data) >> at) & mask;
     }
-    raw_by_bytes(data, at, bits)
+    let from = (end + 7) / 8 - 8;
+    (first_word(&data[from..]) >> (at - 8 * from)) & mask
 }
 
 /// The raw value of more bits, of its lower half and of the others. It is not inlined: few fields have so many.

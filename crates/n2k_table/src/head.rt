@@ -99,25 +99,19 @@ fn push_sender(id: Id, line: &mut LineBuffer) -> Result<(), AllocError>
     push_part(b",\"dst\":", id.dst, line)
 }
 
-/// Appends a stamp's bytes, those of a candump line's at once.
-#[inline(always)]
-fn push_stamp(stamp: &[u8], line: &mut LineBuffer) -> Result<(), AllocError>
-    ensures { OnOk result (line.new.items ≡ line.old.items ++ stamp.now) }
-{
-    match stamp.as_array::<UTC_LEN>() {
-        Some(utc) => line.put(utc, UTC_LEN),
-        None => line.extend_from_slice(stamp),
-    }
-}
-
-/// Appends a stamp as a text, where each byte of it stands for itself.
+/// Appends a stamp as a text, where each byte of it stands for itself; that of a candump line at once.
 #[inline(always)]
 fn push_usual_stamp(stamp: &[u8], line: &mut LineBuffer) -> Result<(), AllocError>
     requires { list_all is_plain stamp.now ≡ true }
     ensures { OnOk result (line.new.items ≡ line.old.items ++ (codes "{\"timestamp\":" ++ text_json stamp.now)) }
 {
-    line.put(b"{\"timestamp\":\"", 14)?;
-    push_stamp(stamp, line)?;
+    match stamp.as_array::<UTC_LEN>() {
+        Some(utc) => line.put_behind(b"{\"timestamp\":\"", utc, UTC_LEN)?,
+        None => {
+            line.put(b"{\"timestamp\":\"", 14)?;
+            line.extend_from_slice(stamp)?;
+        }
+    }
     line.push(b'"')
 }
 

@@ -1,23 +1,43 @@
-use Rattle.std.proofs.Common.{◌≡◌, ◌+◌, ◌-◌, ◌*◌, ◌/◌, ◌%◌, ◌^◌, ◌≤◌, bit_and, take, drop, ap, ◌∙◌, arith}
+use Rattle.std.proofs.Common.{◌≡◌, ◌+◌, ◌-◌, ◌*◌, ◌/◌, ◌%◌, ◌^◌, ◌<◌, ◌≤◌, ◌⊎◌, inl, inr, ℕ, List, length, bit_and, take, drop, ap, ◌∙◌, arith}
+use Rattle.std.proofs.lemmas.Bool.{cases_lt}
 use Rattle.std.proofs.lemmas.Nat.{and_mask}
+use Rattle.std.proofs.lemmas.List.{length-drop, take_all}
 use Rattle.n2k_table.specs.Bits.{raw}
-use Rattle.n2k_table.proofs.RawBits.{raw_eight_bytes, raw_out_of}
+use Rattle.n2k_table.proofs.RawBits.{raw_drop, raw_out_of}
 use Rattle.n2k_table.proofs.bits.raw_at_once.Goals as goal
 
-pub overflow_shr-result : goal.overflow_shr-result
-overflow_shr-result c = omega (arith, c.min-from.ensures, c.requires, c.if-data-ge8.true)
+-- bits out of the word of the first bytes
+first_bits : (d : List ℕ) (word at bits : ℕ) → (length d < 8 → word ≡ raw d 0 (8 * length d)) → (8 ≤ length d → word ≡ raw d 0 64) → at + bits ≤ 64 → at + bits ≤ 8 * length d
+    → word / 2 ^ at % 2 ^ bits ≡ raw d at bits
+first_bits d word at bits all eight few within = by (cases_lt (length d) 8)
+  where
+    start : raw d (0 + at) bits ≡ raw d at bits
+    start = ap (λ p. raw d p bits) (let e : 0 + at ≡ at = omega arith in e)
 
-pub returns-in-Some : goal.returns-in-Some
-returns-in-Some c =
+    by : (length d < 8) ⊎ (8 ≤ length d) → word / 2 ^ at % 2 ^ bits ≡ raw d at bits
+    by (inl l) = ap (λ n. n / 2 ^ at % 2 ^ bits) (all l) ∙ raw_out_of d 0 at bits (8 * length d) within ∙ start
+    by (inr l) = ap (λ n. n / 2 ^ at % 2 ^ bits) (eight l) ∙ raw_out_of d 0 at bits 64 few ∙ start
+
+pub returns-then-end-le64 : goal.returns-then-end-le64
+returns-then-end-le64 c =
+    let word = c.first_word.result in
+    ap (bit_and (word / 2 ^ c.args.at)) c.requires.mask
+    ∙ and_mask (word / 2 ^ c.args.at) c.args.bits
+    ∙ first_bits c.args.«data».now word c.args.at c.args.bits c.first_word.ensures.all c.first_word.ensures.eight c.if-end-le64.true c.requires.within
+
+rest : (d : List ℕ) (from : ℕ) → take (length d - from) (drop from d) ≡ drop from d
+rest d from = take_all (length d - from) (drop from d) (omega (arith, length-drop from d))
+
+pub returns : goal.returns
+returns c =
     let payload = c.args.«data».now in
-    let from = c.min-from.result in
+    let from = (c.args.at + c.args.bits + 7) / 8 - 8 in
     let shift = c.args.at - 8 * from in
-    let few : shift + c.args.bits ≤ 64 = omega (arith, c.min-from.ensures, c.requires, c.if-data-ge8.true) in
-    let place : 8 * from + shift ≡ c.args.at = omega (arith, c.min-from.ensures) in
-    let eight = c.in-Some.ensures.cases.same ∙ ap (λ k. take k (drop from payload)) (let e : from + 8 - from ≡ 8 = omega arith in e) in
-    let word = c.from_le_bytes.ensures ∙ raw_eight_bytes payload c.in-Some.eight.now from (λ k. (c.type_inv.«data» k).fits) eight in
-    ap (bit_and (c.from_le_bytes.result / 2 ^ shift)) c.requires.mask
-    ∙ and_mask (c.from_le_bytes.result / 2 ^ shift) c.args.bits
-    ∙ ap (λ n. n / 2 ^ shift % 2 ^ c.args.bits) word
-    ∙ raw_out_of payload (8 * from) shift c.args.bits 64 few
-    ∙ ap (λ p. raw payload p c.args.bits) place
+    let word = c.first_word-2.result in
+    let size : length (take (length payload - from) (drop from payload)) ≡ length payload - from = ap length (rest payload from) ∙ length-drop from payload in
+    ap (bit_and (word / 2 ^ shift)) c.requires.mask
+    ∙ and_mask (word / 2 ^ shift) c.args.bits
+    ∙ first_bits (take (length payload - from) (drop from payload)) word shift c.args.bits c.first_word-2.ensures.all c.first_word-2.ensures.eight (omega (arith, c.requires, c.if-end-le64.false)) (omega (arith, c.requires, c.if-end-le64.false, size))
+    ∙ ap (λ (d : List ℕ). raw d shift c.args.bits) (rest payload from)
+    ∙ raw_drop payload from shift c.args.bits
+    ∙ ap (λ p. raw payload p c.args.bits) (let e : 8 * from + shift ≡ c.args.at = omega (arith, c.requires, c.if-end-le64.false) in e)
