@@ -240,7 +240,7 @@ ending_of_text = record { status = 0; has_other_form = false }
 abbrev pub Shows : Text → Place → Place → Option Error → Result Ending Fault → Type 0
 Shows text before after why result = MatchResult result
     (λ ending. (ending ≡ ending_of_text) × IsWritten before after text)
-    (λ fault. (fault ≡ Write why) × IsCutOff before after text)
+    (λ fault. (fault ≡ Write why) × IsWhy after.failed why × IsCutOff before after text)
 
 -- What is asked for is done. Where that is refused, as an interface that is none is, all is as it was.
 abbrev pub DoesAsked : World → Request → Outside → Outside → Result Ending Fault → Type 0
