@@ -1,5 +1,5 @@
 -- What a run that only counts makes of its entries.
-use Rattle.std.proofs.Common.{◌≡◌, ℕ, ◌+◌, ◌<◌, Bool, cond, List, [], ◌∷◌, ◌++◌, length, refl, ap, ◌∙◌, arith, zero-add, count_by, if◌then◌else◌}
+use Rattle.std.proofs.Common.{◌≡◌, ℕ, ◌+◌, ◌<◌, Bool, cond, List, [], ◌∷◌, ◌++◌, length, refl, ap, arith, zero-add, count_by, if◌then◌else◌}
 use Rattle.std.specs.List.{flat_map}
 use Rattle.std.proofs.lemmas.List.Sums.{sum_by-cons}
 use Rattle.n2k_wire.specs.declared.entry.Entry.{Entry}
@@ -34,9 +34,7 @@ module _ (text : Entry → List ℕ) (p q : Entry → Bool) where
 
   pub counts_after : (c : Counts) (es : List Entry) → after_all (counting_fold text p q) c es ≡ all_line_counts_after p q c es
   counts_after c [] = counts_are c.lines c.messages c.bad c.unknown _ _ _ _ (omega arith) (omega arith) (omega arith) (omega arith) c
-  counts_after c (e ∷ es) =
-      counts_after (line_counts_after p q c e) es
-      ∙ counts_are _ _ _ _ _ _ _ _ (omega arith) (one_more p c.messages e es) (one_more is_bad c.bad e es) (one_more q c.unknown e es) c
+  counts_after c (e ∷ es) = grind (arith, counts_after (line_counts_after p q c e) es, one_more p c.messages e es, one_more is_bad c.bad e es, one_more q c.unknown e es, counts_are)
 
   -- a run from the start
   pub counts_from_none : (es : List Entry) → after_all (counting_fold text p q) (record { lines = 0; messages = 0; bad = 0; unknown = 0; broken = 0; held = 0 }) es ≡ record { lines = length es; messages = count_by p es; bad = count_by is_bad es; unknown = count_by q es; broken = 0; held = 0 }

@@ -1,7 +1,7 @@
 -- How the next line is found: what comes of the source, until the line is there.
 use Rattle.std.proofs.Common.{◌≡◌, ◌⊎◌, inl, inr, ℕ, ◌+◌, ◌-◌, ◌<◌, ◌≤◌, ◌^◌, Bool, true, false, List, [], ◌∷◌, ◌++◌, length, refl, sym, ap, ◌∙◌, subst, append_assoc, arith, length-append, Option, Ok, Err, if◌then◌else◌, append-nil, drop_at}
 use Rattle.std.specs.Io.KnownBytes.{IsAtEnd}
-use Rattle.std.proofs.KnownBytes.{Consumes-nil, Consumes-trans}
+use Rattle.std.proofs.KnownBytes.{Consumes-nil}
 use Rattle.std.proofs.lemmas.List.Elements.{All-append, All-drop}
 use Rattle.n2k_wire.specs.Entry.{longest_line}
 use Rattle.n2k_run.specs.declared.blocks.Found.{Found}
@@ -57,16 +57,7 @@ unanswered_gained mid new gained passing kept = grind (arith, append_assoc)
 -- one call more, which gave a byte or is counted as one that gave none
 pub reads_more : (idle : ℕ) (old mid new : Held) (left₀ left left' : Option (List ℕ)) (calls₀ calls calls' : ℕ) → Reads 0 old mid left₀ left calls₀ calls → Gains mid.kept new.kept left left' → length mid.kept < length new.kept + idle → new.is_passing ≡ mid.is_passing → new.reads ≡ mid.reads + 1 → calls' ≡ one_more calls
     → Reads idle old new left₀ left' calls₀ calls'
-reads_more idle old mid new left₀ left left' calls₀ calls calls' so_far gains gave passing reads called =
-    let whole : List ℕ = unanswered old ++ so_far.came in
-    let more : Stays (whole ++ gains.gained) (unanswered mid ++ gains.gained) = stays_more whole (unanswered mid) gains.gained so_far.answer in
-    record {
-      came = so_far.came ++ gains.gained;
-      given = Consumes-trans left₀ left left' so_far.came gains.gained so_far.given gains.given;
-      answer = rw (← append_assoc (unanswered old) so_far.came gains.gained, unanswered_gained mid new gains.gained passing gains.appended) more;
-      called = calls_more calls₀ calls calls' old.reads mid.reads new.reads so_far.called called reads;
-      few = omega (arith, called, one_more_at_most calls, so_far.few, gave, ap length gains.appended, length-append mid.kept gains.gained, length-append so_far.came gains.gained);
-    }
+reads_more idle old mid new left₀ left left' calls₀ calls calls' so_far gains gave passing reads called = grind (arith, stays_more, append_assoc, unanswered_gained, calls_more, one_more_at_most, length-append, stays_more (unanswered old ++ so_far.came) (unanswered mid) gains.gained so_far.answer, append_assoc (unanswered old) so_far.came gains.gained, unanswered_gained mid new gains.gained passing gains.appended, calls_more calls₀ calls calls' old.reads mid.reads new.reads so_far.called called reads, one_more_at_most calls, length-append mid.kept gains.gained, length-append so_far.came gains.gained)
 
 -- one round: nothing was found, room was made, and a read followed
 pub reads_round : (idle : ℕ) (old loop taken made new : Held) (left₀ left left' : Option (List ℕ)) (calls₀ calls calls' : ℕ) → Reads 0 old loop left₀ left calls₀ calls → taken ≡ loop → HasNoFeed loop.kept

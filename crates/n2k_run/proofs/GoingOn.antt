@@ -76,19 +76,7 @@ module _ (t : TableParts) (o : Options) (laws : LogLaws o.window) where
     save-on more part is = is.saved
 
     goes_on : (more : List ℕ) (before after : Devices) (part : Part) → Gained (output_after t o (entries o.packing front)) before after (entries o.packing more) → IsPartOf t o (state t.id o.window (kind t) (entries o.packing front ++ entries o.packing more)) part → GoesOn t o front more before after part
-    goes_on more before after part gained is =
-        let stands : IsPartOf t o (state_after t o (front ++ more)) part = subst (λ es. IsPartOf t o (state t.id o.window (kind t) es) part) (sym (both more)) is in
-        record {
-          text = (output_after t o (entries o.packing front)).texts (entries o.packing more);
-          printed = gained.printed;
-          output = output-on more;
-          report = (output_after t o (entries o.packing front)).reports (entries o.packing more);
-          reported = gained.reported;
-          all_reports = reports-on more;
-          saved = save-on more part stands;
-          counted = stands.counted;
-          reads_back = stands.reads_back;
-        }
+    goes_on more before after part gained is = search (both, output-on, reports-on, save-on, arith)
 
     goes_partly : (more : List ℕ) (before after : Devices) → HasFronts (output_after t o (entries o.packing front)) before after more → GoesOnPartly t o front more before after
     goes_partly more before after fronts = grind (arith, output-on, reports-on)

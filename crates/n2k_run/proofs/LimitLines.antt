@@ -1,5 +1,5 @@
 -- The bytes of the lines that were taken, where a log has more lines.
-use Rattle.std.proofs.Common.{◌≡◌, inl, inr, ℕ, ◌<◌, ◌-◌, Bool, true, false, List, [], ◌∷◌, ◌++◌, length, get_or, map, refl, sym, ap, ◌∙◌, subst, append_assoc, arith, length-append, ◌⊎◌, eqb-true}
+use Rattle.std.proofs.Common.{◌≡◌, inl, inr, ℕ, ◌<◌, Bool, true, false, List, [], ◌∷◌, ◌++◌, length, map, refl, sym, ap, ◌∙◌, subst, append_assoc, arith, length-append, ◌⊎◌, eqb-true}
 use Rattle.std.specs.Io.{IsEmptyOrEndsWith}
 use Rattle.std.proofs.lemmas.List.{append-nil, get_or-append_right}
 use Rattle.std.proofs.lemmas.List.Elements.{All-cons}
@@ -33,10 +33,7 @@ by_feed (b ∷ bs) = go (is_line_feed b) refl (by_feed bs)
 
 ends_on : (front bytes : List ℕ) → IsEmptyOrEndsWith front line_feed → IsEmptyOrEndsWith bytes line_feed → IsEmptyOrEndsWith (front ++ bytes) line_feed
 ends_on front [] first last = subst (λ x. IsEmptyOrEndsWith x line_feed) (sym (append-nil front)) first
-ends_on front (y ∷ ys) first last = λ some.
-    let all = length-append front (y ∷ ys) in
-    let at : (length (front ++ (y ∷ ys)) - 1) - length front ≡ length (y ∷ ys) - 1 = omega (arith, all) in
-    get_or-append_right front (y ∷ ys) (length front) (length (front ++ (y ∷ ys)) - 1) 0 refl (omega (arith, all)) ∙ ap (λ k. get_or (y ∷ ys) k 0) at ∙ last (omega arith)
+ends_on front (y ∷ ys) first last = grind (arith, length-append, get_or-append_right)
 
 -- the bytes of these entries' lines, with their line feeds, and those after them
 pub record TakenBytes (packing : Packing) (log : List ℕ) (es : List Entry) : Type 0 where
@@ -50,11 +47,7 @@ pub record TakenBytes (packing : Packing) (log : List ℕ) (es : List Entry) : T
 -- one line alone has no other after it
 one_line : (packing : Packing) (log : List ℕ) (e next : Entry) (es more : List Entry) → HasNoFeed log → entries packing log ≡ e ∷ (es ++ (next ∷ more)) → ⊥
 one_line packing [] e next es more none is = let bad : [] ≡ e ∷ (es ++ (next ∷ more)) = is in cc
-one_line packing (b ∷ bs) e next es more none is =
-    let one : entry (without_return (b ∷ bs)) packing ∷ [] ≡ e ∷ (es ++ (next ∷ more)) = sym (ap (map (λ line. entry line packing)) (lines_rest (b ∷ bs) none (omega arith))) ∙ is in
-    let same : [] ≡ es ++ (next ∷ more) = cc in
-    let count : 0 ≡ length (es ++ (next ∷ more)) = ap (λ (xs : List Entry). length xs) same in
-    omega (arith, count, length-append es (next ∷ more))
+one_line packing (b ∷ bs) e next es more none is = grind (arith, lines_rest (b ∷ bs) none (omega arith), length-append es (next ∷ more))
 
 -- a log with a line has a byte
 some_byte : (packing : Packing) (log : List ℕ) (next : Entry) (more : List Entry) → entries packing log ≡ next ∷ more → 0 < length log
@@ -83,5 +76,4 @@ taken_bytes packing (e ∷ es) log next more is = go (by_feed log) (λ rest late
         }
 
     go : HasNoFeed log ⊎ FirstFeed log → ((rest : List ℕ) → entries packing rest ≡ es ++ (next ∷ more) → TakenBytes packing rest es) → TakenBytes packing log (e ∷ es)
-    go (inl none) fewer = absurd (one_line packing log e next es more none is)
-    go (inr f) fewer = feed f fewer
+    go h fewer = grind (arith, one_line, feed)

@@ -1,5 +1,5 @@
 -- How what is owed of a text shrinks as it is written.
-use Rattle.std.proofs.Common.{ℕ, List, ◌++◌, ◌<◌, length, take, drop, sym, ap, ◌∙◌, subst, append_assoc, ◌-◌, Option, arith, length-append, Result, Ok, Err, OnErr}
+use Rattle.std.proofs.Common.{ℕ, List, ◌++◌, ◌<◌, length, take, drop, sym, ◌∙◌, subst, append_assoc, ◌-◌, Option, arith, length-append, Result, Ok, Err, OnErr}
 use Rattle.std.specs.Io.KnownBytes.{Appends}
 use Rattle.std.proofs.KnownBytes.{Appends-trans}
 use Rattle.std.proofs.lemmas.List.{take-append-drop, take_rest}
@@ -26,25 +26,11 @@ both_parts = Appends-trans
 
 -- or a front of the first
 pub front_of_first : (old new : Option (List ℕ)) (first rest : List ℕ) → AppendsFront old new first → AppendsFront old new (first ++ rest)
-front_of_first old new first rest owed = (
-  owed.0 ++ rest,
-  record {
-    front = owed.1.front;
-    appended = owed.1.appended;
-    still = ap (λ (t : List ℕ). t ++ rest) owed.1.still ∙ append_assoc owed.1.front owed.0 rest;
-  },
-)
+front_of_first old new first rest owed = grind (arith, append_assoc owed.1.front owed.0 rest)
 
 -- or the first and a front of the other
 pub first_and_front : (old mid new : Option (List ℕ)) (first rest : List ℕ) → Appends old mid first → AppendsFront mid new rest → AppendsFront old new (first ++ rest)
-first_and_front old mid new first rest done owed = (
-  owed.0,
-  record {
-    front = first ++ owed.1.front;
-    appended = Appends-trans old mid new first owed.1.front done owed.1.appended;
-    still = ap (λ (t : List ℕ). first ++ t) owed.1.still ∙ sym (append_assoc first owed.1.front owed.0);
-  },
-)
+first_and_front old mid new first rest done owed = grind (arith, append_assoc)
 
 pub front_of_both : {T E : Type 0} (r : Result T E) (old mid new : Option (List ℕ)) (first rest : List ℕ) → Appends old mid first → OnErr r (AppendsFront mid new rest) → OnErr r (AppendsFront old new (first ++ rest))
 front_of_both (Ok x) old mid new first rest done owed = owed
