@@ -296,8 +296,12 @@ def killed(program, room, chance):
             torn = True
         # A script that lives ends where n2kdec or the sender was killed. What is left of a script that was killed ends at
         # the sender's next line where n2kdec was killed too, and else with the sender, which may have begun after the kill.
+        last = log.whole(run * each, (run + 1) * each)
         if not victims:
-            time.sleep(1)
+            # The last run, until all is printed.
+            until = time.monotonic() + (1 if run < 10 else 60)
+            while boat.printed()[-len(last) :] != last and time.monotonic() < until:
+                time.sleep(0.1)
             logger.terminate()
         if subprocess.run(["flock", "-w", "3", boat.folder, "true"], check=False).returncode:
             kill(named(left(boat), os.path.basename(sys.executable)))
@@ -305,7 +309,6 @@ def killed(program, room, chance):
         if way == "sender" and victims and logger.returncode not in (0, 1, 3) or way == "n2kdec" and victims and logger.returncode != 137:
             yield f"{way} killed: status {logger.returncode}, {said}"
     yield from judged(boat, log, torn)
-    last = log.whole(run * each, (run + 1) * each)
     if boat.printed()[-len(last) :] != last:
         yield "the last run misses messages"
 
