@@ -25,13 +25,13 @@ pub(crate) fn byte_or_filler(bytes: &[u8], at: usize) -> u8
     bytes.get(at).copied().unwrap_or(FILLER)
 }
 
-/// The bytes after the header, filled up to seven.
-fn seven_bytes(rest: &[u8]) -> [u8; 7]
+/// The bytes after the header, filled up to seven. It is not inlined: most frames have seven, which are copied at
+/// a constant length.
+#[cold]
+#[inline(never)]
+fn filled_bytes(rest: &[u8]) -> [u8; 7]
     ensures { result ≡ seven_bytes rest.now }
 {
-    if let Some(bytes) = rest.first_chunk::<7>() {
-        return *bytes;
-    }
     let at = |i| byte_or_filler(rest, i);
     [at(0), at(1), at(2), at(3), at(4), at(5), at(6)]
 }
@@ -44,7 +44,10 @@ pub(crate) fn fast_frame(packet: &Packet) -> Option<FastFrame>
 {
     let (header, rest) = packet.data().split_first()?;
     let number = *header % MOST_FRAMES;
-    let bytes = seven_bytes(rest);
+    let bytes = match rest.first_chunk::<7>() {
+        Some(seven) => *seven,
+        None => filled_bytes(rest),
+    };
     if number == 0 && (rest.is_empty() || bytes[0] > LONGEST_MESSAGE) {
         return None;
     }

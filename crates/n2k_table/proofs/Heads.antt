@@ -1,5 +1,5 @@
 -- What stands in a line before the members, as the code appends it.
-use Rattle.std.proofs.Common.{◌≡◌, ℕ, zero, suc, ◌+◌, ◌-◌, ◌/◌, ◌%◌, ◌<◌, ◌≤◌, Bool, true, ◌&&◌, List, [], ◌∷◌, ◌++◌, IfSome, slice_index_or, take, drop, nat_le, nat_lt, if◌then◌else◌, refl, sym, ap, ◌∙◌, codes, append_assoc, eq-zero-or-pos, arith, inl, inr, decimal}
+use Rattle.std.proofs.Common.{◌≡◌, ℕ, zero, suc, ◌+◌, ◌-◌, ◌/◌, ◌%◌, ◌<◌, ◌≤◌, Bool, true, ◌&&◌, List, [], ◌∷◌, ◌++◌, IfSome, slice_index_or, take, drop, nat_lt, if◌then◌else◌, refl, sym, ap, ◌∙◌, codes, append_assoc, eq-zero-or-pos, arith, inl, inr, decimal}
 use Rattle.std.specs.List.{list_all, find, join_with_byte}
 use Rattle.std.proofs.lemmas.Bool.{and_parts}
 use Rattle.std.proofs.lemmas.Fmt.{decimal_digit}
@@ -35,21 +35,16 @@ few_digits n =
 few_digits_are : (n : ℕ) → n < 1000 → few_digits n ≡ decimal n
 few_digits_are n small = grind (arith, one_digit, two_digits, three_digits)
 
--- whether four bytes are the text of a number, filled up, and the digit that says how many of them count
+-- whether four bytes are the text of a number, filled up, as many as the last of them says
 abbrev is_number_text : ℕ → List ℕ → Bool
-is_number_text n text =
-    (nat_le 48 (slice_index_or text 3 0) && nat_le (slice_index_or text 3 0) 51)
-    && bytes_eq (take (slice_index_or text 3 0 - 48) text) (few_digits n)
-
--- what the code takes of such bytes
-pub record IsNumberText (n : ℕ) (text : List ℕ) : Type 0 where
-  pub low : 48 ≤ slice_index_or text 3 0
-  pub high : slice_index_or text 3 0 ≤ 51
-  pub is : take (slice_index_or text 3 0 - 48) text ≡ decimal n
+is_number_text n text = bytes_eq (take (slice_index_or text 3 0 % 4) text) (few_digits n)
 
 abbrev are_number_texts : ℕ → Bool
 are_number_texts zero = true
 are_number_texts (suc n) = is_number_text n (slice_index_or NUMBERS n []) && are_number_texts n
+
+abbrev IsNumberText : ℕ → List ℕ → Type 0
+IsNumberText n text = take (slice_index_or text 3 0 % 4) text ≡ decimal n
 
 number_text_of : (n : ℕ) (text : List ℕ) → n < 1000 → is_number_text n text ≡ true → IsNumberText n text
 number_text_of n text small is = grind (arith, bytes_eq-Decides, few_digits_are)

@@ -1,5 +1,5 @@
 -- The names of values: as the code's map finds them, and as entries of a document.
-use Rattle.std.proofs.Common.{◌≡◌, ℕ, Bool, true, false, ◌||◌, nat_eq, List, [], ◌∷◌, ◌++◌, map, Option, Some, None, is_some, Err, refl, sym, ap, ◌∙◌, append_assoc, inl, inr, arith}
+use Rattle.std.proofs.Common.{◌≡◌, ℕ, zero, suc, ◌+◌, ◌<◌, drop, slice_get, Bool, true, false, ◌||◌, nat_eq, List, [], ◌∷◌, ◌++◌, map, Option, Some, None, is_some, Err, refl, sym, ap, ◌∙◌, append_assoc, inl, inr, arith}
 use Rattle.std.specs.Map.{lookup as value_at}
 use Rattle.std.specs.List.{list_any}
 use Rattle.std.proofs.lemmas.Bool.{cases_Bool, or_parts, false≢true}
@@ -19,6 +19,13 @@ name_of_value-entry_pair value (e ∷ es) =
       | inl same ↦ rw same refl
       | inr other ↦ rw other (name_of_value-entry_pair value es)
     ]
+
+-- a value that neither the entry at a place has, nor one behind it
+pub none_from : {R : Type 0} (es : List (ℕ × R)) (at value : ℕ) (e : ℕ × R) → Some e ≡ slice_get es at → e.0 < value → value_at (nat_eq value) (drop (at + 1) es) ≡ None
+    → value_at (nat_eq value) (drop at es) ≡ None
+none_from [] at value e here less none = grind arith
+none_from (x ∷ es) zero value e here less none = grind arith
+none_from (x ∷ es) (suc at) value e here less none = grind (arith, none_from es at value e here less)
 
 -- the values of entries
 abbrev pub values : List (ℕ × List ℕ) → List ℕ

@@ -43,7 +43,7 @@ pub sign_is : (n : Number) → (if n.negative && nat_lt 0 (n.size * n.resolution
 sign_is n = signed_so n.negative (n.size * n.resolution.mantissa) ∙ ap sign_of (sym (product n.negative n.size n.resolution.mantissa))
 
 -- the sign of a number whose sign does not
-pub sign_of_below : (x : ℤ) → (if lt_z x (pos 0) then minus ∷ [] else []) ≡ sign_of x
+pub sign_of_below : (x : ℤ) → (if lt_z x (pos 0) && nat_lt 0 (unsigned_abs x) then minus ∷ [] else []) ≡ sign_of x
 sign_of_below x = grind arith
 
 -- the equality of integers at natural numbers

@@ -5,7 +5,6 @@ use Rattle.std.proofs.lemmas.Bool.{leb-true, or_cases, false≢true}
 use Rattle.std.proofs.lemmas.Option.{cond_some, option_and_then_some}
 use Rattle.n2k_table.specs.Strings.{data_behind}
 use Rattle.n2k_table.specs.Field.{FieldParts, Meaning, is_string}
-use Rattle.n2k_table.specs.Field as means
 use Rattle.n2k_table.specs.Repeat.{RepeatParts, own_bytes, strings_size, if_inside, set_size, sets_from, sets_in}
 use Rattle.n2k_table.specs.Inner.Kept.{left_beside}
 

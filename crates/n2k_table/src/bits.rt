@@ -2,8 +2,11 @@
 ghost use Rattle.std.specs.Prelude.{◌≡◌, ◌+◌, ◌*◌, ◌-◌, ◌^◌, ◌<◌, ◌≤◌, length};
 ghost use Rattle.n2k_table.specs.Bits.{raw, greatest};
 
-/// The most bits that lie in the eight bytes from the byte of their first bit on.
-const MOST_AT_ONCE: u32 = 56;
+/// The most bits that lie in eight bytes wherever they begin.
+const MOST_AT_ONCE: u32 = 57;
+
+/// The bits of the first eight bytes.
+pub(crate) const WORD_BITS: u32 = 64;
 
 /// The lower bits of a raw value that is put together of two.
 const HALF: u32 = 32;
@@ -30,7 +33,7 @@ fn short_word(data: &[u8]) -> u64
 
 /// The first eight bytes as one number, the first lowest, or all where there are fewer.
 #[inline(always)]
-fn first_word(data: &[u8]) -> u64
+pub(crate) fn first_word(data: &[u8]) -> u64
     ensures all { length «data».now < 8 → result ≡ raw «data».now 0 (8 * length «data».now) }
     ensures eight { 8 ≤ length «data».now → result ≡ raw «data».now 0 64 }
 {
@@ -40,21 +43,16 @@ fn first_word(data: &[u8]) -> u64
     }
 }
 
-/// The raw value of bits that lie in eight bytes: in the first, or in those up to their last.
+/// The raw value of bits that lie in the eight bytes from a byte on.
 #[inline(always)]
-fn raw_at_once(data: &[u8], at: usize, bits: u32, mask: u64) -> u64
-    requires place { at < 2 ^ 33 }
+fn raw_in_word(data: &[u8], from: usize, at: usize, bits: u32, mask: u64) -> u64
+    requires front { 8 * from ≤ at }
+    requires word { at + bits ≤ 8 * from + 64 }
     requires within { at + bits ≤ 8 * length «data».now }
     requires some { 1 ≤ bits }
-    requires room { bits ≤ 56 }
     requires mask { mask ≡ 2 ^ bits - 1 }
     ensures { result ≡ raw «data».now at bits }
 {
-    let end = at + bits as usize;
-    if end <= 64 {
-        return (first_word(data) >> at) & mask;
-    }
-    let from = (end + 7) / 8 - 8;
     (first_word(&data[from..]) >> (at - 8 * from)) & mask
 }
 
@@ -64,21 +62,18 @@ fn raw_at_once(data: &[u8], at: usize, bits: u32, mask: u64) -> u64
 fn raw_of_two(data: &[u8], at: usize, bits: u32) -> u64
     requires place { at < 2 ^ 32 }
     requires within { at + bits ≤ 8 * length «data».now }
-    requires many { 56 < bits }
+    requires many { 57 < bits }
     requires room { bits ≤ 64 }
     ensures { result ≡ raw «data».now at bits }
 {
-    let low = raw_at_once(data, at, HALF, greatest(false, HALF));
-    let high = raw_at_once(
-        data,
-        at + HALF as usize,
-        bits - HALF,
-        greatest(false, bits - HALF),
-    );
+    let (middle, rest) = (at + HALF as usize, bits - HALF);
+    let low = raw_in_word(data, at / 8, at, HALF, greatest(false, HALF));
+    let high = raw_in_word(data, middle / 8, middle, rest, greatest(false, rest));
     (high << HALF) + low
 }
 
-/// The raw value of some bits, where the greatest of so many is known.
+/// The raw value of some bits, where the greatest of so many is known: out of the first eight bytes, of those up to its
+/// last bit, or of two halves.
 #[tactic(auto, using(crate::proofs::RawBits::raw_lt))]
 #[inline(always)]
 pub(crate) fn raw_with_mask(data: &[u8], at: u32, bits: u32, mask: u64) -> u64
@@ -89,10 +84,14 @@ pub(crate) fn raw_with_mask(data: &[u8], at: u32, bits: u32, mask: u64) -> u64
     ensures value { result ≡ raw «data».now at bits }
     ensures range { result < 2 ^ bits }
 {
-    if bits <= MOST_AT_ONCE {
-        raw_at_once(data, at as usize, bits, mask)
+    let at = at as usize;
+    let end = at + bits as usize;
+    if end <= WORD_BITS as usize {
+        raw_in_word(data, 0, at, bits, mask)
+    } else if bits <= MOST_AT_ONCE {
+        raw_in_word(data, (end + 7) / 8 - 8, at, bits, mask)
     } else {
-        raw_of_two(data, at as usize, bits)
+        raw_of_two(data, at, bits)
     }
 }
 

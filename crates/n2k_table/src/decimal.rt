@@ -1,11 +1,11 @@
 //! The decimal text of a whole number over a power of ten.
-ghost use Rattle.std.specs.Prelude.{◌≡◌, ◌∷◌, [], ◌++◌, ◌≤◌, ◌&&◌, nat_lt, ℕ, List, if◌then◌else◌, length, decimal, OnOk, OnErr};
+ghost use Rattle.std.specs.Prelude.{◌≡◌, ◌∷◌, [], ◌++◌, ◌+◌, ◌≤◌, ◌&&◌, nat_lt, ℕ, List, if◌then◌else◌, length, OnOk, OnErr};
 ghost use Rattle.n2k_table.specs.Decimal.{IsDecimal, dec, dotted, minus, padded_digits};
 ghost use Rattle.n2k_table.specs.Inner.Digits.{zero_filled};
 ghost use Rattle.n2k_table.specs.Inner.Number.{value_of};
 
-use crate::decimal_fast::{MOST_DECIMALS, push_short};
-use crate::line_buffer::LineBuffer;
+use crate::decimal_fast::{MOST_DECIMALS, write_short};
+use crate::line_buffer::{LineBuffer, VALUE_ROOM};
 use crate::number::Number;
 use itoa::Buffer;
 use std::alloc::{AllocError, Global};
@@ -37,24 +37,16 @@ fn push_filled(digits: &[u8], decimals: usize, line: &mut LineBuffer) -> Result<
     Ok(())
 }
 
-/// Appends a minus sign, or nothing.
+/// Appends the sign of a number of that size, or nothing, where there is room for a byte. Zero has none.
 #[inline(always)]
-fn push_minus(negative: bool, line: &mut LineBuffer) -> Result<(), AllocError>
-    ensures { OnOk result (line.new.items ≡ line.old.items ++ (if negative then minus ∷ [] else [])) }
+fn write_sign(negative: bool, size: u128, line: &mut LineBuffer)
+    requires { line.old.held + 1 ≤ 32768 }
+    ensures items { line.new.items ≡ line.old.items ++ (if negative && nat_lt 0 size then minus ∷ [] else []) }
+    ensures held { line.new.held ≤ line.old.held + 1 }
 {
-    if negative {
-        line.push(b'-')?;
+    if negative && size > 0 {
+        line.write(b"-", 1);
     }
-    Ok(())
-}
-
-/// Appends the sign of a number of that size, or nothing. Zero has none.
-#[inline(always)]
-fn push_sign(negative: bool, size: u128, line: &mut LineBuffer) -> Result<(), AllocError>
-    ensures { OnOk result (line.new.items
-        ≡ line.old.items ++ (if negative && nat_lt 0 size then minus ∷ [] else [])) }
-{
-    push_minus(negative && size > 0, line)
 }
 
 /// Appends the decimal text of `size / 10^decimals`, of any number of digits. It is not inlined: few have so many.
@@ -72,24 +64,29 @@ fn push_long(size: u128, decimals: usize, line: &mut LineBuffer) -> Result<(), A
     }
 }
 
-/// Appends the decimal text of `size / 10^decimals`.
+/// Appends the decimal text of `size / 10^decimals`, where there is room for 48 bytes.
 #[inline(always)]
 fn push_size(size: u128, decimals: usize, line: &mut LineBuffer) -> Result<(), AllocError>
+    requires { line.old.held + 48 ≤ 32768 }
     ensures { OnOk result (line.new.items ≡ line.old.items ++ dotted decimals (padded_digits size decimals)) }
 {
     match u64::try_from(size) {
-        Ok(short) if decimals <= MOST_DECIMALS => push_short(short, decimals, line),
+        Ok(short) if decimals <= MOST_DECIMALS => {
+            write_short(short, decimals, line);
+            Ok(())
+        }
         _ => push_long(size, decimals, line),
     }
 }
 
-/// Appends the decimal text of a number.
+/// Appends the decimal text of a number, where there is room for 64 bytes.
 #[inline(always)]
 pub(crate) fn push_number(number: Number, line: &mut LineBuffer) -> Result<(), AllocError>
+    requires { line.old.held + 64 ≤ 32768 }
     ensures { OnOk result (line.new.items ≡ line.old.items ++ dec (value_of number) number.resolution.decimals) }
 {
     let size = u128::from(number.size) * u128::from(number.resolution.mantissa);
-    push_sign(number.negative, size, line)?;
+    write_sign(number.negative, size, line);
     push_size(size, usize::from(number.resolution.decimals), line)
 }
 
@@ -101,8 +98,10 @@ pub(crate) fn push_decimal(
 ) -> Result<(), AllocError>
     ensures { OnOk result (line.new.items ≡ line.old.items ++ dec value decimals) }
 {
-    push_minus(value < 0, line)?;
-    push_size(value.unsigned_abs(), usize::from(decimals), line)
+    let size = value.unsigned_abs();
+    line.reserve(VALUE_ROOM)?;
+    write_sign(value < 0, size, line);
+    push_size(size, usize::from(decimals), line)
 }
 
 /// Appends the decimal text of `value / 10^decimals`, with exactly that many digits after the dot: a minus

@@ -1,14 +1,13 @@
 //! A fast path for a number of 64 bits with at most 18 decimals. Most have at most eight digits, which are put together
 //! in one word and stored from there; those of the others stand in an array. `decimal.rt` appends any number; that is
 //! the file to read first.
-ghost use Rattle.std.specs.Prelude.{◌≡◌, ◌++◌, ◌+◌, ◌-◌, ◌≤◌, ◌<◌, ◌*◌, ◌/◌, ◌%◌, ◌^◌, take, drop, OnOk};
-ghost use Rattle.n2k_table.specs.Decimal.{dotted, padded_digits};
+ghost use Rattle.std.specs.Prelude.{◌≡◌, ◌++◌, ◌+◌, ◌-◌, ◌≤◌, ◌<◌, ◌^◌, take, drop};
+ghost use Rattle.n2k_table.specs.Decimal.{after_dot, dotted, padded_digits};
 ghost use Rattle.n2k_table.specs.Inner.Digits.{pairs_word, values_word};
 
 use crate::head::number_text;
 use crate::line_buffer::LineBuffer;
 use itoa::write_digits;
-use std::alloc::AllocError;
 
 /// The most decimals of a resolution, and of a short number.
 pub(crate) const MOST_DECIMALS: usize = 18;
@@ -31,41 +30,37 @@ const LEAST_LONG: u64 = 100_000_000;
 /// Eight bytes `0`.
 const NOUGHTS: u64 = 0x3030_3030_3030_3030;
 
-/// Appends bytes that stand in an array of digits.
+/// Appends bytes that stand in an array of digits, where there is room for 24.
 #[inline(always)]
-fn push_digits(
-    digits: &[u8; ROOM],
-    from: usize,
-    to: usize,
-    line: &mut LineBuffer,
-) -> Result<(), AllocError>
+fn write_digits_of(digits: &[u8; ROOM], from: usize, to: usize, line: &mut LineBuffer)
     requires order { from ≤ to }
     requires few { to ≤ from + 24 }
-    requires room { from ≤ 40 }
-    ensures { OnOk result (line.new.items ≡ line.old.items ++ take (to - from) (take 24 (drop from digits.now))) }
+    requires start { from ≤ 40 }
+    requires room { line.old.held + 24 ≤ 32768 }
+    ensures items { line.new.items ≡ line.old.items ++ take (to - from) (take 24 (drop from digits.now)) }
+    ensures held { line.new.held ≡ line.old.held + (to - from) }
 {
-    match digits[from..].first_chunk::<WIDE>() {
-        Some(wide) => line.put(wide, to - from),
-        None => Ok(()),
+    if let Some(wide) = digits[from..].first_chunk::<WIDE>() {
+        line.write(wide, to - from);
     }
 }
 
-/// Appends the decimal text of `size / 10^decimals`, whose digits are written to an array.
+/// Appends the decimal text of `size / 10^decimals` by an array of its digits, where there is room for 48 bytes.
 #[inline(never)]
-fn push_long(size: u64, decimals: usize, line: &mut LineBuffer) -> Result<(), AllocError>
-    requires { decimals ≤ 18 }
-    ensures { OnOk result (line.new.items ≡ line.old.items ++ dotted decimals (padded_digits size decimals)) }
+fn write_long(size: u64, decimals: usize, line: &mut LineBuffer)
+    requires decimals { decimals ≤ 18 }
+    requires room { line.old.held + 48 ≤ 32768 }
+    ensures { line.new.items ≡ line.old.items ++ dotted decimals (padded_digits size decimals) }
 {
     let mut digits = [b'0'; ROOM];
     let first = write_digits(size, &mut digits, END);
     let dot = END - decimals;
     let from = first.min(dot - 1);
-    push_digits(&digits, from, dot, line)?;
+    write_digits_of(&digits, from, dot, line);
     if decimals > 0 {
         digits[dot - 1] = b'.';
-        push_digits(&digits, dot - 1, END, line)?;
+        write_digits_of(&digits, dot - 1, END, line);
     }
-    Ok(())
 }
 
 /// The four pairs of digits of a number below 10^8 as values, the first in the lowest bytes. Both halves of four digits
@@ -92,31 +87,46 @@ fn eight_values(number: u64) -> u64
     tens + (pairs - tens * 10 << 8)
 }
 
-/// Appends the decimal text of `size / 10^decimals`. A byte is looked up. To store the digits of a short number from a
-/// word costs less than to write them to an array and to copy more bytes of it at once, which waits for those that were
-/// just written.
+/// Appends the first bytes of some, and a dot and the first bytes of others unless they are none. There is room for 17.
 #[inline(always)]
-pub(crate) fn push_short(
-    size: u64,
-    decimals: usize,
-    line: &mut LineBuffer,
-) -> Result<(), AllocError>
-    requires { decimals ≤ 18 }
-    ensures { OnOk result (line.new.items ≡ line.old.items ++ dotted decimals (padded_digits size decimals)) }
+fn write_parts(front: [u8; 8], whole: usize, back: [u8; 8], decimals: usize, line: &mut LineBuffer)
+    requires whole { whole ≤ 8 }
+    requires decimals { decimals ≤ 8 }
+    requires room { line.old.held + 17 ≤ 32768 }
+    ensures { line.new.items ≡ line.old.items ++ (take whole front ++ after_dot (take decimals back)) }
+{
+    line.write(&front, whole);
+    line.write(b".", usize::from(decimals > 0));
+    line.write(&back, decimals);
+}
+
+/// Appends the decimal text of `size / 10^decimals`, where there is room for 48 bytes. A byte is looked up. To store the
+/// digits of a short number from a word costs less than to write them to an array and to copy more bytes of it at once,
+/// which waits for those that were just written.
+#[inline(always)]
+pub(crate) fn write_short(size: u64, decimals: usize, line: &mut LineBuffer)
+    requires decimals { decimals ≤ 18 }
+    requires room { line.old.held + 48 ≤ 32768 }
+    ensures { line.new.items ≡ line.old.items ++ dotted decimals (padded_digits size decimals) }
 {
     if decimals == 0 && size < 256 {
         let (text, count) = number_text(size as u8);
-        return line.put(&text, count);
-    }
-    if size < LEAST_LONG && decimals < DIGITS {
+        line.write(&text, count);
+    } else if size < LEAST_LONG && decimals < DIGITS {
         let values = eight_values(size);
         let zeros = (values.trailing_zeros() / 8) as usize;
         let skipped = zeros.min(DIGITS - 1 - decimals);
         let whole = DIGITS - decimals - skipped;
         let front = (values + NOUGHTS) >> (8 * skipped);
         let back = front >> (8 * (whole - 1)) >> 8;
-        line.put_number(front.to_le_bytes(), whole, back.to_le_bytes(), decimals)
+        write_parts(
+            front.to_le_bytes(),
+            whole,
+            back.to_le_bytes(),
+            decimals,
+            line,
+        );
     } else {
-        push_long(size, decimals, line)
+        write_long(size, decimals, line);
     }
 }

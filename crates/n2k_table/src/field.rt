@@ -4,10 +4,10 @@ ghost use Rattle.std.specs.Prelude.{◌≡◌, ◌≤◌, ◌+◌, ◌*◌, ◌/
 use crate::bits::{raw, raw_with_mask};
 use crate::field_value::{FieldValue, digits_value, name_value, text_value};
 use crate::flags::flags_value;
-use crate::line_buffer::LineBuffer;
+use crate::line_buffer::{LineBuffer, VALUE_ROOM};
 use crate::lookup::Lookup;
 use crate::number::{Scale, Shift};
-use crate::padded_text::PaddedText;
+use crate::padded_text::{FRONT_ROOM, PaddedText};
 use crate::shown::Shown;
 use crate::string_place::{Form, Step, data_behind, taken_at};
 use crate::string_value::string_value;
@@ -92,13 +92,16 @@ impl Field {
         self.name.as_str()
     }
 
-    /// Appends what stands before the value in a line, with a comma where a member stands before.
+    /// Appends what stands before the value in a line, with a comma where a member stands before. Behind it there is room
+    /// for `VALUE_ROOM` bytes.
     #[inline(always)]
     pub(crate) fn push_key(&self, later: bool, line: &mut LineBuffer) -> Result<(), AllocError>
-        ensures { OnOk result (line.new.items ≡ line.old.items ++ key_json later self.now.name) }
+        ensures items { OnOk result (line.new.items ≡ line.old.items ++ key_json later self.now.name) }
+        ensures room { OnOk result (line.new.held + 64 ≤ 32768) }
     {
         let from = if later { 0 } else { 1 };
-        self.key.push_from(from, line)
+        line.reserve(FRONT_ROOM + VALUE_ROOM)?;
+        self.key.push_from(from, VALUE_ROOM, line)
     }
 
     /// Whether it is a string.

@@ -4,19 +4,8 @@ ghost use Rattle.n2k_table.specs.Bits.{raw};
 ghost use Rattle.n2k_table.specs.Table.{field_matches};
 ghost use Rattle.n2k_table.specs.Inner.Glance.{IsGlance};
 
-use crate::bits::greatest;
+use crate::bits::{WORD_BITS, first_word, greatest};
 use crate::field::Field;
-
-/// The bits that the first eight bytes have.
-const WORD_BITS: u32 = 64;
-
-/// The first eight bytes as one number, the first byte lowest; none where there are fewer.
-#[inline(always)]
-fn first_word(data: &[u8]) -> Option<u64>
-    ensures { IfSome result (λ word. (8 ≤ length «data».now) × (word ≡ raw «data».now 0 64)) }
-{
-    Some(u64::from_le_bytes(*data.first_chunk::<8>()?))
-}
 
 /// Which of the first eight bytes' bits are asked for, and what they have to be, both with the first byte lowest.
 #[derive(Clone, Copy)]
@@ -63,13 +52,10 @@ impl Glance {
         ensures { result ≡ false → (8 ≤ length «data».now)
             × (bit_and (raw «data».now 0 64) self.now.mask ≢ self.now.wanted) }
     {
-        if self.mask == 0 {
+        if self.mask == 0 || data.len() < 8 {
             return true;
         }
-        match first_word(data) {
-            Some(word) => word & self.mask == self.wanted,
-            None => true,
-        }
+        first_word(data) & self.mask == self.wanted
     }
 }
 

@@ -1,5 +1,5 @@
 //! What stands in a line before the PGN: when a message was seen, and who sent it to whom.
-ghost use Rattle.std.specs.Prelude.{◌≡◌, ◌++◌, ◌≤◌, true, codes, decimal, take, OnOk};
+ghost use Rattle.std.specs.Prelude.{◌≡◌, ◌++◌, ◌+◌, ◌≤◌, true, codes, decimal, take, OnOk};
 ghost use Rattle.std.specs.List.{list_all};
 ghost use Rattle.n2k_table.specs.Text.{text_json};
 ghost use Rattle.n2k_table.specs.Inner.Line.{is_plain, is_usual, sender_json, before_pgn_json};
@@ -8,6 +8,9 @@ use crate::line_buffer::LineBuffer;
 use crate::text::push_text;
 use n2k_wire::{Id, Packet, UTC_LEN};
 use std::alloc::AllocError;
+
+/// Room for what stands before the PGN, with the stamp of a candump line.
+const HEAD_ROOM: usize = 69;
 
 /// How many bytes of a stamp are tested at once.
 const AT_ONCE: usize = 16;
@@ -46,73 +49,66 @@ static NUMBERS: [[u8; 4]; 256] = [
     *b"2523", *b"2533", *b"2543", *b"2553",
 ];
 
-/// The decimal text of a byte, filled up, and how many of its bytes count.
+/// The decimal text of a byte, filled up, and how many of its bytes count: `b'0'` is a multiple of 4.
 #[inline(always)]
 pub(crate) fn number_text(number: u8) -> ([u8; 4], usize)
     ensures text { take result.1 result.0 ≡ decimal number }
     ensures few { result.1 ≤ 3 }
 {
     let text = NUMBERS[number as usize];
-    (text, (text[3] - b'0') as usize)
+    (text, (text[3] % 4) as usize)
 }
 
 /// Appends a label, and the decimal text of a byte behind it.
 #[inline(always)]
-fn push_part<const N: usize>(
-    label: &[u8; N],
-    number: u8,
-    line: &mut LineBuffer,
-) -> Result<(), AllocError>
-    requires { N ≤ 16 }
-    ensures { OnOk result (line.new.items ≡ line.old.items ++ (label.now ++ decimal number)) }
+fn write_part<const N: usize>(label: &[u8; N], number: u8, line: &mut LineBuffer)
+    requires { line.old.held + N + 4 ≤ 32768 }
+    ensures items { line.new.items ≡ line.old.items ++ (label.now ++ decimal number) }
+    ensures held { line.new.held ≤ line.old.held + N + 3 }
 {
     let (text, count) = number_text(number);
-    line.put_behind(label, &text, count)
+    line.write(label, N);
+    line.write(&text, count);
 }
 
-/// Appends a priority, which has one digit, and a source, each behind its label.
+/// Appends who sent what to whom, up to the PGN, where there is room for 30 bytes. A priority has one digit.
 #[inline(always)]
-fn push_source(id: Id, line: &mut LineBuffer) -> Result<(), AllocError>
-    requires { id.prio ≤ 7 }
-    ensures { OnOk result (line.new.items
-        ≡ line.old.items ++ (codes ",\"prio\":" ++ decimal id.prio ++ codes ",\"src\":" ++ decimal id.src)) }
+fn write_sender(id: Id, line: &mut LineBuffer)
+    requires prio { id.prio ≤ 7 }
+    requires room { line.old.held + 30 ≤ 32768 }
+    ensures { line.new.items ≡ line.old.items ++ sender_json id }
 {
     let prio = b'0' + id.prio;
-    push_part(
+    write_part(
         &[
             b',', b'"', b'p', b'r', b'i', b'o', b'"', b':', prio, b',', b'"', b's', b'r', b'c',
             b'"', b':',
         ],
         id.src,
         line,
-    )
+    );
+    write_part(b",\"dst\":", id.dst, line);
 }
 
-/// Appends who sent what to whom, up to the PGN.
-#[tactic(auto, using(std::proofs::Common::append_assoc), unfolding(crate::specs::Inner::Line::sender_json))]
-#[inline(always)]
-fn push_sender(id: Id, line: &mut LineBuffer) -> Result<(), AllocError>
-    requires { id.prio ≤ 7 }
-    ensures { OnOk result (line.new.items ≡ line.old.items ++ sender_json id) }
-{
-    push_source(id, line)?;
-    push_part(b",\"dst\":", id.dst, line)
-}
-
-/// Appends a stamp as a text, where each byte of it stands for itself; that of a candump line at once.
+/// Appends a stamp as a text, where each byte of it stands for itself; that of a candump line at once. Behind it there
+/// is room for who sent the message.
 #[inline(always)]
 fn push_usual_stamp(stamp: &[u8], line: &mut LineBuffer) -> Result<(), AllocError>
     requires { list_all is_plain stamp.now ≡ true }
-    ensures { OnOk result (line.new.items ≡ line.old.items ++ (codes "{\"timestamp\":" ++ text_json stamp.now)) }
+    ensures items { OnOk result (line.new.items ≡ line.old.items ++ (codes "{\"timestamp\":" ++ text_json stamp.now)) }
+    ensures room { OnOk result (line.new.held + 30 ≤ 32768) }
 {
+    line.reserve(HEAD_ROOM)?;
+    line.write(b"{\"timestamp\":\"", 14);
     match stamp.as_array::<UTC_LEN>() {
-        Some(utc) => line.put_behind(b"{\"timestamp\":\"", utc, UTC_LEN)?,
+        Some(utc) => line.write(utc, UTC_LEN),
         None => {
-            line.put(b"{\"timestamp\":\"", 14)?;
             line.extend_from_slice(stamp)?;
+            line.reserve(HEAD_ROOM)?;
         }
     }
-    line.push(b'"')
+    line.write(b"\"", 1);
+    Ok(())
 }
 
 /// A digit, an upper letter or one of few other bytes. Each stands for itself, and one range is tested faster than all
@@ -154,16 +150,19 @@ fn is_usual_stamp(stamp: &[u8]) -> bool
 /// Appends any stamp as a text.
 #[inline(never)]
 fn push_other_stamp(stamp: &[u8], line: &mut LineBuffer) -> Result<(), AllocError>
-    ensures { OnOk result (line.new.items ≡ line.old.items ++ (codes "{\"timestamp\":" ++ text_json stamp.now)) }
+    ensures items { OnOk result (line.new.items ≡ line.old.items ++ (codes "{\"timestamp\":" ++ text_json stamp.now)) }
+    ensures room { OnOk result (line.new.held + 30 ≤ 32768) }
 {
     line.extend_from_slice(b"{\"timestamp\":")?;
-    push_text(stamp, line)
+    push_text(stamp, line)?;
+    line.reserve(HEAD_ROOM)
 }
 
 /// Appends when a message was seen. Of most stamps a comparison takes sixteen bytes.
 #[inline(always)]
 fn push_time(stamp: &[u8], line: &mut LineBuffer) -> Result<(), AllocError>
-    ensures { OnOk result (line.new.items ≡ line.old.items ++ (codes "{\"timestamp\":" ++ text_json stamp.now)) }
+    ensures items { OnOk result (line.new.items ≡ line.old.items ++ (codes "{\"timestamp\":" ++ text_json stamp.now)) }
+    ensures room { OnOk result (line.new.held + 30 ≤ 32768) }
 {
     if is_usual_stamp(stamp) {
         push_usual_stamp(stamp, line)
@@ -179,5 +178,6 @@ pub(crate) fn push_head(packet: &Packet, line: &mut LineBuffer) -> Result<(), Al
     ensures { OnOk result (line.new.items ≡ line.old.items ++ before_pgn_json packet.now) }
 {
     push_time(packet.stamp(), line)?;
-    push_sender(packet.id(), line)
+    write_sender(packet.id(), line);
+    Ok(())
 }

@@ -1,5 +1,5 @@
 //! The JSON line of a message.
-ghost use Rattle.std.specs.Prelude.{◌≡◌, [], ◌++◌, ◌+◌, ◌*◌, ◌≤◌, ◌||◌, true, is_some, nat_lt, codes, if◌then◌else◌};
+ghost use Rattle.std.specs.Prelude.{◌≡◌, [], ◌++◌, ◌||◌, true, is_some, codes, if◌then◌else◌};
 ghost use Rattle.std.specs.Prelude.{decimal, length, map, IfOk, IfSome, OnOk, OnErr, Some};
 ghost use Rattle.n2k_table.specs.Shown.{shown, shown_parts, all_shown, flags_left};
 ghost use Rattle.std.specs.List.{flat_map, join_with_byte};
@@ -19,6 +19,7 @@ use crate::flags::{Flags, NamedBit};
 use crate::head::push_head;
 use crate::known_pgn::KnownPgn;
 use crate::line_buffer::LineBuffer;
+use crate::padded_text::FRONT_ROOM;
 use crate::repeat::Repeat;
 use crate::shown::Shown;
 use crate::table::Table;
@@ -101,8 +102,9 @@ fn push_bytes(
 fn push_bit(bit: NamedBit<'_>, later: bool, line: &mut LineBuffer) -> Result<(), AllocError>
     ensures { OnOk result (line.new.items ≡ line.old.items ++ member_text later (Some (flag_json (named_bit bit.entry)))) }
 {
+    line.reserve(1 + FRONT_ROOM)?;
     if later {
-        line.push(b',')?;
+        line.write(b",", 1);
     }
     match bit {
         NamedBit::Name(name) => name.push_json(line),
@@ -153,7 +155,7 @@ fn push_shown(shown: Shown<'_>, line: &mut LineBuffer) -> Result<(), AllocError>
     }
 }
 
-/// Appends a field of any kind as a member, as `push_member` does. It is not inlined: few fields come here.
+/// Appends a field of any kind as a member, and answers whether one stands before the next. Few fields come here.
 #[cold]
 #[inline(never)]
 fn push_seldom(
@@ -178,38 +180,43 @@ fn push_seldom(
     }
 }
 
-/// Appends a field as a member of an object, after a comma where a member stands before, and answers whether one stands
+/// Appends a field as a member of an object, after a comma where a member stands before, and notes whether one stands
 /// before the next. What it shows goes from branch to branch, and is never put together in memory.
 #[inline(always)]
 fn push_member(
     field: &Field,
     data: &[u8],
     absent: AbsentFields,
-    later: bool,
+    later: &mut bool,
     line: &mut LineBuffer,
-) -> Result<bool, AllocError>
-    ensures { let member = member_json (are_null absent) (field.now.name, shown field.now «data».now) in
-        IfOk result (λ more. (line.new.items ≡ line.old.items ++ member_text later member)
-        × (more ≡ (later || is_some member))) }
+) -> Result<(), AllocError>
+    ensures items { let member = member_json (are_null absent) (field.now.name, shown field.now «data».now) in
+        OnOk result (line.new.items ≡ line.old.items ++ member_text later.old member) }
+    ensures later { let member = member_json (are_null absent) (field.now.name, shown field.now «data».now) in
+        OnOk result (later.new ≡ (later.old || is_some member)) }
 {
     match field.value(data) {
         FieldValue::Absent => match absent {
-            AbsentFields::LeftOut => return Ok(later),
-            AbsentFields::Null => push_null(field, later, line)?,
+            AbsentFields::LeftOut => return Ok(()),
+            AbsentFields::Null => push_null(field, *later, line)?,
         },
         FieldValue::Number(number) => {
-            field.push_key(later, line)?;
+            field.push_key(*later, line)?;
             push_number(number, line)?;
         }
         FieldValue::Name(name) => {
-            field.push_key(later, line)?;
+            field.push_key(*later, line)?;
             name.push_json(line)?;
         }
-        FieldValue::Text(text) => push_text(field, text, later, line)?,
-        FieldValue::Bytes(bytes) => push_bytes(field, bytes, later, line)?,
-        FieldValue::Seldom => return push_seldom(field, data, absent, later, line),
+        FieldValue::Text(text) => push_text(field, text, *later, line)?,
+        FieldValue::Bytes(bytes) => push_bytes(field, bytes, *later, line)?,
+        FieldValue::Seldom => {
+            *later = push_seldom(field, data, absent, *later, line)?;
+            return Ok(());
+        }
     }
-    Ok(true)
+    *later = true;
+    Ok(())
 }
 
 /// Appends the fields as the members of an object, of a message or of a set, and answers whether one stands
@@ -227,7 +234,7 @@ fn push_members(
     let mut later = false;
     let mut rest = fields;
     while let Some((field, others)) = rest.split_first() {
-        later = push_member(field, data, absent, later, line)?;
+        push_member(field, data, absent, &mut later, line)?;
         rest = others;
     }
     Ok(later)

@@ -2,7 +2,6 @@
 //! since new room would be zeroed each time.
 ghost use Rattle.std.specs.Prelude.{◌≡◌, ◌∷◌, [], ◌++◌, ◌+◌, ◌≤◌, take, IfOk, OnOk, OnErr};
 ghost use Rattle.n2k_wire.specs.Texts.{plain_text};
-ghost use Rattle.n2k_table.specs.Decimal.{after_dot};
 
 use n2k_wire::{LINE_ROOM, Packet, write_line};
 use std::alloc::{AllocError, Global};
@@ -12,7 +11,10 @@ use std::mem;
 /// How many bytes of lines have room before they go to a vector: mostly those of all lines of a block of a log.
 const ROOM: usize = 32768;
 
-/// Lines, one behind the other. They are appended to in parts, which are put together in an array: copying a few bytes
+/// Room for a value: for a number of 64 bits and its sign, or for the front of a name.
+pub(crate) const VALUE_ROOM: usize = 64;
+
+/// Lines, one behind the other. What is called `write` needs room; the others ask for it. They are appended to in parts, which are put together in an array: copying a few bytes
 /// at a constant length into one costs a third of appending them to a vector.
 #[derive(Drop)]
 pub struct LineBuffer {
@@ -154,29 +156,34 @@ impl LineBuffer {
         out.extend_from_slice(&self.front)
     }
 
-    /// Appends a byte.
+    /// Makes room for so many bytes. What is appended part by part has one such test.
     #[inline(always)]
-    pub(crate) fn push(&mut self, byte: u8) -> Result<(), AllocError>
-        ensures { OnOk result (self.new.items ≡ self.old.items ++ byte ∷ []) }
-    {
-        self.put(&[byte], 1)
-    }
-
-    /// The place of the room that has so many bytes behind it.
-    #[inline(always)]
-    fn place(&mut self, count: usize) -> Result<usize, AllocError>
+    pub(crate) fn reserve(&mut self, count: usize) -> Result<(), AllocError>
         requires { count ≤ 32768 }
         ensures items { OnOk result (self.new.items ≡ self.old.items) }
-        ensures place { IfOk result (λ at. (at ≡ self.new.held) × (at + count ≤ 32768)) }
+        ensures room { OnOk result (self.new.held + count ≤ 32768) }
     {
         if self.at > ROOM - count {
-            empty_room(&mut self.front, &self.room, self.at)?;
-            self.at = 0;
+            self.settle()?;
         }
-        Ok(self.at)
+        Ok(())
     }
 
-    /// Appends the first bytes of some. It copies all of them, which costs less than so many.
+    /// Appends the first bytes of some, where there is room for all. It copies all of them, which costs less than so many.
+    #[inline(always)]
+    pub(crate) fn write<const N: usize>(&mut self, bytes: &[u8; N], count: usize)
+        requires few { count ≤ N }
+        requires room { self.old.held + N ≤ 32768 }
+        ensures items { self.new.items ≡ self.old.items ++ take count bytes.now }
+        ensures held { self.new.held ≡ self.old.held + count }
+    {
+        // Read once: behind the bytes it would be loaded again.
+        let at = self.at;
+        write_at(&mut self.room, at, *bytes);
+        self.at = at + count;
+    }
+
+    /// Appends the first bytes of some.
     #[inline(always)]
     pub(crate) fn put<const N: usize>(
         &mut self,
@@ -187,56 +194,17 @@ impl LineBuffer {
         requires room { N ≤ 32768 }
         ensures { OnOk result (self.new.items ≡ self.old.items ++ take count bytes.now) }
     {
-        let at = self.place(N)?;
-        write_at(&mut self.room, at, *bytes);
-        self.at = at + count;
+        self.reserve(N)?;
+        self.write(bytes, count);
         Ok(())
     }
 
-    /// Appends a label, and behind it the first bytes of some. Both have one test for room.
+    /// Appends a byte.
     #[inline(always)]
-    pub(crate) fn put_behind<const N: usize, const M: usize>(
-        &mut self,
-        label: &[u8; N],
-        bytes: &[u8; M],
-        count: usize,
-    ) -> Result<(), AllocError>
-        requires few { count ≤ M }
-        requires room { N + M ≤ 32768 }
-        ensures { OnOk result (self.new.items ≡ self.old.items ++ (label.now ++ take count bytes.now)) }
+    pub(crate) fn push(&mut self, byte: u8) -> Result<(), AllocError>
+        ensures { OnOk result (self.new.items ≡ self.old.items ++ byte ∷ []) }
     {
-        let at = self.place(N + M)?;
-        write_at(&mut self.room, at, *label);
-        write_at(&mut self.room, at + N, *bytes);
-        self.at = at + N + count;
-        Ok(())
-    }
-
-    /// Appends the first bytes of some, and a dot and the first bytes of others, unless those are none. All are copied,
-    /// with one test for room.
-    #[inline(always)]
-    pub(crate) fn put_number(
-        &mut self,
-        front: [u8; 8],
-        whole: usize,
-        back: [u8; 8],
-        decimals: usize,
-    ) -> Result<(), AllocError>
-        requires whole { whole ≤ 8 }
-        requires decimals { decimals ≤ 8 }
-        ensures { OnOk result (self.new.items ≡ self.old.items ++ (take whole front ++ after_dot (take decimals back))) }
-    {
-        let at = self.place(17)?;
-        let dot = at + whole;
-        write_at(&mut self.room, at, front);
-        write_at(&mut self.room, dot, [b'.']);
-        write_at(&mut self.room, dot + 1, back);
-        self.at = if decimals > 0 {
-            dot + 1 + decimals
-        } else {
-            dot
-        };
-        Ok(())
+        self.put(&[byte], 1)
     }
 
     /// Appends bytes.
@@ -258,8 +226,7 @@ impl LineBuffer {
     fn extend_past(&mut self, bytes: &[u8]) -> Result<(), AllocError>
         ensures { OnOk result (self.new.items ≡ self.old.items ++ bytes.now) }
     {
-        empty_room(&mut self.front, &self.room, self.at)?;
-        self.at = 0;
+        self.settle()?;
         self.front.extend_from_slice(bytes)
     }
 
@@ -276,8 +243,8 @@ impl LineBuffer {
         ensures { OnOk result (self.new.items ≡ self.old.items ++ plain_text packet.now) }
     {
         let _data = packet.data();
-        let at = self.place(LINE_ROOM)?;
-        self.at = write_line(&mut self.room, at, packet);
+        self.reserve(LINE_ROOM)?;
+        self.at = write_line(&mut self.room, self.at, packet);
         Ok(())
     }
 }

@@ -31,7 +31,7 @@ impl Model for Name {
 }
 
 impl Name {
-    ghost use Rattle.std.specs.Prelude.{◌++◌, OnOk};
+    ghost use Rattle.std.specs.Prelude.{◌++◌, ◌+◌, ◌≤◌, OnOk};
     ghost use Rattle.n2k_table.specs.Text.{text_json};
 
     /// A name of that text. Its JSON is put together in a room that serves many.
@@ -53,12 +53,13 @@ impl Name {
         self.text.as_str()
     }
 
-    /// Appends the text as JSON.
+    /// Appends the text as JSON, where there is room for 32 bytes.
     #[inline(always)]
     pub(crate) fn push_json(&self, line: &mut LineBuffer) -> Result<(), AllocError>
+        requires { line.old.held + 32 ≤ 32768 }
         ensures { OnOk result (line.new.items ≡ line.old.items ++ text_json self.now) }
     {
-        self.json.push_from(0, line)
+        self.json.push_from(0, 0, line)
     }
 }
 
@@ -68,11 +69,14 @@ pub(crate) struct Lookup {
     pub(crate) name: String,
     /// In file order.
     pub(crate) names: IndexMap<u64, Name>,
+    /// No greater value has a name. Most values without one are greater, and need no hash.
+    pub(crate) greatest: u64,
 }
 
 impl Model for Lookup {
     ghost use Rattle.std.specs.Prelude.{map, string_bytes};
     ghost use Rattle.n2k_table.specs.Lookup.{LookupParts};
+    ghost use Rattle.n2k_table.specs.Inner.Entries.{IsGreatest};
 
     ghost Value = { LookupParts };
 
@@ -80,6 +84,8 @@ impl Model for Lookup {
       name = string_bytes l.name;
       entries = map (λ e. (e.0, e.1)) l.names.entries;
     } };
+
+    ghost invariant = { λ l. IsGreatest l.names.entries l.greatest };
 }
 
 /// The lookups of a table, in file order, each by its name. It is shared by the fields that name it.
@@ -116,6 +122,7 @@ impl Lookup {
     {
         match self.names.get_index(value as usize) {
             Some((found, name)) if *found == value => Some(name),
+            _ if value > self.greatest => None,
             _ => name_by_hash(&self.names, value),
         }
     }

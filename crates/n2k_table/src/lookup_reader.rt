@@ -2,7 +2,7 @@
 ghost use Rattle.std.specs.Prelude.{◌≡◌, map, IfOk};
 ghost use Rattle.toml.specs.View.{view, table_view};
 ghost use Rattle.n2k_wire.specs.Views.{Gives};
-ghost use Rattle.n2k_table.specs.Inner.Entries.{map_entries, apart};
+ghost use Rattle.n2k_table.specs.Inner.Entries.{map_entries, apart, IsGreatest};
 ghost use Rattle.n2k_table.specs.Reading.{each, ReaderGives};
 ghost use Rattle.n2k_table.specs.Lookup.{pair_in, entry, once, entries, lookup, lookups};
 
@@ -104,6 +104,19 @@ fn read_entries(alloc: Global, table: &Table) -> Result<IndexMap<u64, Name>, Tab
     by_value(alloc, each_entry(alloc, values)?)
 }
 
+/// The greatest value that has a name.
+fn greatest_of(names: &IndexMap<u64, Name>) -> u64
+    ensures { IsGreatest names.now.entries result }
+{
+    let mut greatest = 0;
+    for at in 0..names.len() {
+        if let Some((value, _)) = names.get_index(at) {
+            greatest = greatest.max(*value);
+        }
+    }
+    greatest
+}
+
 #[tactic(auto, unfolding(crate::specs::Lookup::lookup))]
 fn read_lookup(alloc: Global, value: &Value) -> Result<Lookup, TableFault>
     ensures { ReaderGives (λ lookup. lookup) result (lookup (view value.now)) }
@@ -114,6 +127,7 @@ fn read_lookup(alloc: Global, value: &Value) -> Result<Lookup, TableFault>
     let names = read_entries(alloc, table)?;
     Ok(Lookup {
         name: String::from_str(alloc, name)?,
+        greatest: greatest_of(&names),
         names,
     })
 }

@@ -6,11 +6,11 @@ use crate::line_buffer::LineBuffer;
 use std::alloc::{AllocError, Global};
 use std::marker::Model;
 
-/// How many bytes are copied at once.
-const WIDE: usize = 32;
+/// How many bytes are copied at once, for which there has to be room.
+pub(crate) const FRONT_ROOM: usize = 32;
 
 /// How many bytes a front has: one more, since a text may be appended without its first byte.
-const FRONT: usize = WIDE + 1;
+const FRONT: usize = FRONT_ROOM + 1;
 
 /// A text that is appended to many lines. One that is copied at once takes no memory of its own.
 #[derive(Drop)]
@@ -35,7 +35,7 @@ impl Model for PaddedText {
 }
 
 impl PaddedText {
-    ghost use Rattle.std.specs.Prelude.{◌++◌, ◌<◌, ◌≤◌, drop, length, IfOk, OnOk};
+    ghost use Rattle.std.specs.Prelude.{◌++◌, ◌+◌, ◌<◌, ◌≤◌, drop, length, IfOk, OnOk};
 
     /// That text, padded.
     pub(crate) fn new(alloc: Global, text: &[u8]) -> Result<PaddedText, AllocError>
@@ -46,7 +46,7 @@ impl PaddedText {
             front[..text.len()].copy_from_slice(text);
         }
         let mut long = Vec::new(alloc);
-        if text.len() > WIDE {
+        if text.len() > FRONT_ROOM {
             long.reserve_exact(text.len())?;
             long.extend_from_slice(text)?;
         }
@@ -57,20 +57,29 @@ impl PaddedText {
         })
     }
 
-    /// Appends the text from its first byte on, or from its second.
+    /// Appends the text from its first byte on, or from its second, where there is room for 32 bytes and so many more.
+    /// Behind the text there is room for those.
     #[inline(always)]
-    pub(crate) fn push_from(&self, from: usize, line: &mut LineBuffer) -> Result<(), AllocError>
+    pub(crate) fn push_from(
+        &self,
+        from: usize,
+        more: usize,
+        line: &mut LineBuffer,
+    ) -> Result<(), AllocError>
         requires few { from < 2 }
         requires inside { from ≤ length self.now }
-        ensures { OnOk result (line.new.items ≡ line.old.items ++ drop from self.now) }
+        requires room { line.old.held + 32 + more ≤ 32768 }
+        ensures items { OnOk result (line.new.items ≡ line.old.items ++ drop from self.now) }
+        ensures room { OnOk result (line.new.held + more ≤ 32768) }
     {
         let count = self.len - from;
-        if count > WIDE {
-            return line.extend_from_slice(&self.long[from..]);
+        if count > FRONT_ROOM {
+            line.extend_from_slice(&self.long[from..])?;
+            return line.reserve(more);
         }
-        match self.front[from..].first_chunk::<WIDE>() {
-            Some(wide) => line.put(wide, count),
-            None => Ok(()),
+        if let Some(wide) = self.front[from..].first_chunk::<FRONT_ROOM>() {
+            line.write(wide, count);
         }
+        Ok(())
     }
 }

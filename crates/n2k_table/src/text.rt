@@ -210,7 +210,8 @@ fn push_inner_pairs(bytes: &[u8], line: &mut LineBuffer) -> Result<(), AllocErro
     };
     line.put(&pair(*first), 2)?;
     for byte in rest {
-        line.put_behind(b" ", &pair(*byte), 2)?;
+        let [high, low] = pair(*byte);
+        line.put(&[b' ', high, low], 3)?;
     }
     Ok(())
 }

@@ -1,6 +1,6 @@
--- Pairs of hexadecimal digits, by the values of the digits.
+-- Pairs of hexadecimal digits, by the values of the digits; digits lane by lane.
 use Rattle.std.proofs.Common.{◌≡◌, ℕ, zero, suc, ◌+◌, ◌*◌, ◌%◌, ◌^◌, ◌<◌, ◌≤◌, Bool, true, false, cond, eqb, ltb, not, ◌&&◌, ◌||◌, List, [], ◌∷◌, ◌++◌, length, get_or, map, take, drop, replicate, bit_and, bit_or, Fits, w8, Some, Ok, refl, sym, ap, ◌∙◌, arith, ◌-◌, inl, inr}
-use Rattle.std.specs.Char.{is_ascii_hexdigit}
+use Rattle.std.specs.Char.{is_ascii_digit, is_ascii_hexdigit}
 use Rattle.std.specs.List.{list_all, position_or_len}
 use Rattle.std.specs.Result.{result_ok}
 use Rattle.std.proofs.lemmas.Bool.{agree_below_at, and_parts, cases_Bool, eqb-true}
@@ -168,3 +168,33 @@ joined_is digits long all =
 
 pub sixteen_joined : (digits : List ℕ) → length digits ≡ 16 → (list_all is_ascii_hexdigit digits ≡ true) × (values 16 digits ≡ map hex_value digits) → joined (values 16 digits) ≡ spelled digits
 sixteen_joined digits long read = ap joined read.1 ∙ joined_is digits long read.0
+
+-- ---- decimal digits, lane by lane
+
+is_decimal : (b : ℕ) → b < 256 → top 7 (no_figure b) ≡ false → is_ascii_digit b ≡ true
+is_decimal b byte none = grind (arith, agree_below_at (λ c. top 7 (no_figure c) || is_ascii_digit c) (λ c. true) 256 b refl byte)
+
+-- the lanes of the first bytes, whose greatest figure is nine, and any others
+digits_lead : (n : ℕ) (rest bytes : List ℕ) → Each1 (Fits w8) bytes
+    → mask_l (map (top 7) (zip2 (λ a b. cond (ltb a b) 255 0) (replicate n 9 ++ rest) (figures (length bytes) bytes))) ≡ 0 → list_all is_ascii_digit (take n bytes) ≡ true
+digits_lead zero rest bytes small none = refl
+digits_lead (suc n) rest [] small none = refl
+digits_lead (suc n) rest (b ∷ bytes) small none =
+    elim (cases_Bool (top 7 (no_figure b))) [
+      | inl stops ↦ absurd (let some = rw stops at none in omega arith)
+      | inr digit ↦
+          let left = rw digit at none in
+          rw (is_decimal b small.0.fits digit) (digits_lead n rest bytes small.1 (omega arith))
+    ]
+
+length-lanes : (most figs : List ℕ) → length (map (top 7) (zip2 {A = ℕ} {B = ℕ} {C = ℕ} (λ a b. cond (ltb a b) 255 0) most figs)) ≤ length most
+length-lanes [] figs = omega arith
+length-lanes (a ∷ most) [] = omega arith
+length-lanes (a ∷ most) (b ∷ figs) = omega (arith, length-lanes most figs)
+
+pub six_of_eight : (bytes : List ℕ) → length bytes ≡ 8 → Each1 (Fits w8) bytes
+    → mask_l (map (top 7) (zip2 (λ a b. cond (ltb a b) 255 0) (9 ∷ 9 ∷ 9 ∷ 9 ∷ 9 ∷ 9 ∷ 255 ∷ 255 ∷ []) (figures 8 bytes))) % 2 ^ 64 ≡ 0 → list_all is_ascii_digit (take 6 bytes) ≡ true
+six_of_eight bytes long small none =
+    let most : List ℕ = 9 ∷ 9 ∷ 9 ∷ 9 ∷ 9 ∷ 9 ∷ 255 ∷ 255 ∷ [] in
+    let lanes = map (top 7) (zip2 {A = ℕ} {B = ℕ} {C = ℕ} (λ a b. cond (ltb a b) 255 0) most (figures 8 bytes)) in
+    digits_lead 6 (255 ∷ 255 ∷ []) bytes small (rw long (sym (mask_l-mod lanes 64 (omega (arith, length-lanes most (figures 8 bytes)))) ∙ none))

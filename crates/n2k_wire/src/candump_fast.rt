@@ -16,7 +16,7 @@ ghost use Rattle.n2k_wire.specs.Inner.Candump.{IsFramed, IsSecondFront, stamp_be
 ghost use Rattle.n2k_wire.specs.Stamp.{last_second, millis_digits, three_digits, utc_text};
 
 use crate::candump::{FIRST_ERROR_FRAME, LONGEST_INTERFACE};
-use crate::digits::{are_digits, decimal_number, eight_bytes};
+use crate::digits::{begins_with_digits, decimal_number, eight_bytes};
 use crate::entry::{Entry, set_frame_fast};
 use crate::identifier::split_id;
 use crate::pieces::after_byte;
@@ -102,11 +102,12 @@ impl SecondCache {
         ensures stamp { IfSome result (λ x. IsTrue (is_stamp x.0)) }
     {
         let (front, behind) = line.split_first_chunk::<FRONT>()?;
-        let (fraction, behind) = behind.split_first_chunk::<FRACTION>()?;
-        let text = after_byte(b')', behind)?;
-        if !are_digits(fraction) {
+        let eight = behind.first_chunk::<8>()?;
+        if !begins_with_digits(u8x8::from_array(*eight)) {
             return None;
         }
+        let (fraction, behind) = behind.split_first_chunk::<FRACTION>()?;
+        let text = after_byte(b')', behind)?;
         self.advance_to(front)?;
         Some((with_millis(&self.text, fraction), text))
     }

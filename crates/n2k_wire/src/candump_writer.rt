@@ -10,7 +10,6 @@ ghost use Rattle.n2k_wire.specs.Stamp.{last_second, utc_moment};
 ghost use Rattle.n2k_wire.specs.Texts.{Appends, candump_text};
 
 use crate::candump::FRAME_PAYLOAD;
-use crate::digits::are_digits;
 use crate::fault::WireFault;
 use crate::identifier::join_id;
 use crate::packet::Packet;
@@ -120,7 +119,7 @@ fn are_millis(behind: &[u8; MILLIS_LEN]) -> bool
     ensures { result ≡ are_millis behind.now }
 {
     let [a, b, c, end] = *behind;
-    are_digits(&[a, b, c]) && end == b'Z'
+    a.is_ascii_digit() && b.is_ascii_digit() && c.is_ascii_digit() && end == b'Z'
 }
 
 /// The second of the packet before.
@@ -146,21 +145,21 @@ impl WrittenSecond {
 
     /// Goes on to the second of a stamp, and answers what follows it in the stamp. Mostly it is that of the packet
     /// before.
-    fn advance_to(&mut self, stamp: &[u8]) -> Option<[u8; MILLIS_LEN]>
+    fn advance_to<'s>(&mut self, stamp: &'s [u8]) -> Option<&'s [u8; MILLIS_LEN]>
         requires { IsSecond self.old.stamp self.old.line }
         ensures second { IsSecond self.new.stamp self.new.line }
-        ensures some { IfSome result (λ behind. IsStampText (utc_moment stamp.now) (self.new.line ++ take 3 behind)) }
+        ensures some { IfSome result (λ behind. IsStampText (utc_moment stamp.now) (self.new.line ++ take 3 behind.now)) }
         ensures none { IfNone result (utc_moment stamp.now ≡ None) }
     {
         let (front, behind) = stamp.split_first_chunk::<SECOND_LEN>()?;
         let behind = behind.as_array::<MILLIS_LEN>()?;
         if *front == self.stamp && are_millis(behind) {
-            return Some(*behind);
+            return Some(behind);
         }
         let seen = read_utc(stamp)?;
         self.stamp = *front;
         self.line = second_front(seen.seconds);
-        Some(*behind)
+        Some(behind)
     }
 }
 
@@ -314,7 +313,7 @@ impl<'a> CandumpLines<'a> {
         append_room(FRAME_PAYLOAD, out).map_err(|_| WireFault::Memory)?;
         let parts = LineParts {
             front: &self.second.line,
-            millis: &millis,
+            millis,
             behind: &self.behind,
             identifier,
             payload: packet.data(),

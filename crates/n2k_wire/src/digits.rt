@@ -1,5 +1,5 @@
 //! Numbers as digits.
-ghost use Rattle.std.specs.Prelude.{◌≡◌, ◌<◌, ◌≤◌, ◌^◌, Some, true, length, IfSome};
+ghost use Rattle.std.specs.Prelude.{◌≡◌, ◌<◌, ◌≤◌, ◌^◌, Some, true, length, take, IfSome};
 ghost use Rattle.std.specs.Char.{is_ascii_digit, is_ascii_hexdigit};
 ghost use Rattle.std.specs.List.{list_all};
 ghost use Rattle.std.specs.Result.{result_ok};
@@ -48,12 +48,14 @@ fn decimal_digit(byte: u8) -> Option<u64>
     }
 }
 
-/// Whether each byte is a decimal digit.
-#[inline]
-pub(crate) fn are_digits(digits: &[u8]) -> bool
-    ensures { result ≡ list_all is_ascii_digit digits.now }
+/// Where it answers true the first six of eight bytes are decimal digits. All are compared at once.
+#[inline(always)]
+pub(crate) fn begins_with_digits(bytes: u8x8) -> bool
+    ensures { result ≡ true → list_all is_ascii_digit (take 6 bytes) ≡ true }
 {
-    digits.iter().all(|byte| byte.is_ascii_digit())
+    let figures = bytes - u8x8::splat(b'0');
+    let greatest = u8x8::from_array([9, 9, 9, 9, 9, 9, u8::MAX, u8::MAX]);
+    figures.simd_gt(greatest).to_bitmask() == 0
 }
 
 /// The eight bytes that sixteen hexadecimal digits spell, if all are digits. No branch goes by the kind of a digit: it

@@ -1,6 +1,7 @@
 -- The entries of a lookup, and the lookups of a table, as the code's maps have them.
-use Rattle.std.specs.Prelude.{◌≡◌, ℕ, not, List, String, string_bytes, map, Result, Ok}
+use Rattle.std.specs.Prelude.{◌≡◌, ℕ, ◌<◌, nat_eq, None, not, List, String, string_bytes, map, Result, Ok}
 use Rattle.std.specs.List.{AllByRecursion}
+use Rattle.std.specs.Map.{lookup as value_at}
 use Rattle.std.specs.declared.alloc.Global.{Global}
 use Rattle.indexmap.specs.IndexMap.{IndexMap}
 use Rattle.n2k_table.specs.declared.fault.TableFault.{TableFault}
@@ -15,6 +16,10 @@ entry_pair e = (e.0, e.1)
 -- the entries of the map, in its order
 abbrev pub map_entries : {S : Type 0} → IndexMap ℕ (List ℕ) S → List (ℕ × List ℕ)
 map_entries names = map entry_pair names.entries
+
+-- no value above the greatest has a name
+abbrev pub IsGreatest : {R : Type 0} → List (ℕ × R) → ℕ → Type 0
+IsGreatest entries greatest = (value : ℕ) → greatest < value → value_at (nat_eq value) entries ≡ None
 
 -- each lookup stands by its name; how a lookup is seen is given
 abbrev pub AreNamed : {R : Type 0} → (R → LookupParts) → List (String Global × R) → Type 0

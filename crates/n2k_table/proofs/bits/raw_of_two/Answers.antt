@@ -9,7 +9,7 @@ overflow_add-result c =
     let few = raw_lt payload c.args.at 32 in
     let rest = raw_lt payload (c.args.at + 32) (c.args.bits - 32) in
     let power = pow_le (c.args.bits - 32) 32 (omega (arith, c.requires)) in
-    omega (arith, c.raw_at_once-low.ensures, c.raw_at_once-high.ensures, few, rest, power)
+    omega (arith, c.raw_in_word-low.ensures, c.raw_in_word-high.ensures, few, rest, power)
 
 pub returns : goal.returns
 returns c =
@@ -18,4 +18,4 @@ returns c =
     let power = pow_le (c.args.bits - 32) 32 (omega (arith, c.requires)) in
     let count : 32 + (c.args.bits - 32) ≡ c.args.bits = omega (arith, c.requires) in
     let whole = ap (raw payload c.args.at) count in
-    omega (arith, c.raw_at_once-low.ensures, c.raw_at_once-high.ensures, rest, power, whole, raw_split payload c.args.at 32 (c.args.bits - 32))
+    omega (arith, c.raw_in_word-low.ensures, c.raw_in_word-high.ensures, rest, power, whole, raw_split payload c.args.at 32 (c.args.bits - 32))

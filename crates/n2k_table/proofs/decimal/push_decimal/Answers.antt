@@ -1,4 +1,4 @@
-use Rattle.std.proofs.Common.{◌++◌, ap, ◌∙◌}
+use Rattle.std.proofs.Common.{◌++◌, ℕ, List, ap, ◌∙◌}
 use Rattle.std.specs.Int.{w128}
 use Rattle.std.specs.Prelude.{unsigned_abs}
 use Rattle.std.proofs.lemmas.Int.{to_z-of_z}
@@ -11,6 +11,6 @@ use Rattle.n2k_table.proofs.decimal.push_decimal.Goals as goal
 pub returns : goal.returns
 returns c =
     let same = to_z-of_z w128 c.args.value c.ranges.value in
-    let size = c.unsigned_abs.ensures.value ∙ ap unsigned_abs same in
-    let sign = c.in_ok-push_minus.ensures ∙ ap (λ t. c.args.line.now.items ++ t) (sign_of_below _) ∙ ap (λ z. c.args.line.now.items ++ sign_of z) same in
-    on_ok c.push_size.result (λ pushed. onto c.args.value c.args.decimals c.unsigned_abs.result _ _ _ size sign (rw (← c.from.ensures) pushed)) c.push_size.ensures
+    let size = c.unsigned_abs-size.ensures.value ∙ ap unsigned_abs same in
+    let sign = (rw c.unsigned_abs-size.ensures.value at c.write_sign.ensures.items) ∙ ap (λ t. c.reserve.new.self.items ++ t) (sign_of_below _) ∙ ap (λ z. c.reserve.new.self.items ++ sign_of z) same ∙ ap (λ (t : List ℕ). t ++ sign_of c.args.value) c.in_ok-reserve.ensures.items in
+    on_ok c.push_size.result (λ pushed. onto c.args.value c.args.decimals c.unsigned_abs-size.result _ _ _ size sign (rw (← c.from.ensures) pushed)) c.push_size.ensures

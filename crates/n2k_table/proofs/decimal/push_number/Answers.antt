@@ -9,5 +9,5 @@ pub returns : goal.returns
 returns c =
     let n = c.args.number in
     on_ok c.push_size.result (λ pushed. onto (value_of n) n.resolution.decimals _ c.args.line.now.items _ _ (size_is n)
-    (rw (c.from.ensures, c.from-2.ensures) at c.in_ok-push_sign.ensures ∙ ap (λ t. c.args.line.now.items ++ t) (sign_is n))
+    (rw (c.from.ensures, c.from-2.ensures) at c.write_sign.ensures.items ∙ ap (λ t. c.args.line.now.items ++ t) (sign_is n))
     (rw (← c.from.ensures, ← c.from-2.ensures, ← c.from-3.ensures) pushed)) c.push_size.ensures

@@ -1,4 +1,4 @@
-use Rattle.std.proofs.Common.{codes}
+use Rattle.std.proofs.Common.{◌∙◌, codes, arith}
 use Rattle.n2k_table.specs.Text.{text_json}
 use Rattle.n2k_table.proofs.Members.{on_ok}
 use Rattle.n2k_table.proofs.Heads.{two_parts}
@@ -6,4 +6,8 @@ use Rattle.n2k_table.proofs.head.push_other_stamp.Goals as goal
 
 pub returns : goal.returns
 returns c =
-    on_ok c.push_text.result (λ pushed. two_parts c.args.line.now.items (codes "{\"timestamp\":") (text_json c.args.stamp.now) _ _ c.in_ok-extend_from_slice.ensures pushed) c.push_text.ensures
+    let text = two_parts c.args.line.now.items (codes "{\"timestamp\":") (text_json c.args.stamp.now) _ _ c.in_ok-extend_from_slice.ensures c.in_ok-push_text.ensures in
+    record {
+      items = on_ok c.reserve.result (λ same. same ∙ text) c.reserve.ensures.items;
+      room = on_ok c.reserve.result (λ room. omega (arith, room)) c.reserve.ensures.room;
+    }

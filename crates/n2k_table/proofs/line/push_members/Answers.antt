@@ -16,6 +16,6 @@ returns c =
 
 pub loop-field-preserved : goal.loop-field-preserved
 loop-field-preserved c = (
-  rw c.in_ok-later.ensures.1 (rw c.in_ok-later.ensures.0 (goes_on (are_null c.args.absent) c.loop-field.later c.loop-field.rest.now c.in-Some.others.now c.args.«data».now c.in-Some.field.now c.loop-field.line.items _ c.in-Some.ensures.cases.0 c.loop-field.invariant.0)),
-  rw c.in_ok-later.ensures.1 (flag_goes_on (are_null c.args.absent) c.loop-field.later _ c.loop-field.rest.now c.in-Some.others.now c.args.«data».now c.in-Some.field.now c.in-Some.ensures.cases.0 c.loop-field.invariant.1),
+  rw c.in_ok-push_member.ensures.later (rw c.in_ok-push_member.ensures.items (goes_on (are_null c.args.absent) c.loop-field.later c.loop-field.rest.now c.in-Some.others.now c.args.«data».now c.in-Some.field.now c.loop-field.line.items _ c.in-Some.ensures.cases.0 c.loop-field.invariant.0)),
+  rw c.in_ok-push_member.ensures.later (flag_goes_on (are_null c.args.absent) c.loop-field.later _ c.loop-field.rest.now c.in-Some.others.now c.args.«data».now c.in-Some.field.now c.in-Some.ensures.cases.0 c.loop-field.invariant.1),
 )

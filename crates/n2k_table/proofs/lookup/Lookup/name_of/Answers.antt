@@ -13,4 +13,9 @@ returns-in-Some c =
 pub returns-in_default : goal.returns-in_default
 returns-in_default c =
     let kept = name_of_value-entry_pair c.args.value c.self.inside.names.entries in
+    sym (c.self.invariant c.args.value c.if-value-self.true) ∙ sym (ap (λ (l : LookupParts). name_of_value l.entries c.args.value) (sym c.self.view_is) ∙ kept)
+
+pub returns-in_default-2 : goal.returns-in_default-2
+returns-in_default-2 c =
+    let kept = name_of_value-entry_pair c.args.value c.self.inside.names.entries in
     c.name_by_hash.ensures ∙ sym (ap (λ (l : LookupParts). name_of_value l.entries c.args.value) (sym c.self.view_is) ∙ kept)

@@ -1,4 +1,4 @@
-use Rattle.std.proofs.Common.{◌≡◌, Some, refl, sym, ◌∙◌, IsTrue}
+use Rattle.std.proofs.Common.{◌≡◌, take, take-take, ap, arith, Some, refl, sym, ◌∙◌, IsTrue}
 use Rattle.n2k_wire.specs.Packet.{is_stamp}
 use Rattle.n2k_wire.specs.Inner.Candump.{stamp_behind}
 use Rattle.n2k_wire.proofs.SecondCaches.{first_chunk, stamped_text}
@@ -12,9 +12,11 @@ stamped c =
     let outer = first_chunk 12 c.args.line.now c.in_ok-front.front.now c.in_ok-front.behind.now front.0 front.1 front.2 in
     let inner = first_chunk 6 c.in_ok-front.behind.now c.in_ok-fraction.fraction.now c.in_ok-fraction.behind.now fraction.0 fraction.1 fraction.2 in
     let cache = c.advance_to.new.self in
+    let window : take 6 c.in_ok-eight.eight.now ≡ c.in_ok-fraction.fraction.now = ap (take 6) c.in_ok-eight.ensures.cases.same ∙ take-take 6 8 c.in_ok-front.behind.now (omega arith) ∙ sym fraction.0 in
+    let digits = c.begins_with_digits.ensures c.if-not-begins_with_digits.false in
     let line_is = outer.1 ∙ (rw (← inner.1, c.in_ok-advance_to.ensures) refl) in
     stamped_text c.args.line.now cache.front c.in_ok-fraction.fraction.now c.in_ok-fraction.behind.now c.in_ok-text.text.now cache.text c.with_millis.result cache.seconds
-    cache.is_front cache.seconds_fit cache.is_text (sym c.if-not-are_digits.ensures) inner.0 line_is c.in_ok-text.ensures c.with_millis.ensures
+    cache.is_front cache.seconds_fit cache.is_text (rw window at digits) inner.0 line_is c.in_ok-text.ensures c.with_millis.ensures
 
 pub returns-clause-value : goal.returns-clause-value
 returns-clause-value c = (stamped (goal.at.returns-clause-value c).After-with_millis).0

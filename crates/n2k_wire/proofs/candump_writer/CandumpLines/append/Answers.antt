@@ -22,5 +22,5 @@ returns-clause-text c =
     let behind : c.self.inside.behind ≡ behind_millis c.args.self.now = c.self.invariant.1 ∙ ap behind_millis c.self.view_is in
     let before : take c.len-start.result c.as_mut_slice.result.now ≡ c.args.out.now.items = search rules in
     let long : length c.write_line-end.new.text ≡ c.append_room.new.out.len = search rules in
-    appended c.args.self.now c.advance_to.new.self.line (take 3 c.in-Some.millis) c.self.inside.behind c.args.packet.now c.in-Some-join_id.identifier c.data.result.now _ _ c.write_line-end.new.text _ _ _ _ _
+    appended c.args.self.now c.advance_to.new.self.line (take 3 c.in-Some.millis.now) c.self.inside.behind c.args.packet.now c.in-Some-join_id.identifier c.data.result.now _ _ c.write_line-end.new.text _ _ _ _ _
     (rw c.stamp.ensures.value at c.in-Some.ensures.some) joined behind c.data.ensures.value c.write_line-end.ensures before c.truncate.ensures.items long

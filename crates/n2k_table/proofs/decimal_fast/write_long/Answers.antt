@@ -3,20 +3,25 @@ use Rattle.std.proofs.lemmas.Fmt.{length-decimal-le}
 use Rattle.std.proofs.lemmas.List.{length-append, length-drop, take-replicate, drop-drop, drop-set}
 use Rattle.n2k_table.proofs.Placed.{placed, length_padded, onto_whole, onto_parts}
 use Rattle.n2k_table.specs.Decimal.{padded_digits}
-use Rattle.n2k_table.proofs.decimal_fast.push_long.Goals as goal
+use Rattle.n2k_table.proofs.decimal_fast.write_long.Goals as goal
 
 pub write_digits-first-requires : goal.write_digits-first-requires
 write_digits-first-requires c =
     let short : length (decimal c.args.size) ≤ 20 = length-decimal-le 20 c.args.size (omega arith) (omega (arith, c.ranges.size.fits)) (omega (arith, c.ranges.size.fits)) in
     (omega (arith, short), omega arith)
 
-pub push_digits-requires-clause-few : goal.push_digits-requires-clause-few
-push_digits-requires-clause-few c =
+pub write_digits_of-requires-clause-few : goal.write_digits_of-requires-clause-few
+write_digits_of-requires-clause-few c =
     let short : length (decimal c.args.size) ≤ 20 = length-decimal-le 20 c.args.size (omega arith) (omega (arith, c.ranges.size.fits)) (omega (arith, c.ranges.size.fits)) in
     omega (arith, short, c.write_digits-first.ensures.start, c.min-from.ensures, c.requires)
 
-pub returns-in_ok-push_digits-2 : goal.returns-in_ok-push_digits-2
-returns-in_ok-push_digits-2 c =
+pub write_digits_of-requires-then-decimals-gt0-clause-room : goal.write_digits_of-requires-then-decimals-gt0-clause-room
+write_digits_of-requires-then-decimals-gt0-clause-room c =
+    let short : length (decimal c.args.size) ≤ 20 = length-decimal-le 20 c.args.size (omega arith) (omega (arith, c.ranges.size.fits)) (omega (arith, c.ranges.size.fits)) in
+    omega (arith, short, c.write_digits-first.ensures.start, c.min-from.ensures, c.requires, c.write_digits_of.ensures.held)
+
+pub returns-then-decimals-gt0 : goal.returns-then-decimals-gt0
+returns-then-decimals-gt0 c =
     let n = c.args.size in
     let e = c.args.decimals in
     let digits = c.write_digits-first.new.buf in
@@ -38,7 +43,7 @@ returns-in_ok-push_digits-2 c =
     onto_parts (padded_digits n e) (drop 40 (replicate 64 48)) (drop from digits) (drop (40 - e - 1) (set digits (40 - e - 1) 46)) c.args.line.now.items _ _ (40 - e - from) e front
     (omega (arith, length_padded n e, c.write_digits-first.ensures.start, c.min-from.ensures, c.requires, short))
     (omega (arith, short, c.write_digits-first.ensures.start, c.min-from.ensures, c.requires)) (omega (arith, c.if-decimals-gt0.true)) (omega (arith, c.requires))
-    c.in_ok-push_digits.ensures here (rw count at c.in_ok-push_digits-2.ensures)
+    c.write_digits_of.ensures.items here (rw count at c.write_digits_of-then-decimals-gt0.ensures.items)
 
 pub returns-else-decimals-gt0 : goal.returns-else-decimals-gt0
 returns-else-decimals-gt0 c =
@@ -55,4 +60,4 @@ returns-else-decimals-gt0 c =
     let front : drop from digits ≡ padded_digits n e ++ drop 40 (replicate 64 48) = is ∙ ap (λ k. (replicate k 48 ++ decimal n) ++ drop 40 (replicate 64 48)) fill in
     onto_whole (padded_digits n e) (drop 40 (replicate 64 48)) (drop from digits) c.args.line.now.items _ (40 - e - from) e none front
     (omega (arith, none, length_padded n e, c.write_digits-first.ensures.start, c.min-from.ensures, short))
-    (omega (arith, short, c.write_digits-first.ensures.start, c.min-from.ensures, c.requires)) c.in_ok-push_digits.ensures
+    (omega (arith, short, c.write_digits-first.ensures.start, c.min-from.ensures, c.requires)) c.write_digits_of.ensures.items
