@@ -76,7 +76,7 @@ pub(crate) struct Lookup {
 impl Model for Lookup {
     ghost use Rattle.std.specs.Prelude.{map, string_bytes};
     ghost use Rattle.n2k_table.specs.Lookup.{LookupParts};
-    ghost use Rattle.n2k_table.specs.Inner.Entries.{IsGreatest};
+    ghost use Rattle.n2k_table.specs.Inner.Entries.{HasNoneAbove};
 
     ghost Value = { LookupParts };
 
@@ -85,7 +85,7 @@ impl Model for Lookup {
       entries = map (λ e. (e.0, e.1)) l.names.entries;
     } };
 
-    ghost invariant = { λ l. IsGreatest l.names.entries l.greatest };
+    ghost invariant = { λ l. HasNoneAbove l.names.entries l.greatest };
 }
 
 /// The lookups of a table, in file order, each by its name. It is shared by the fields that name it.

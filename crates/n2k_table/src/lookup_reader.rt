@@ -2,7 +2,7 @@
 ghost use Rattle.std.specs.Prelude.{◌≡◌, map, IfOk};
 ghost use Rattle.toml.specs.View.{view, table_view};
 ghost use Rattle.n2k_wire.specs.Views.{Gives};
-ghost use Rattle.n2k_table.specs.Inner.Entries.{map_entries, apart, IsGreatest};
+ghost use Rattle.n2k_table.specs.Inner.Entries.{map_entries, apart, HasNoneAbove};
 ghost use Rattle.n2k_table.specs.Reading.{each, ReaderGives};
 ghost use Rattle.n2k_table.specs.Lookup.{pair_in, entry, once, entries, lookup, lookups};
 
@@ -104,9 +104,9 @@ fn read_entries(alloc: Global, table: &Table) -> Result<IndexMap<u64, Name>, Tab
     by_value(alloc, each_entry(alloc, values)?)
 }
 
-/// The greatest value that has a name.
+/// The greatest value that has a name: none above it has one.
 fn greatest_of(names: &IndexMap<u64, Name>) -> u64
-    ensures { IsGreatest names.now.entries result }
+    ensures { HasNoneAbove names.now.entries result }
 {
     let mut greatest = 0;
     for at in 0..names.len() {

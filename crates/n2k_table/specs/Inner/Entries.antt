@@ -17,9 +17,9 @@ entry_pair e = (e.0, e.1)
 abbrev pub map_entries : {S : Type 0} → IndexMap ℕ (List ℕ) S → List (ℕ × List ℕ)
 map_entries names = map entry_pair names.entries
 
--- no value above the greatest has a name
-abbrev pub IsGreatest : {R : Type 0} → List (ℕ × R) → ℕ → Type 0
-IsGreatest entries greatest = (value : ℕ) → greatest < value → value_at (nat_eq value) entries ≡ None
+-- no value above this one has a name
+abbrev pub HasNoneAbove : {R : Type 0} → List (ℕ × R) → ℕ → Type 0
+HasNoneAbove entries most = (value : ℕ) → most < value → value_at (nat_eq value) entries ≡ None
 
 -- each lookup stands by its name; how a lookup is seen is given
 abbrev pub AreNamed : {R : Type 0} → (R → LookupParts) → List (String Global × R) → Type 0
