@@ -89,6 +89,12 @@ can_match kind.Number Message = true
 can_match kind.Lookup Message = true
 can_match _ _ = false
 
+-- whether a key is one that a field of the kind may have in format 3 alone
+abbrev pub is_later_key : FieldKind → Holder → List ℕ → Bool
+is_later_key kind holder key =
+    is_among key (more_keys kind) || bytes_eq key (codes "after")
+    || (can_be_short kind holder && bytes_eq key (codes "short"))
+
 -- a section of the document may have the key
 abbrev pub is_key : Section → List ℕ → Bool
 is_key Document key = is_among key (codes "format" ∷ codes "lookup" ∷ codes "pgn" ∷ [])
@@ -102,9 +108,7 @@ is_key (Repeat format) key =
 is_key (Field format kind holder) key =
     is_among key (codes "name" ∷ codes "kind" ∷ place_keys kind)
     || is_among key (own_keys kind)
-    || (is_extended format && is_among key (more_keys kind))
-    || (is_extended format && bytes_eq key (codes "after"))
-    || (is_extended format && can_be_short kind holder && bytes_eq key (codes "short"))
+    || (is_extended format && is_later_key kind holder key)
     || (can_match kind holder && bytes_eq key (codes "match"))
 
 -- each key of the table is one that such a section may have

@@ -95,7 +95,7 @@ impl TableFormat {
 }
 
 impl FieldKind {
-    ghost use Rattle.n2k_table.specs.Tree.{is_among, own_keys, more_keys, has_bits, place_keys, can_be_short, can_match};
+    ghost use Rattle.n2k_table.specs.Tree.{is_among, own_keys, more_keys, has_bits, place_keys, can_be_short, can_match, is_later_key};
 
     /// Whether a key is one that fields of the kind have beside those of every field.
     fn has_key(self, key: &str) -> bool
@@ -109,7 +109,7 @@ impl FieldKind {
         }
     }
 
-    /// Whether a key is one that fields of the kind have in format 3 alone.
+    /// Whether a key is one that fields of the kind have beside those, in format 3 alone.
     fn has_more_key(self, key: &str) -> bool
         ensures { result ≡ is_among key.now (more_keys self) }
     {
@@ -149,6 +149,13 @@ impl FieldKind {
             (FieldKind::Text | FieldKind::Bytes | FieldKind::String, Holder::Message) => true,
             _ => false,
         }
+    }
+
+    /// Whether a key is one that a field of the kind may have in format 3 alone.
+    fn has_later_key(self, holder: Holder, key: &str) -> bool
+        ensures { result ≡ is_later_key self holder key.now }
+    {
+        self.has_more_key(key) || key == "after" || (self.can_be_short(holder) && key == "short")
     }
 
     /// Whether a field of the kind may ask for a value.
@@ -203,9 +210,7 @@ impl Section {
                     || key == "kind"
                     || kind.has_place_key(key)
                     || kind.has_key(key)
-                    || (format.is_extended() && kind.has_more_key(key))
-                    || (format.is_extended() && key == "after")
-                    || (format.is_extended() && kind.can_be_short(holder) && key == "short")
+                    || (format.is_extended() && kind.has_later_key(holder, key))
                     || (kind.can_match(holder) && key == "match")
             }
         }

@@ -3,8 +3,8 @@ ghost use Rattle.std.specs.Prelude.{◌≡◌, IfOk, false};
 ghost use Rattle.clap.specs.Words.{app_of, rule_of, with_rule};
 ghost use Rattle.clap.specs.declared.builder.command.Command.TheViews.{out-Command as fields_of};
 ghost use Rattle.n2kdec.specs.Usage.{decode_app, empty_rule, flag_rule, frames_app, in_order_rule, log_rule};
-ghost use Rattle.n2kdec.specs.Usage.{option_rule, plain_app, program_app, resume_rule, save_rule, table_rule};
-ghost use Rattle.n2kdec.specs.Usage.{whole_rule, window_rule};
+ghost use Rattle.n2kdec.specs.Usage.{option_rule, plain_app, program_app, program_top, resume_rule, save_rule};
+ghost use Rattle.n2kdec.specs.Usage.{table_rule, whole_rule, window_rule};
 
 use clap::{Arg, ArgAction, Command};
 use std::alloc::{AllocError, Global};
@@ -135,9 +135,10 @@ fn frames_command<'a>(alloc: Global) -> Result<Command<'a>, AllocError>
         .arg(log_argument(alloc))
 }
 
-/// The program's command, with its subcommands and their arguments.
-pub fn program<'a>(alloc: Global) -> Result<Command<'a>, AllocError>
-    ensures { IfOk result (λ command. app_of command ≡ program_app) }
+/// The program's command without its subcommands.
+fn top<'a>(alloc: Global) -> Command<'a>
+    ensures app { app_of result ≡ program_top }
+    ensures own { (fields_of result).has_globals ≡ false }
 {
     Command::new(alloc, "n2kdec")
         .about("Decodes recorded NMEA 2000 traffic")
@@ -145,6 +146,13 @@ pub fn program<'a>(alloc: Global) -> Result<Command<'a>, AllocError>
         .subcommand_required(true)
         .arg_required_else_help(true)
         .disable_help_subcommand(true)
+}
+
+/// The program's command, with its subcommands and their arguments.
+pub fn program<'a>(alloc: Global) -> Result<Command<'a>, AllocError>
+    ensures { IfOk result (λ command. app_of command ≡ program_app) }
+{
+    top(alloc)
         .subcommand(plain_command(alloc)?)?
         .subcommand(decode_command(alloc)?)?
         .subcommand(frames_command(alloc)?)

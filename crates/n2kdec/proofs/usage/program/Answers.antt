@@ -1,4 +1,4 @@
-use Rattle.std.proofs.Common.{rules, ◌≡◌, ◌∙◌, ap, ap₂}
+use Rattle.std.proofs.Common.{◌≡◌, ◌∙◌, ap, ap₂}
 use Rattle.std.proofs.lemmas.Result.{IfOk-weaker}
 use Rattle.clap.specs.Words.{App, app_of, with_subcommand}
 use Rattle.n2kdec.specs.Usage.{decode_app, plain_app, program_app, program_top}
@@ -7,10 +7,9 @@ use Rattle.n2kdec.proofs.usage.program.Goals as goal
 pub returns : goal.returns
 unfolding program_app
 returns c =
-    let top_is : app_of c.disable_help_subcommand.result ≡ program_top = search rules in
     let first_is : app_of c.in_ok-subcommand.field-0 ≡ with_subcommand program_top plain_app.top =
     c.in_ok-subcommand.ensures.shape c.in_ok-plain_command.ensures.own
-    ∙ ap₂ with_subcommand top_is (ap (λ (a : App). a.top) c.in_ok-plain_command.ensures.app) in
+    ∙ ap₂ with_subcommand c.top.ensures.app (ap (λ (a : App). a.top) c.in_ok-plain_command.ensures.app) in
     let second_is : app_of c.in_ok-subcommand-2.field-0 ≡ with_subcommand (with_subcommand program_top plain_app.top) decode_app.top =
     c.in_ok-subcommand-2.ensures.shape c.in_ok-decode_command.ensures.own
     ∙ ap₂ with_subcommand first_is (ap (λ (a : App). a.top) c.in_ok-decode_command.ensures.app) in
