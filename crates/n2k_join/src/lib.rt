@@ -33,7 +33,7 @@
 //! groups, and a complete group is a message. A join holds the open groups alone, and one line of it is one step of
 //! that definition, on a join of any state.
 //!
-//! Each example is a test of `n2k_tests`, in the same words. In them `rt` is the runtime that `main` or a test is
+//! Each example is a test of `n2k_join_tests`, in the same words. In them `rt` is the runtime that `main` or a test is
 //! handed, and `alloc` its allocator, `rt.alloc()`; `sample_table` reads a table in which 129026 is sent in single
 //! frames and 130820 in fast packets, and `message_in(line)` is the packet of a plain line.
 #![tactic(auto)]

@@ -1,8 +1,8 @@
-//! The tests of the upper two libraries, over their public calls: groups, states and frames (`join`), devices and runs
-//! (`run`). `examples` has the examples of their doc comments, `appending` what calls that append leave, of all four
-//! libraries, `samples` what several of them take. Those of the lower two stand in `n2k_table_tests`.
+//! The tests of `n2k_run`, over its public calls (`run`), and the examples of its doc comments (`examples`); `appending` has
+//! what calls that append leave, of all four libraries. Those of the lower three stand in `n2k_table_tests` and
+//! `n2k_join_tests`.
 //!
-//! They stand in a crate of their own so that each library is proved once; a crate with tests is proved twice.
+//! They stand in crates of their own so that each library is proved once, and they side by side.
 #![tactic(auto)]
 
 #[cfg(test)]
@@ -10,8 +10,4 @@ mod appending;
 #[cfg(test)]
 mod examples;
 #[cfg(test)]
-mod join;
-#[cfg(test)]
 mod run;
-#[cfg(test)]
-mod samples;

@@ -3,8 +3,8 @@ use super::options::{
     REPEAT_BREAKS, REPEAT_BREAKS_REPORT, REPEAT_BREAKS_TEXT, TWO_SOURCES, TWO_SOURCES_TEXT, frames,
     has_summary,
 };
-use crate::samples::{long_window, shortest_window};
 use n2k_join::Join;
+use n2k_join_tests::samples::{long_window, shortest_window};
 use n2k_run::{MemorySink, MemorySource, Options, run};
 use n2k_table::Table;
 use n2k_table_tests::samples::{pairs_table, sample};

@@ -5,8 +5,8 @@ use super::options::{
 };
 use super::parts::{OVERDUE, OVERDUE_REPORTS};
 use super::sending::{SPLIT_AND_BACK, SPLIT_AND_BACK_CANDUMP, SPLIT_AND_BACK_PLAIN, frames_at};
-use crate::samples::{long_window, shortest_window, spelled};
 use n2k_join::{Join, StateFault};
+use n2k_join_tests::samples::{long_window, shortest_window, spelled};
 use n2k_run::{MemorySink, MemorySource, Options, PartFault, RunFault, run, run_part, run_parts};
 use n2k_table::Table;
 use n2k_table_tests::samples::sample;

@@ -2,8 +2,8 @@
 ghost use Rattle.std.specs.Prelude.{◌<◌};
 
 use super::options::{REPEAT_BREAKS, TWO_SOURCES, TWO_SOURCES_TEXT, frames, has_summary};
-use crate::samples::{long_window, spelled};
 use n2k_join::Window;
+use n2k_join_tests::samples::{long_window, spelled};
 use n2k_run::{MemorySink, MemorySource, Options, Part, PartFault, RunFault, run_part, run_parts};
 use n2k_table::Table;
 use n2k_table_tests::samples::sample;

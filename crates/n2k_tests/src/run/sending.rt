@@ -1,7 +1,7 @@
 //! Worked examples of messages that are written as frames, and read again.
 use super::options::{frames, has_summary};
-use crate::samples::long_window;
 use n2k_join::{Counts, Join};
+use n2k_join_tests::samples::long_window;
 use n2k_run::{MemorySink, MemorySource, RunFault, run, run_frames};
 use n2k_table::Table;
 use n2k_table_tests::samples::sample;
