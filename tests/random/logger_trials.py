@@ -443,11 +443,11 @@ SYNCED = 2  # seconds, as --sync has it
 SHUTDOWN, NO_LOG_FLUSH = 0x8004587D, struct.pack("I", 2)  # EXT4_IOC_SHUTDOWN: nothing more goes to the disk, the journal neither
 
 
-def lag():
-    """How late things are on this computer now, in seconds: beside other work, a small pipeline takes its time."""
+def lag(room):
+    """How late things are on this computer now, in seconds: beside other work, a small pipeline and a sync take their time."""
     begin = time.monotonic()
     for _ in range(3):
-        subprocess.run("date | sed s/a/b/ | sort | tail -n 1", shell=True, capture_output=True, check=False)
+        subprocess.run("date | sed s/a/b/ | sort | tail -n 1 >late && sync late", shell=True, cwd=room, check=True)
     return 5 * (time.monotonic() - begin)
 
 
@@ -522,10 +522,10 @@ def cut(program, room, chance):
         command = [sys.executable, __file__, "timed", put(room, log.lines[:half]), f"{room}/times", "12"]
         logger = boat.start(*command, words=("--raw", "--sync", os.environ.get("LOGGER_TRIALS_SYNC", str(SYNCED))), start_new_session=True)
         time.sleep(1.5 + 8 * chance.random())
-        late = lag()
+        late = lag(room)
         disk.cut()
         at = time.monotonic()
-        late = 1 + max(late, lag())
+        late = 1 + max(late, lag(room))
         for _ in range(20):
             if not (pids := [*{*tree(logger.pid), *left(boat)}]):
                 break

@@ -96,6 +96,8 @@ class Fed:
             yield f"{len(has)} rows, {len(wanted)} messages, {len(wanted - {*has})} of them missing, {len({*has} - wanted)} others"
         points = {}
         for text in texts:
+            if not any(map(message, text.splitlines())):
+                continue
             for line in feed_trials.converted("influx", text).splitlines():
                 series, fields, stamp = feed_trials.split(line)
                 points[series, stamp] = fields
@@ -158,10 +160,11 @@ class Round:
             logger = Boat.logger = subprocess.Popen(command, env=self.boat.environment, stderr=said, start_new_session=True)
         until = time.monotonic() + (30 if how == "alone" else 1 + 4 * self.chance.random())
         time.sleep(0.3 + self.chance.random())
-        since, self.lag = [], max(self.lag, lag())
+        since, self.lag = [], max(self.lag, lag(self.room))
         self.incident(part, how, what)
         while time.monotonic() < until and logger.poll() is None:
-            time.sleep(0.02)
+            time.sleep(0.1)
+            self.lag = max(self.lag, lag(self.room))
         if how == "stopped":
             logger.terminate()
             since.append(time.monotonic() - 0.3)
