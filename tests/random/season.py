@@ -167,7 +167,7 @@ class Round:
             self.lag = max(self.lag, lag(self.room))
         if how == "stopped":
             logger.terminate()
-            since.append(time.monotonic() - 0.3)
+            since.append(time.monotonic() - 0.3 - self.lag)
         elif how == "killed":
             pids = tree(logger.pid)
             at = time.monotonic()
