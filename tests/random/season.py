@@ -160,7 +160,7 @@ class Round:
             logger = Boat.logger = subprocess.Popen(command, env=self.boat.environment, stderr=said, start_new_session=True)
         until = time.monotonic() + (30 if how == "alone" else 1 + 4 * self.chance.random())
         time.sleep(0.3 + self.chance.random())
-        since, self.lag = [], max(self.lag, lag(self.room))
+        since, self.lag = [], lag(self.room)
         self.incident(part, how, what)
         while time.monotonic() < until and logger.poll() is None:
             time.sleep(0.1)
