@@ -1,5 +1,5 @@
 -- How the next line is found: what comes of the source, until the line is there.
-use Rattle.std.proofs.Common.{◌≡◌, ◌⊎◌, inl, inr, ℕ, ◌+◌, ◌-◌, ◌<◌, ◌≤◌, ◌^◌, Bool, true, false, List, [], ◌∷◌, ◌++◌, length, refl, sym, ap, ◌∙◌, subst, append_assoc, arith, length-append, Option, Ok, Err, if◌then◌else◌, append-nil, drop_at}
+use Rattle.std.proofs.Common.{◌≡◌, inl, inr, ℕ, ◌+◌, ◌<◌, ◌≤◌, Bool, true, false, List, [], ◌∷◌, ◌++◌, length, refl, sym, ap, ◌∙◌, subst, append_assoc, arith, length-append, Option, Ok, Err, if◌then◌else◌, append-nil, drop_at}
 use Rattle.std.specs.Io.KnownBytes.{IsAtEnd}
 use Rattle.std.proofs.KnownBytes.{Consumes-nil}
 use Rattle.std.proofs.lemmas.List.Elements.{All-append, All-drop}
@@ -34,11 +34,8 @@ whole-long whole bytes h long = grind (arith, length-append)
 stays_room : (whole bytes after : List ℕ) → HasNoFeed whole → Stays whole bytes → MakesRoom bytes after → Stays whole after
 stays_room whole bytes after none stays h = grind (arith, append-nil, whole-long)
 
-calls_on : (c₀ c c' r₀ r r' : ℕ) → (c + r₀ ≡ c₀ + r) ⊎ (2 ^ 64 - 1 ≤ c) → c' ≡ one_more c → r' ≡ r + 1 → (c' + r₀ ≡ c₀ + r') ⊎ (2 ^ 64 - 1 ≤ c')
-calls_on c₀ c c' r₀ r r' h is more = grind arith
-
 pub calls_more : (c₀ c c' r₀ r r' : ℕ) → CallsAre c₀ c r₀ r → c' ≡ one_more c → r' ≡ r + 1 → CallsAre c₀ c' r₀ r'
-calls_more c₀ c c' r₀ r r' (rise, so_far) is more = (omega (arith, rise, more), calls_on c₀ c c' r₀ r r' so_far is more)
+calls_more c₀ c c' r₀ r r' so_far is more = grind arith
 
 -- so many calls were made as are made at most
 pub calls_end : (calls₀ calls reads : ℕ) → CallsAre calls₀ calls 0 reads → reads ≡ most_reads → OutlastsReads calls₀ calls

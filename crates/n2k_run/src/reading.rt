@@ -50,7 +50,6 @@ fn read_more<R: Source>(
 /// let refused = read_bytes(alloc, &mut source, 2);
 /// assert!(rt; matches!(refused, Err(BytesFault::TooLong)));
 /// ```
-#[tactic(auto, using(crate::proofs::Finding::calls_more, crate::proofs::Finding::calls_end))]
 pub fn read_bytes<R: Source>(
     alloc: Global,
     reader: &mut R,
