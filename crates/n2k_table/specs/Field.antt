@@ -253,17 +253,9 @@ match_value_of kind holder bits f =
 abbrev pub short_of : FieldKind → Holder → Members → Result Bool TableFault
 short_of kind holder f = if can_be_short kind holder then bool_at (codes "short") f else Ok false
 
--- the field that a value spells behind these, in a table of that format and of these lookups
-unfoldable pub field : TableFormat → Holder → List LookupParts → List FieldParts → Data → Result FieldParts TableFault
-field format holder lookups before d = do
-  f ← as_members d
-  kind ← kind_of_field format f
-  known ← check_keys (Field format kind holder) f
-  name ← text_at (codes "name") f
-  at ← first_bit (alignment kind) f
-  bits ← bits_of kind f
-  behind ← steps_of before f
-  inside ← check_end behind at bits (end_of holder)
+-- the field of that name and at that place, by what else stands there, in a table of these lookups
+unfoldable pub field_at : List LookupParts → FieldKind → Holder → List ℕ → ℕ → ℕ → List Step → Members → Result FieldParts TableFault
+field_at lookups kind holder name at bits behind f = do
   meaning ← meaning_of lookups kind bits f
   short ← short_of kind holder f
   match_value ← match_value_of kind holder bits f
@@ -276,3 +268,16 @@ field format holder lookups before d = do
     meaning = meaning;
     match_value = match_value;
   })
+
+-- the field that a value spells behind these, in a table of that format and of these lookups
+unfoldable pub field : TableFormat → Holder → List LookupParts → List FieldParts → Data → Result FieldParts TableFault
+field format holder lookups before d = do
+  f ← as_members d
+  kind ← kind_of_field format f
+  known ← check_keys (Field format kind holder) f
+  name ← text_at (codes "name") f
+  at ← first_bit (alignment kind) f
+  bits ← bits_of kind f
+  behind ← steps_of before f
+  inside ← check_end behind at bits (end_of holder)
+  field_at lookups kind holder name at bits behind f

@@ -12,7 +12,7 @@ ghost use Rattle.n2k_table.specs.Field.{named_field_kind, more_field_kind, kind_
 ghost use Rattle.n2k_table.specs.Field.{multiple_of, first_bit, bit_count, bits_of, is_string_named};
 ghost use Rattle.n2k_table.specs.Field.{steps_through, steps_named, steps_to, steps_of, fixed_place, check_end, offset_in_range, offset_number};
 ghost use Rattle.n2k_table.specs.Field.{check_unit, number_of_bits, lookup_named, named_form, form_of, meaning_of, short_of};
-ghost use Rattle.n2k_table.specs.Field.{raw_or_none, match_value_of, field};
+ghost use Rattle.n2k_table.specs.Field.{raw_or_none, match_value_of, field_at, field};
 
 use crate::bits::greatest;
 use crate::fault::TableFault;
@@ -414,6 +414,43 @@ fn key_of(alloc: Global, name: &str, room: &mut Vec<u8>) -> Result<PaddedText, A
     PaddedText::new(alloc, room.as_slice())
 }
 
+/// Reads what else a table says of a field of that name and at that place. In the room its key is put together.
+#[tactic(auto, unfolding(crate::specs::Field::field_at))]
+fn field_at(
+    alloc: Global,
+    lookups: &Lookups,
+    kind: FieldKind,
+    holder: Holder,
+    name: &str,
+    at: u32,
+    bits: u32,
+    behind: Vec<Step>,
+    table: &Table,
+    room: &mut Vec<u8>,
+) -> Result<Field, TableFault>
+    requires known { HasBits kind bits }
+    requires fixed { fixed_place behind.items at + bits ≤ message_bits }
+    requires inside { at + bits ≤ message_bits }
+    ensures { ReaderGives (λ field. field) result
+        (field_at lookups.now kind holder name.now at bits behind.items (table_view table.now)) }
+{
+    let meaning = meaning_of(lookups, kind, bits, table)?;
+    let short = short_of(kind, holder, table)?;
+    let match_value = match_value_of(kind, holder, bits, table)?;
+    let end = bytes_needed(&behind, at, bits);
+    Ok(Field {
+        name: String::from_str(alloc, name)?,
+        key: key_of(alloc, name, room)?,
+        at,
+        bits,
+        end,
+        short,
+        behind,
+        meaning,
+        match_value,
+    })
+}
+
 /// Reads a field of a message or of a set behind these, in a table of this format and of these lookups. In the room its
 /// key is put together.
 #[tactic(auto, unfolding(crate::specs::Field::field))]
@@ -437,19 +474,7 @@ pub(crate) fn read_field(
     let bits = bits_of(kind, table)?;
     let behind = steps_of(alloc, before, table)?;
     check_end(&behind, at, bits, holder.end())?;
-    let meaning = meaning_of(lookups, kind, bits, table)?;
-    let short = short_of(kind, holder, table)?;
-    let match_value = match_value_of(kind, holder, bits, table)?;
-    let end = bytes_needed(&behind, at, bits);
-    Ok(Field {
-        name: String::from_str(alloc, name)?,
-        key: key_of(alloc, name, room)?,
-        at,
-        bits,
-        end,
-        short,
-        behind,
-        meaning,
-        match_value,
-    })
+    field_at(
+        alloc, lookups, kind, holder, name, at, bits, behind, table, room,
+    )
 }
