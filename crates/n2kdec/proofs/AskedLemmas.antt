@@ -49,11 +49,12 @@ matches_as_defined app words r is found kinds = grind (arith, program_is_free, p
 
 pub kinds_as_defined : (app : App) (words : List Text) (r : Result ArgMatches Error) → app ≡ program_app → (is_simple_and_free app ≡ true → FailsBy (fault_of app words) r)
     → IfErr r (HasKind (fault_of program_app words))
-kinds_as_defined app words r is kinds = grind (arith, program_is_free)
+kinds_as_defined app words (Ok matches) is kinds = tt
+kinds_as_defined app words (Err e) is kinds = subst (λ a. is_simple_and_free a ≡ true → HasKind (fault_of a words) e) is kinds program_is_free
 
 pub taken_as_defined : (app : App) (words : List Text) (r : Result ArgMatches Error) → app ≡ program_app → IfErr r (λ e. takes app words ≡ true → kind_of e ≡ OutOfMemory)
     → IfErr r (λ e. takes program_app words ≡ true → kind_of e ≡ OutOfMemory)
-taken_as_defined app words r is passes = grind arith
+taken_as_defined app words r is passes = subst (λ a. IfErr r (λ e. takes a words ≡ true → kind_of e ≡ OutOfMemory)) is passes
 
 -- what it shows is not known
 pub refused_as_defined : (words : List Text) (e : Error) (kind : ErrorKind) → kind ≡ kind_of e → HasKind (fault_of program_app words) e → IsRefusal (λ words. None) words kind None

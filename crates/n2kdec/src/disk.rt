@@ -7,7 +7,7 @@ use std::fs::OpenOptions;
 use std::io;
 
 /// What a path leads to, over links.
-#[derive(Clone, Copy, Debug, PartialEq, Eq)]
+#[derive(Clone, Copy, PartialEq, Eq)]
 pub struct Found {
     /// Whether it is a regular file.
     pub is_file: bool,

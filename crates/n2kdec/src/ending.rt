@@ -9,7 +9,7 @@ use n2k_join::Counts;
 const FEWEST_LINES: u64 = 100;
 
 /// How a command came to its end.
-#[derive(Clone, Copy, Debug)]
+#[derive(Clone, Copy)]
 pub struct Ending {
     /// The status that the program ends with: 0, or 1 where a line was bad.
     pub status: u8,

@@ -20,7 +20,7 @@ use std::io;
 use std::io::{Error, ErrorKind};
 
 /// Why a new file has not come to a name.
-#[derive(Clone, Copy, Debug)]
+#[derive(Clone, Copy)]
 pub enum Unplaced {
     /// The folder doesn't allow it, or the file has other names. Nothing is done to that.
     Refused,

@@ -16,7 +16,7 @@ use n2k_table::Table;
 use std::alloc::Global;
 
 /// Why the work stopped.
-#[derive(Debug, Drop)]
+#[derive(Drop)]
 pub struct Stop {
     /// What the program says.
     pub fault: Fault,
