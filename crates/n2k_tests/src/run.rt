@@ -3,9 +3,9 @@
 mod decoding;
 mod devices;
 mod growth;
-mod options;
 mod parts;
 mod plain;
+mod samples;
 mod sending;
 mod standard;
 mod texts;

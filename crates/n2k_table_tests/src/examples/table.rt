@@ -55,7 +55,12 @@ fn known_pgns(rt: HostRuntime) -> Result<(), Fail> {
     let known = table.find(130820).ok_or("Label")?;
     assert_eq!(rt; known.kind(), Kind::Fast);
     assert!(rt; table.find(59904).is_none());
+    Ok(())
+}
 
+#[test]
+fn definitions_of_a_known_pgn(rt: HostRuntime) -> Result<(), Fail> {
+    let alloc = rt.alloc();
     let table = sample_table(alloc)?;
     let known = table.find(130820).ok_or("Label")?;
     let definition = known.choose(&[0xa3, 0x99, 0x01]).ok_or("Label")?;
@@ -78,27 +83,46 @@ fn json_lines_of_a_known_pgn(rt: HostRuntime) -> Result<(), Fail> {
 }
 
 #[test]
-fn lines_in_a_buffer(rt: HostRuntime) -> Result<(), Fail> {
+fn lines_let_go(rt: HostRuntime) -> Result<(), Fail> {
     let alloc = rt.alloc();
     let mut lines = LineBuffer::new(alloc);
     lines.push_plain(&frame_in("(1.0) can0 18EAFF01#14F001")?)?;
     lines.clear();
     assert!(rt; lines.parts().1.is_empty());
+    Ok(())
+}
 
+#[test]
+fn lines_in_two_parts(rt: HostRuntime) -> Result<(), Fail> {
+    let alloc = rt.alloc();
     let mut lines = LineBuffer::new(alloc);
     lines.push_plain(&frame_in("(1.0) can0 18EAFF01#14F001")?)?;
     let (front, rest) = lines.parts();
     assert_eq!(rt; (front.len(), rest.len()), (0, 50));
+    Ok(())
+}
 
+#[test]
+fn lines_taken_out(rt: HostRuntime) -> Result<(), Fail> {
+    let alloc = rt.alloc();
     let mut lines = LineBuffer::new(alloc);
     let mut text = lines.take_lines(alloc)?;
     text.push(b'\n')?;
     lines.put_back(text);
     assert_eq!(rt; lines.parts().0, b"\n".as_slice());
+    Ok(())
+}
 
+#[test]
+fn lines_put_back(rt: HostRuntime) {
+    let alloc = rt.alloc();
     let mut lines = LineBuffer::new(alloc);
     lines.put_back(Vec::new(alloc));
+}
 
+#[test]
+fn plain_lines_in_a_buffer(rt: HostRuntime) -> Result<(), Fail> {
+    let alloc = rt.alloc();
     let mut lines = LineBuffer::new(alloc);
     lines.push_plain(&frame_in("(1.0) can0 18EAFF01#14F001")?)?;
     let wanted = "1970-01-01T00:00:01.000Z,6,59904,1,255,3,14,f0,01\n";

@@ -84,12 +84,20 @@ fn other_data(rt: HostRuntime) -> Result<(), Fail> {
     let longer = packet.with_data(&[0x20; 9]);
     assert_eq!(rt; longer.stamp(), packet.stamp());
     assert_eq!(rt; longer.data(), [0x20; 9].as_slice());
+    Ok(())
+}
 
+#[test]
+fn data_set(rt: HostRuntime) -> Result<(), Fail> {
     let mut packet = frame_in("(1.0) can0 18EAFF01#14F001")?;
     packet.set_data(&[0x20; 9]);
     assert_eq!(rt; packet.id().pgn, 59904);
     assert_eq!(rt; packet.data(), [0x20; 9].as_slice());
+    Ok(())
+}
 
+#[test]
+fn frames_set(rt: HostRuntime) -> Result<(), Fail> {
     let message = frame_in("(2.0) can0 1DFF0405#")?;
     let mut frame = frame_in("(1.0) can0 18EAFF01#14F001")?;
     frame.set_frame(&message, &[0, 11, 0xa3, 0x99, 1, 0x41, 0x42, 0x43]);

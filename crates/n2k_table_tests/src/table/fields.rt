@@ -1,6 +1,5 @@
 //! Tables of one field.
-use super::tables::{answers, with_fields};
-use std::process::Abort;
+use super::tables::field_answers;
 use std::test::Fail;
 
 // What is answered for a field: answer, field.
@@ -52,18 +51,11 @@ Range | kind = 'text', at = 0, bits = 0
 Key | kind = 'text', at = 0, bits = 8, match = 0
 Key | kind = 'bytes', at = 0, bits = 8, resolution = '1'";
 
-// A table of one field answers as the case says.
-fn field_answers<R: Abort + AllocGlobal>(rt: &R, case: &str) -> Result<(), Fail> {
-    let (wanted, field) = case.split_once(" | ").ok_or("an answer")?;
-    let field = format!(in rt.alloc(); "{{ name = 'F', {field} }}")?;
-    let text = with_fields(rt.alloc(), &field)?;
-    answers(rt, &text, wanted, case)
-}
-
 #[test]
 fn one_field_each(rt: HostRuntime) -> Result<(), Fail> {
     for case in FIELDS.lines() {
-        field_answers(&rt, case)?;
+        let (wanted, field) = case.split_once(" | ").ok_or("an answer")?;
+        field_answers(&rt, 1, field, wanted)?;
     }
     Ok(())
 }

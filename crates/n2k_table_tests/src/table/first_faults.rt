@@ -1,5 +1,5 @@
 //! Tables with several faults: the first is answered, in the order of docs/PROFILE.md.
-use super::tables::{answers, with_fields};
+use super::tables::{answers, of_format};
 use std::process::Abort;
 use std::test::Fail;
 
@@ -77,7 +77,7 @@ fn first_of_definition(rt: HostRuntime) -> Result<(), Fail> {
 
 fn first_of_fields<R: Abort + AllocGlobal>(rt: &R, case: &str) -> Result<(), Fail> {
     let (wanted, fields) = case.split_once(" | ").ok_or("an answer")?;
-    let text = with_fields(rt.alloc(), fields)?;
+    let text = of_format(rt.alloc(), 1, fields)?;
     answers(rt, &text, wanted, case)
 }
 

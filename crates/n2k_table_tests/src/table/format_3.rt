@@ -1,8 +1,9 @@
 //! Tables of format 3, and what they show.
-use super::lines::printed;
-use super::tables::{answers, of_format};
+use super::lines::prints;
+use super::shown::{field_shows, with_field};
+use super::tables::{answers, field_answers};
 use crate::samples::read;
-use n2k_table::{Flag, Shown};
+use n2k_table::{Flag, Flags, Shown};
 use std::alloc::{AllocError, Global};
 use std::process::Abort;
 use std::test::Fail;
@@ -64,17 +65,6 @@ Key | kind = 'text', at = 0, bits = 8, form = 'lau'";
 
 // Keys that are none in format 2.
 const NEW_KEYS: [&str; 2] = ["offset = -40", "unit = 'C'"];
-
-fn field_answers<R: Abort + AllocGlobal>(
-    rt: &R,
-    format: u32,
-    field: &str,
-    wanted: &str,
-) -> Result<(), Fail> {
-    let field = format!(in rt.alloc(); "{{ name = 'F', {field} }}")?;
-    let text = of_format(rt.alloc(), format, &field)?;
-    answers(rt, &text, wanted, &field)
-}
 
 #[test]
 fn one_field_each(rt: HostRuntime) -> Result<(), Fail> {
@@ -154,12 +144,9 @@ fn sets_are_shown(rt: HostRuntime) -> Result<(), Fail> {
     let field = "kind = 'flags', at = 0, bits = 8, lookup = 'L'";
     let text = with_set(rt.alloc(), "bits = 8", field)?;
     let table = read(rt.alloc(), &text)?;
-    let line = printed(rt.alloc(), &table, 65280, &[0x05, 0x00, 0xff], false)?;
-    assert_eq!(rt;
-        line.as_str(),
-        "\"D\",\"fields\":{\"list\":[{\"F\":[\"Zero\",2]},{\"F\":[]},{}]}"
-    );
-    Ok(())
+    let data = [0x05, 0x00, 0xff];
+    let fields = "\"list\":[{\"F\":[\"Zero\",2]},{\"F\":[]},{}]";
+    prints(&rt, &table, (65280, &data), false, "D", fields)
 }
 
 // Sample 3 without strings: what stands behind them stands from the first byte on.
@@ -196,9 +183,7 @@ fn alarms(rt: HostRuntime) -> Result<(), Fail> {
     )?;
     let table = read(rt.alloc(), &text)?;
     for (data, empty, fields) in &ALARMS_SHOWN {
-        let line = printed(rt.alloc(), &table, 130823, data, *empty)?;
-        let wanted = format!(in rt.alloc(); "\"D\",\"fields\":{{{fields}}}")?;
-        assert_eq!(rt; line.as_str(), wanted.as_str());
+        prints(&rt, &table, (130823, *data), *empty, "D", fields)?;
     }
     Ok(())
 }
@@ -311,43 +296,30 @@ const SHORT_BYTES: &str = "kind = 'bytes', at = 8, bits = 24, short = true";
 
 const FLAGS: &str = "kind = 'flags', at = 0, bits = 8, lookup = 'L'";
 
-fn field_shows<R: Abort + AllocGlobal>(
-    rt: &R,
-    field: &str,
-    data: &[u8],
-    value: &str,
-) -> Result<(), Fail> {
-    let fields = format!(in rt.alloc(); "{{ name = 'F', {field} }}")?;
-    let text = of_format(rt.alloc(), 3, &fields)?;
-    let table = read(rt.alloc(), &text)?;
-    let line = printed(rt.alloc(), &table, 65280, data, true)?;
-    let wanted = format!(in rt.alloc(); "\"D\",\"fields\":{{\"F\":{value}}}")?;
-    assert_eq!(rt; line.as_str(), wanted.as_str(), "{field}");
-    Ok(())
-}
-
 #[test]
 fn shown(rt: HostRuntime) -> Result<(), Fail> {
     for (field, data, value) in &SHOWN {
-        field_shows(&rt, field, data, value)?;
+        field_shows(&rt, 3, field, data, value)?;
     }
     Ok(())
 }
 
+// What the next bit that is set is.
+fn next_flag_is<R: Abort>(rt: &R, flags: &mut Flags<'_>, wanted: Option<Flag<'_>>) {
+    assert_eq!(rt; flags.next(), wanted);
+}
+
 #[test]
 fn each_bit_is_answered(rt: HostRuntime) -> Result<(), Fail> {
-    let fields = format!(in rt.alloc(); "{{ name = 'F', {FLAGS} }}")?;
-    let text = of_format(rt.alloc(), 3, &fields)?;
-    let table = read(rt.alloc(), &text)?;
+    let table = with_field(rt.alloc(), 3, FLAGS)?;
     let data = [0x0c];
     let definition = table.choose(65280, &data).ok_or("a definition")?;
-    let (_, shown) = definition.fields(&data).next().ok_or("a field")?;
-    let Shown::Flags(mut flags) = shown else {
+    let Some((_, Shown::Flags(mut flags))) = definition.fields(&data).next() else {
         return Err(Fail::from("flags"));
     };
-    assert_eq!(rt; flags.next(), Some(Flag::Bit(2)));
-    assert_eq!(rt; flags.next(), Some(Flag::Name("Three")));
-    assert_eq!(rt; flags.next(), None);
-    assert_eq!(rt; flags.next(), None);
+    next_flag_is(&rt, &mut flags, Some(Flag::Bit(2)));
+    next_flag_is(&rt, &mut flags, Some(Flag::Name("Three")));
+    next_flag_is(&rt, &mut flags, None);
+    next_flag_is(&rt, &mut flags, None);
     Ok(())
 }

@@ -2,45 +2,51 @@
 use crate::samples::{SAMPLE, pairs_table, read, replaced, sample, sample_2};
 use n2k_table::{Table, json_line};
 use n2k_wire::{Id, Packet};
-use std::alloc::Global;
+use std::alloc::{AllocError, Global};
 use std::process::Abort;
 use std::test::Fail;
 
-// The line that a table prints of these data, after a line that stands before it.
-fn line_of(
-    alloc: Global,
-    table: &Table,
-    pgn: u32,
-    data: &[u8],
-    empty: bool,
-) -> Result<String, Fail> {
+fn packet(pgn: u32, data: &[u8]) -> Option<Packet> {
     let id = Id {
         prio: 2,
         pgn,
         src: 36,
         dst: 255,
     };
-    let packet = Packet::new(b"a \"b\\c", id, data).ok_or("a packet")?;
-    let mut out = Vec::from_slice(alloc, b"before\n")?;
-    json_line(alloc, table, &packet, empty, &mut out)?;
-    Ok(String::from_utf8(out)?)
+    Packet::new(b"a \"b\\c", id, data)
 }
 
-// The object of the fields that a table prints of these data.
-pub(crate) fn printed(
+// The line that a table prints of a packet, after a line that stands before it.
+fn line_of(
     alloc: Global,
     table: &Table,
-    pgn: u32,
-    data: &[u8],
+    packet: &Packet,
     empty: bool,
-) -> Result<String, Fail> {
-    let head = format!(in alloc;
-        "before\n{{\"timestamp\":\"a \\\"b\\\\c\",\"prio\":2,\"src\":36,\"dst\":255,\"pgn\":{pgn},\"description\":"
+) -> Result<Vec<u8>, AllocError> {
+    let mut out = Vec::from_slice(alloc, b"before\n")?;
+    json_line(alloc, table, packet, empty, &mut out)?;
+    Ok(out)
+}
+
+// A table prints this description and these fields of these data.
+pub(crate) fn prints<R: Abort + AllocGlobal>(
+    rt: &R,
+    table: &Table,
+    (pgn, data): (u32, &[u8]),
+    empty: bool,
+    description: &str,
+    fields: &str,
+) -> Result<(), Fail> {
+    let packet = packet(pgn, data).ok_or("a packet")?;
+    let line = line_of(rt.alloc(), table, &packet, empty)?;
+    let wanted = format!(in rt.alloc();
+        "before\n{{\"timestamp\":\"a \\\"b\\\\c\",\"prio\":2,\"src\":36,\"dst\":255,\"pgn\":{pgn},\"description\":\"{description}\",\"fields\":{{{fields}}}}}\n"
     )?;
-    let text = line_of(alloc, table, pgn, data, empty)?;
-    let rest = text.strip_prefix(head.as_str()).ok_or("another head")?;
-    let rest = rest.strip_suffix("}\n").ok_or("another end")?;
-    Ok(String::from_str(alloc, rest)?)
+    assert!(rt;
+        line.as_slice() == wanted.as_bytes(),
+        "{line:?} and not {wanted}"
+    );
+    Ok(())
 }
 
 // A PGN, data, whether absent fields are printed, and the fields that are.
@@ -151,11 +157,8 @@ fn line_shows<R: Abort + AllocGlobal>(
     case: &(u32, &[u8], bool, &str),
 ) -> Result<(), Fail> {
     let (pgn, data, empty, fields) = *case;
-    let line = printed(rt.alloc(), table, pgn, data, empty)?;
     let description = description_of(pgn, data);
-    let wanted = format!(in rt.alloc(); "\"{description}\",\"fields\":{{{fields}}}")?;
-    assert_eq!(rt; line.as_str(), wanted.as_str(), "{fields}");
-    Ok(())
+    prints(rt, table, (pgn, data), empty, description, fields)
 }
 
 #[test]
@@ -191,23 +194,12 @@ const PAIRS_LINES: [(&[u8], bool, &str); 8] = [
     (&[], true, "\"SID\":null,\"list\":[]"),
 ];
 
-fn pairs_show<R: Abort + AllocGlobal>(
-    rt: &R,
-    table: &Table,
-    case: &(&[u8], bool, &str),
-) -> Result<(), Fail> {
-    let (data, empty, fields) = *case;
-    let line = printed(rt.alloc(), table, 130822, data, empty)?;
-    let wanted = format!(in rt.alloc(); "\"Sample: Pairs\",\"fields\":{{{fields}}}")?;
-    assert_eq!(rt; line.as_str(), wanted.as_str(), "{fields}");
-    Ok(())
-}
-
 #[test]
 fn pairs(rt: HostRuntime) -> Result<(), Fail> {
     let table = pairs_table(rt.alloc())?;
-    for case in &PAIRS_LINES {
-        pairs_show(&rt, &table, case)?;
+    for (data, empty, fields) in &PAIRS_LINES {
+        let packet = (130822, *data);
+        prints(&rt, &table, packet, *empty, "Sample: Pairs", fields)?;
     }
     Ok(())
 }
@@ -234,7 +226,13 @@ fn a_name_before_an_absent_value(rt: HostRuntime) -> Result<(), Fail> {
     )?;
     let table = read(rt.alloc(), &text)?;
     let data = [0x00, 0xff, 0, 0, 0xfe, 0xff, 0xff, 0xff];
-    let line = printed(rt.alloc(), &table, 129026, &data, false)?;
-    assert!(rt; line.ends_with("{\"SID\":0,\"COG Reference\":\"None\",\"COG\":0.0000}"));
-    Ok(())
+    let fields = "\"SID\":0,\"COG Reference\":\"None\",\"COG\":0.0000";
+    prints(
+        &rt,
+        &table,
+        (129026, &data),
+        false,
+        "COG & SOG, Rapid Update",
+        fields,
+    )
 }

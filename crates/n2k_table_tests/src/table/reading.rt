@@ -1,5 +1,5 @@
 //! Tables with one change each.
-use super::tables::answers;
+use super::tables::{answers, changed};
 use crate::samples::{PAIRS, SAMPLE, SAMPLE_ID, replaced, sample, sample_2};
 use n2k_table::{Kind, Table, TableFault};
 use std::process::Abort;
@@ -135,19 +135,10 @@ fn format_alone_reads(rt: HostRuntime) -> Result<(), Fail> {
     Ok(())
 }
 
-// The sample with one change answers as the case says.
-fn changed<R: Abort + AllocGlobal>(rt: &R, case: &str) -> Result<(), Fail> {
-    let (wanted, change) = case.split_once(" | ").ok_or("an answer")?;
-    let change = change.replace(rt.alloc(), "'", "\"")?;
-    let (old, new) = change.split_once(" | ").ok_or("a replacement")?;
-    let text = replaced(rt.alloc(), SAMPLE, old, new)?;
-    answers(rt, &text, wanted, case)
-}
-
 #[test]
 fn one_change_each(rt: HostRuntime) -> Result<(), Fail> {
     for case in CHANGES.lines() {
-        changed(&rt, case)?;
+        changed(&rt, SAMPLE, ("'", "\""), case)?;
     }
     Ok(())
 }

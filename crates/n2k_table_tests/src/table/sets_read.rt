@@ -1,7 +1,6 @@
 //! What a table says of sets whose strings say how long they are, and of sets behind a string: what reads, and what is
 //! answered where it does not.
-use super::tables::answers;
-use crate::samples::replaced;
+use super::tables::{answers, changed};
 use std::process::Abort;
 use std::test::Fail;
 
@@ -49,11 +48,7 @@ Text | format = 3 | format = 2";
 fn sets_that_vary(rt: HostRuntime) -> Result<(), Fail> {
     answers(&rt, NAMES, "reads", "names")?;
     for case in CHANGES.lines() {
-        let (wanted, change) = case.split_once(" | ").ok_or("an answer")?;
-        let (old, new) = change.split_once(" | ").ok_or("a change")?;
-        let old = old.replace(rt.alloc(), "~", "\n")?;
-        let new = new.replace(rt.alloc(), "~", "\n")?;
-        answers(&rt, &replaced(rt.alloc(), NAMES, &old, &new)?, wanted, case)?;
+        changed(&rt, NAMES, ("~", "\n"), case)?;
     }
     Ok(())
 }

@@ -1,5 +1,6 @@
 //! What sets show whose strings say how long they are, and sets behind a string.
-use super::lines::printed;
+use super::lines::prints;
+use super::shown::{next_is, set_of, sets_of};
 use crate::samples::read;
 use n2k_table::Shown;
 use std::process::Abort;
@@ -133,11 +134,14 @@ const SHOWN: [(u32, &[u8], &str); 21] = [
 fn sets_that_vary(rt: HostRuntime) -> Result<(), Fail> {
     let table = read(rt.alloc(), NAMES)?;
     for (pgn, data, fields) in &SHOWN {
-        let line = printed(rt.alloc(), &table, *pgn, data, false)?;
-        let wanted = format!(in rt.alloc(); "\"D\",\"fields\":{{{fields}}}")?;
-        assert_eq!(rt; line.as_str(), wanted.as_str());
+        prints(&rt, &table, (*pgn, *data), false, "D", fields)?;
     }
     Ok(())
+}
+
+// A number without decimals.
+fn whole(value: i128) -> Shown<'static> {
+    Shown::Number { value, decimals: 0 }
 }
 
 // The sets of a message as callers have them, and none for good behind the last.
@@ -145,16 +149,15 @@ fn sets_that_vary(rt: HostRuntime) -> Result<(), Fail> {
 fn sets_are_answered(rt: HostRuntime) -> Result<(), Fail> {
     let table = read(rt.alloc(), NAMES)?;
     let data = [7, 1, 3, 1, 0x41, 2, 2, 1, 3, 9];
-    let definition = table.choose(130824, &data).ok_or("a definition")?;
-    let mut sets = definition.repeat(&data).ok_or("sets")?;
-    let mut first = sets.next().ok_or("a set")?;
-    assert!(rt; matches!(first.next(), Some(("Id", Shown::Number { value: 1, .. }))));
-    assert_eq!(rt; first.next(), Some(("Name", Shown::Utf8("A"))));
-    assert!(rt; first.next().is_none());
-    let mut second = sets.next().ok_or("a set")?;
-    assert!(rt; matches!(second.next(), Some(("Id", Shown::Number { value: 2, .. }))));
-    assert_eq!(rt; second.next(), Some(("Name", Shown::Absent)));
-    assert!(rt; second.next().is_none());
+    let mut sets = sets_of(&table, 130824, &data)?;
+    let mut first = set_of(&mut sets)?;
+    next_is(&rt, &mut first, Some(("Id", whole(1))));
+    next_is(&rt, &mut first, Some(("Name", Shown::Utf8("A"))));
+    next_is(&rt, &mut first, None);
+    let mut second = set_of(&mut sets)?;
+    next_is(&rt, &mut second, Some(("Id", whole(2))));
+    next_is(&rt, &mut second, Some(("Name", Shown::Absent)));
+    next_is(&rt, &mut second, None);
     assert!(rt; sets.next().is_none());
     assert!(rt; sets.next().is_none());
     Ok(())

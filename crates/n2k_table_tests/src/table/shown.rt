@@ -1,8 +1,8 @@
 //! What numbers, fields and sets show.
-use super::lines::printed;
-use super::tables::with_fields;
+use super::lines::prints;
+use super::tables::of_format;
 use crate::samples::{pairs_table, read};
-use n2k_table::{Fields, Shown, Table, decimal_text};
+use n2k_table::{Fields, Sets, Shown, Table, decimal_text};
 use std::alloc::Global;
 use std::mem::ManuallyDrop;
 use std::process::Abort;
@@ -268,33 +268,36 @@ const SHOWN_OF_EIGHT: [(&str, [u8; 8], &str); 20] = [
     ),
 ];
 
-// A table of this one field.
-fn with_field(alloc: Global, field: &str) -> Result<ManuallyDrop<Table>, Fail> {
+// A table of this format, of this one field.
+pub(crate) fn with_field(
+    alloc: Global,
+    format: u32,
+    field: &str,
+) -> Result<ManuallyDrop<Table>, Fail> {
     let fields = format!(in alloc; "{{ name = 'F \"', {field} }}")?;
-    let text = with_fields(alloc, &fields)?;
+    let text = of_format(alloc, format, &fields)?;
     Ok(read(alloc, &text)?)
 }
 
-fn field_shows<R: Abort + AllocGlobal>(
+pub(crate) fn field_shows<R: Abort + AllocGlobal>(
     rt: &R,
+    format: u32,
     field: &str,
     data: &[u8],
     value: &str,
 ) -> Result<(), Fail> {
-    let table = with_field(rt.alloc(), field)?;
-    let line = printed(rt.alloc(), &table, 65280, data, true)?;
-    let wanted = format!(in rt.alloc(); "\"D\",\"fields\":{{\"F \\\"\":{value}}}")?;
-    assert_eq!(rt; line.as_str(), wanted.as_str(), "{field}");
-    Ok(())
+    let table = with_field(rt.alloc(), format, field)?;
+    let fields = format!(in rt.alloc(); "\"F \\\"\":{value}")?;
+    prints(rt, &table, (65280, data), true, "D", &fields)
 }
 
 #[test]
 fn single_fields(rt: HostRuntime) -> Result<(), Fail> {
     for (field, data, value) in &SHOWN {
-        field_shows(&rt, field, data, value)?;
+        field_shows(&rt, 1, field, data, value)?;
     }
     for (field, data, value) in &SHOWN_OF_EIGHT {
-        field_shows(&rt, field, data, value)?;
+        field_shows(&rt, 1, field, data, value)?;
     }
     Ok(())
 }
@@ -309,22 +312,30 @@ fn a_line_longer_than_its_room(rt: HostRuntime) -> Result<(), Fail> {
     value.push_str("\"")?;
     field_shows(
         &rt,
+        1,
         "kind = 'text', at = 0, bits = 1784",
         &[1; 223],
         value.as_str(),
     )
 }
 
-fn next_is<R: Abort>(
+// What the next field is.
+pub(crate) fn next_is<R: Abort>(
     rt: &R,
     fields: &mut Fields<'_>,
-    name: &str,
-    shown: Shown<'_>,
-) -> Result<(), Fail> {
-    let field = fields.next().ok_or("a field")?;
-    assert_eq!(rt; field.0, name);
-    assert_eq!(rt; field.1, shown, "{name}");
-    Ok(())
+    wanted: Option<(&str, Shown<'_>)>,
+) {
+    assert_eq!(rt; fields.next(), wanted);
+}
+
+// The sets that a table shows of these data.
+pub(crate) fn sets_of<'a>(table: &'a Table, pgn: u32, data: &'a [u8]) -> Result<Sets<'a>, Fail> {
+    let definition = table.choose(pgn, data).ok_or("a definition")?;
+    Ok(definition.repeat(data).ok_or("sets")?)
+}
+
+pub(crate) fn set_of<'a>(sets: &mut Sets<'a>) -> Result<Fields<'a>, Fail> {
+    Ok(sets.next().ok_or("a set")?)
 }
 
 // Of the second pair, the number: a set's fields are shown in the set's own bytes.
@@ -332,10 +343,9 @@ fn next_is<R: Abort>(
 fn each_set_is_shown(rt: HostRuntime) -> Result<(), Fail> {
     let table = pairs_table(rt.alloc())?;
     let data = [0x01, 0x0a, 0x64, 0x00, 0x0b, 0x9c, 0xff, 0x0c, 0x00];
-    let definition = table.choose(130822, &data).ok_or("a definition")?;
-    let mut sets = definition.repeat(&data).ok_or("sets")?;
-    assert!(rt; sets.next().is_some());
-    let mut second = sets.next().ok_or("a second set")?;
+    let mut sets = sets_of(&table, 130822, &data)?;
+    set_of(&mut sets)?;
+    let mut second = set_of(&mut sets)?;
     let id = Shown::Number {
         value: 11,
         decimals: 0,
@@ -344,9 +354,9 @@ fn each_set_is_shown(rt: HostRuntime) -> Result<(), Fail> {
         value: -100,
         decimals: 1,
     };
-    next_is(&rt, &mut second, "Id", id)?;
-    next_is(&rt, &mut second, "Value", value)?;
-    assert!(rt; second.next().is_none());
+    next_is(&rt, &mut second, Some(("Id", id)));
+    next_is(&rt, &mut second, Some(("Value", value)));
+    next_is(&rt, &mut second, None);
     assert!(rt; sets.next().is_none());
     assert!(rt; sets.next().is_none());
     let cog = table.choose(129026, &data).ok_or("another")?;

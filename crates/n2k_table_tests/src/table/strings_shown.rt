@@ -1,7 +1,10 @@
 //! What strings show, and the fields behind them.
-use super::lines::printed;
+use super::lines::prints;
+use super::shown::next_is;
 use crate::samples::read;
-use n2k_table::Shown;
+use n2k_table::{Shown, Table};
+use std::alloc::Global;
+use std::mem::ManuallyDrop;
 use std::process::Abort;
 use std::test::Fail;
 
@@ -101,9 +104,7 @@ const SHOWN: [(u32, &[u8], bool, &str); 14] = [
 fn texts_are_shown(rt: HostRuntime) -> Result<(), Fail> {
     let table = read(rt.alloc(), TEXTS)?;
     for (pgn, data, empty, fields) in &SHOWN {
-        let line = printed(rt.alloc(), &table, *pgn, data, *empty)?;
-        let wanted = format!(in rt.alloc(); "\"D\",\"fields\":{{{fields}}}")?;
-        assert_eq!(rt; line.as_str(), wanted.as_str());
+        prints(&rt, &table, (*pgn, *data), *empty, "D", fields)?;
     }
     Ok(())
 }
@@ -165,19 +166,32 @@ const STRINGS: [(&str, &[u8], &str); 27] = [
     ("'lau', short = true", &[9, 1, 1, 0x41], "null,null"),
 ];
 
+// A table of a string and a number behind it.
+fn with_string(alloc: Global, string: &str) -> Result<ManuallyDrop<Table>, Fail> {
+    let text = format!(in alloc;
+        "format = 3\n[[pgn]]\nnumber = 65280\nkind = 'fast'\ndescription = 'D'\nfields = [\n\
+        {{ name = 'S', kind = 'string', {PAIR}{string} }},\n\
+        {{ name = 'N', kind = 'number', at = 0, bits = 8, after = 'S' }} ]\n"
+    )?;
+    Ok(read(alloc, &text)?)
+}
+
+fn string_shows<R: Abort + AllocGlobal>(
+    rt: &R,
+    string: &str,
+    data: &[u8],
+    values: &str,
+) -> Result<(), Fail> {
+    let table = with_string(rt.alloc(), string)?;
+    let (shown, behind) = values.rsplit_once(",").ok_or("two values")?;
+    let fields = format!(in rt.alloc(); "\"S\":{shown},\"N\":{behind}")?;
+    prints(rt, &table, (65280, data), true, "D", &fields)
+}
+
 #[test]
 fn strings(rt: HostRuntime) -> Result<(), Fail> {
     for (string, data, values) in &STRINGS {
-        let text = format!(in rt.alloc();
-            "format = 3\n[[pgn]]\nnumber = 65280\nkind = 'fast'\ndescription = 'D'\nfields = [\n\
-            {{ name = 'S', kind = 'string', {PAIR}{string} }},\n\
-            {{ name = 'N', kind = 'number', at = 0, bits = 8, after = 'S' }} ]\n"
-        )?;
-        let table = read(rt.alloc(), &text)?;
-        let line = printed(rt.alloc(), &table, 65280, data, true)?;
-        let (shown, behind) = values.rsplit_once(",").ok_or("two values")?;
-        let wanted = format!(in rt.alloc(); "\"D\",\"fields\":{{\"S\":{shown},\"N\":{behind}}}")?;
-        assert_eq!(rt; line.as_str(), wanted.as_str(), "{string}");
+        string_shows(&rt, string, data, values)?;
     }
     Ok(())
 }
@@ -189,11 +203,11 @@ fn strings_are_answered(rt: HostRuntime) -> Result<(), Fail> {
     let data = [4, 1, 0xc3, 0x84, 2, 0xc4, 0x40];
     let definition = table.choose(130823, &data).ok_or("a definition")?;
     let mut fields = definition.fields(&data);
-    assert_eq!(rt; fields.next(), Some(("A", Shown::Utf8("\u{c4}"))));
-    assert_eq!(rt; fields.next(), Some(("B", Shown::Text(&[0xc4]))));
-    assert_eq!(rt; fields.next(), Some(("C", Shown::Absent)));
+    next_is(&rt, &mut fields, Some(("A", Shown::Utf8("\u{c4}"))));
+    next_is(&rt, &mut fields, Some(("B", Shown::Text(&[0xc4]))));
+    next_is(&rt, &mut fields, Some(("C", Shown::Absent)));
     let data = [7, 0, 0x3d, 0xd8, 0x40, 0x00, 0x41];
     let mut fields = definition.fields(&data);
-    assert_eq!(rt; fields.next(), Some(("A", Shown::Wide(&[0x3d, 0xd8]))));
+    next_is(&rt, &mut fields, Some(("A", Shown::Wide(&[0x3d, 0xd8]))));
     Ok(())
 }

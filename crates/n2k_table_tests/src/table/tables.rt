@@ -1,5 +1,5 @@
 //! What the tests of tables take: tables of one field, and what reading a table answers.
-use crate::samples::read;
+use crate::samples::{read, replaced};
 use std::alloc::{AllocError, Global};
 use std::process::Abort;
 use std::test::Fail;
@@ -24,14 +24,36 @@ pub(crate) fn answers<R: Abort + AllocGlobal>(
     Ok(())
 }
 
-// A table of format 1 with a lookup and one definition, of these fields.
-pub(crate) fn with_fields(alloc: Global, fields: &str) -> Result<String, AllocError> {
-    of_format(alloc, 1, fields)
+// A text with one change answers as the case says: the answer, a part of the text, and what takes its place. In a case one
+// mark stands for another text.
+pub(crate) fn changed<R: Abort + AllocGlobal>(
+    rt: &R,
+    text: &str,
+    (mark, meant): (&str, &str),
+    case: &str,
+) -> Result<(), Fail> {
+    let (wanted, change) = case.split_once(" | ").ok_or("an answer")?;
+    let change = change.replace(rt.alloc(), mark, meant)?;
+    let (old, new) = change.split_once(" | ").ok_or("a replacement")?;
+    let text = replaced(rt.alloc(), text, old, new)?;
+    answers(rt, &text, wanted, case)
 }
 
-// The same of another format.
+// A table of this format with a lookup and one definition, of these fields.
 pub(crate) fn of_format(alloc: Global, format: u32, fields: &str) -> Result<String, AllocError> {
     format!(in alloc;
         "format = {format}\npgn = [{{ number = 65280, kind = 'fast', description = 'D', fields = [{fields}] }}]\nlookup = [{{ name = 'L', entries = [[3, 'Three'], [0, 'z\u{e9}ro \"0\"']] }}]\n"
     )
+}
+
+// A table of this format, of this one field, answers so.
+pub(crate) fn field_answers<R: Abort + AllocGlobal>(
+    rt: &R,
+    format: u32,
+    field: &str,
+    wanted: &str,
+) -> Result<(), Fail> {
+    let field = format!(in rt.alloc(); "{{ name = 'F', {field} }}")?;
+    let text = of_format(rt.alloc(), format, &field)?;
+    answers(rt, &text, wanted, &field)
 }

@@ -2,25 +2,37 @@
 use n2k_wire::{
     BadCause, Entry, LONGEST_LINE, LineReader, Packet, Packing, plain_text, read_line, split_id,
 };
-use std::alloc::Global;
+use std::alloc::{AllocError, Global};
 use std::process::Abort;
 use std::test::Fail;
 
 // A packet's plain text behind a word.
-fn text_behind(alloc: Global, word: &str, packet: &Packet) -> Result<String, Fail> {
+fn text_behind(alloc: Global, word: &str, packet: &Packet) -> Result<Vec<u8>, AllocError> {
     let mut text = word.as_bytes().to_vec(alloc)?;
     plain_text(alloc, packet, &mut text)?;
-    Ok(String::from_utf8(text)?)
+    Ok(text)
 }
 
 // An entry: its plain text, with `whole` in front where it is no frame; the cause it is bad for; or `skipped`.
-fn text_of(alloc: Global, entry: &Entry) -> Result<String, Fail> {
+fn text_of(alloc: Global, entry: &Entry) -> Result<Vec<u8>, AllocError> {
     match entry {
-        Entry::Skip => Ok("skipped".to_string(alloc)?),
-        Entry::Bad(cause) => Ok(format!(in alloc; "{cause:?}")?),
+        Entry::Skip => b"skipped".to_vec(alloc),
+        Entry::Bad(cause) => Ok(format!(in alloc; "{cause:?}")?.into_bytes()),
         Entry::Frame(packet) => text_behind(alloc, "", packet),
         Entry::Whole(packet) => text_behind(alloc, "whole ", packet),
     }
+}
+
+// An entry has this text.
+fn tells<R: Abort + AllocGlobal>(
+    rt: &R,
+    entry: &Entry,
+    wanted: &[u8],
+    case: &str,
+) -> Result<(), Fail> {
+    let text = text_of(rt.alloc(), entry)?;
+    assert_eq!(rt; text.as_slice(), wanted, "of {case}");
+    Ok(())
 }
 
 // A line is read as the case says.
@@ -30,9 +42,8 @@ fn reads<R: Abort + AllocGlobal>(
     packing: Packing,
     wanted: &str,
 ) -> Result<(), Fail> {
-    let text = text_of(rt.alloc(), &read_line(line.as_bytes(), packing))?;
-    assert_eq!(rt; text.as_str(), wanted, "of {line}");
-    Ok(())
+    let entry = read_line(line.as_bytes(), packing);
+    tells(rt, &entry, wanted.as_bytes(), line)
 }
 
 // A candump line, and what it is read as.
@@ -367,9 +378,7 @@ fn reads_next<R: Abort + AllocGlobal>(
     wanted: &str,
 ) -> Result<(), Fail> {
     let entry = reader.read(line.as_bytes(), Packing::Frames);
-    let text = text_of(rt.alloc(), entry)?;
-    assert_eq!(rt; text.as_str(), wanted, "of {line}");
-    Ok(())
+    tells(rt, entry, wanted.as_bytes(), line)
 }
 
 #[test]
@@ -408,9 +417,11 @@ fn whole_lines(rt: HostRuntime) -> Result<(), Fail> {
 fn the_longest_message(rt: HostRuntime) -> Result<(), Fail> {
     let packet = Packet::new(b"x", split_id(0), &[0xab; 223]).ok_or("refused")?;
     let text = text_behind(rt.alloc(), "", &packet)?;
-    let line = text.strip_suffix("\n").ok_or("no line")?;
+    let (last, line) = text.split_last().ok_or("no line")?;
+    assert_eq!(rt; *last, b'\n');
     let wanted = text_behind(rt.alloc(), "whole ", &packet)?;
-    reads(&rt, line, Packing::Frames, &wanted)
+    let entry = read_line(line, Packing::Frames);
+    tells(&rt, &entry, &wanted, "the longest")
 }
 
 // Lines of so many bytes, and what they are read as.
@@ -430,9 +441,8 @@ fn long_reads<R: Abort + AllocGlobal>(
     wanted: &str,
 ) -> Result<(), Fail> {
     let line = vec![in rt.alloc(); byte; len]?;
-    let text = text_of(rt.alloc(), &read_line(&line, Packing::Frames))?;
-    assert_eq!(rt; text.as_str(), wanted, "{len} of {byte}");
-    Ok(())
+    let entry = read_line(&line, Packing::Frames);
+    tells(rt, &entry, wanted.as_bytes(), wanted)
 }
 
 #[test]

@@ -171,7 +171,7 @@ fn runs_that_send_and_are_counted(rt: HostRuntime) -> Result<(), Fail> {
 }
 
 #[test]
-fn whole_reads_and_writes(rt: HostRuntime) -> Result<(), Fail> {
+fn whole_reads(rt: HostRuntime) -> Result<(), Fail> {
     let alloc = rt.alloc();
     let mut source = MemorySource::new(b"abc", 1, 0);
     let bytes = read_bytes(alloc, &mut source, 3)?;
@@ -179,20 +179,29 @@ fn whole_reads_and_writes(rt: HostRuntime) -> Result<(), Fail> {
     let mut source = MemorySource::new(b"abc", 1, 0);
     let refused = read_bytes(alloc, &mut source, 2);
     assert!(rt; matches!(refused, Err(BytesFault::TooLong)));
-
-    let mut sink = MemorySink::new(alloc, 1, 0);
-    assert_eq!(rt; write_all(&mut sink, b"abc"), Ok(()));
-    assert_eq!(rt; sink.bytes(), b"abc".as_slice());
     Ok(())
 }
 
 #[test]
-fn reports(rt: HostRuntime) -> Result<(), Fail> {
+fn whole_writes(rt: HostRuntime) {
+    let alloc = rt.alloc();
+    let mut sink = MemorySink::new(alloc, 1, 0);
+    assert_eq!(rt; write_all(&mut sink, b"abc"), Ok(()));
+    assert_eq!(rt; sink.bytes(), b"abc".as_slice());
+}
+
+#[test]
+fn reports_of_bad_lines(rt: HostRuntime) -> Result<(), Fail> {
     let alloc = rt.alloc();
     let mut text = Vec::new(alloc);
     bad_text(alloc, 3, BadCause::Data, &mut text)?;
     assert_eq!(rt; text.as_slice(), "line 3 bad B6 data\n".as_bytes());
+    Ok(())
+}
 
+#[test]
+fn reports_of_broken_groups(rt: HostRuntime) -> Result<(), Fail> {
+    let alloc = rt.alloc();
     let group = Broken {
         pgn: 130820,
         src: 5,
@@ -204,17 +213,26 @@ fn reports(rt: HostRuntime) -> Result<(), Fail> {
     broken_text(alloc, 3, &group, &mut text)?;
     let report = "line 3 broken pgn 130820 src 5 dst 255 seq 3 first 1\n";
     assert_eq!(rt; text.as_slice(), report.as_bytes());
+    Ok(())
+}
 
+#[test]
+fn summaries(rt: HostRuntime) -> Result<(), Fail> {
+    let alloc = rt.alloc();
     let mut text = Vec::new(alloc);
     summary_text(alloc, &Counts::NONE, &mut text)?;
     let summary = "lines 0 messages 0 bad 0 unknown 0 broken 0 open 0\n";
     assert_eq!(rt; text.as_slice(), summary.as_bytes());
+    Ok(())
+}
 
+#[test]
+fn summaries_written(rt: HostRuntime) {
+    let alloc = rt.alloc();
     let mut err = MemorySink::new(alloc, 4096, 0);
     assert_eq!(rt; write_summary(&Counts::NONE, &mut err), Ok(()));
     let summary = "lines 0 messages 0 bad 0 unknown 0 broken 0 open 0\n";
     assert_eq!(rt; err.bytes(), summary.as_bytes());
-    Ok(())
 }
 
 #[test]

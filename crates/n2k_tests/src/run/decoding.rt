@@ -1,11 +1,10 @@
 //! Worked examples of logs that are decoded.
-use super::options::{
-    REPEAT_BREAKS, REPEAT_BREAKS_REPORT, REPEAT_BREAKS_TEXT, TWO_SOURCES, TWO_SOURCES_TEXT, frames,
-    has_summary,
+use super::samples::{
+    Outputs, REPEAT_BREAKS, REPEAT_BREAKS_REPORT, REPEAT_BREAKS_TEXT, TWO_SOURCES,
+    TWO_SOURCES_TEXT, decode, empty_outputs, frames, has_printed, has_summary,
 };
-use n2k_join::Join;
 use n2k_join_tests::samples::{long_window, shortest_window};
-use n2k_run::{MemorySink, MemorySource, Options, run};
+use n2k_run::Options;
 use n2k_table::Table;
 use n2k_table_tests::samples::{pairs_table, sample};
 use n2k_wire::Packing;
@@ -158,25 +157,10 @@ fn decodes<R: Abort + AllocGlobal>(
     options: Options,
     piece: usize,
 ) -> Result<(), Fail> {
-    if piece == 0 {
-        return Err("no piece".into());
-    }
-    let mut join = Join::new(rt.alloc(), table, options.window);
-    let mut reader = MemorySource::new(log, piece, 0);
-    let mut writer = MemorySink::new(rt.alloc(), piece, 0);
-    let mut reporter = MemorySink::new(rt.alloc(), piece, 0);
-    run(
-        rt.alloc(),
-        table,
-        &mut join,
-        options,
-        &mut reader,
-        &mut writer,
-        &mut reporter,
-    )?;
-    assert_eq!(rt; writer.bytes(), example.text.as_bytes());
-    assert_eq!(rt; reporter.bytes(), example.reports.as_bytes());
-    has_summary(rt, &join.counts(), example.summary)
+    let mut outputs = empty_outputs(rt.alloc(), piece);
+    let counts = decode(rt.alloc(), table, options, log, piece, &mut outputs)?;
+    has_printed(rt, &outputs, example.text, example.reports);
+    has_summary(rt, &counts, example.summary)
 }
 
 const PIECES: [usize; 5] = [1, 7, 4095, 4096, 100_000];
@@ -378,30 +362,18 @@ fn stamps_of(alloc: Global, text: &str) -> Result<Vec<String>, Fail> {
 }
 
 // What is printed of a log.
-fn printed<R: AllocGlobal>(rt: &R, table: &Table, log: &[u8]) -> Result<MemorySink, Fail> {
-    let window = long_window();
-    let mut join = Join::new(rt.alloc(), table, window);
-    let mut reader = MemorySource::new(log, 1000, 0);
-    let mut writer = MemorySink::new(rt.alloc(), 1000, 0);
-    let mut reporter = MemorySink::new(rt.alloc(), 1000, 0);
-    run(
-        rt.alloc(),
-        table,
-        &mut join,
-        frames(window),
-        &mut reader,
-        &mut writer,
-        &mut reporter,
-    )?;
-    Ok(writer)
+fn printed(alloc: Global, table: &Table, log: &[u8]) -> Result<Outputs, Fail> {
+    let mut outputs = empty_outputs(alloc, 1000);
+    decode(alloc, table, frames(long_window()), log, 1000, &mut outputs)?;
+    Ok(outputs)
 }
 
 // Each printed line is one JSON text. That its members stand in their order the texts above show.
 #[test]
 fn each_line_is_read_by_serde_json(rt: HostRuntime) -> Result<(), Fail> {
     let table = sample(rt.alloc())?;
-    let writer = printed(&rt, &table, STAMPS.as_bytes())?;
-    let stamps = stamps_of(rt.alloc(), std::str::from_utf8(writer.bytes())?)?;
+    let outputs = printed(rt.alloc(), &table, STAMPS.as_bytes())?;
+    let stamps = stamps_of(rt.alloc(), std::str::from_utf8(outputs.text.bytes())?)?;
     assert_eq!(rt; stamps.len(), 2);
     assert_eq!(rt; stamps[0].as_str(), "\"\\");
     assert_eq!(rt; stamps[1].as_str(), "2017-08-17T14:12:12.106Z");

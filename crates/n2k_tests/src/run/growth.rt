@@ -1,25 +1,32 @@
 //! What refused memory leaves of runs. `tests/faults/refused-growth` lets each growth fail in turn: the answer is that
 //! with ample memory or a refusal, and what was written is a front of what ample memory gives.
-use super::options::{
-    REPEAT_BREAKS, REPEAT_BREAKS_REPORT, REPEAT_BREAKS_TEXT, TWO_SOURCES, TWO_SOURCES_TEXT, frames,
-};
 use super::parts::{OVERDUE, OVERDUE_REPORTS};
+use super::samples::{
+    Outputs, REPEAT_BREAKS, REPEAT_BREAKS_REPORT, REPEAT_BREAKS_TEXT, TWO_SOURCES,
+    TWO_SOURCES_TEXT, decode, empty_outputs, frames, source,
+};
 use super::sending::{SPLIT_AND_BACK, SPLIT_AND_BACK_CANDUMP, SPLIT_AND_BACK_PLAIN, frames_at};
-use n2k_join::{Join, StateFault};
+use n2k_join::StateFault;
 use n2k_join_tests::samples::{long_window, shortest_window, spelled};
-use n2k_run::{MemorySink, MemorySource, Options, PartFault, RunFault, run, run_part, run_parts};
+use n2k_run::{MemorySink, Options, PartFault, RunFault, run_part, run_parts};
 use n2k_table::Table;
 use n2k_table_tests::samples::sample;
 use std::process::Abort;
 use std::test::Fail;
 
 // All of a text was written, or a front of it.
-fn holds<R: Abort>(rt: &R, whole: bool, sink: &MemorySink, text: &str) {
+fn is_written<R: Abort>(rt: &R, whole: bool, sink: &MemorySink, text: &str) {
     if whole {
         assert_eq!(rt; sink.bytes(), text.as_bytes());
     } else {
         assert!(rt; text.as_bytes().starts_with(sink.bytes()));
     }
+}
+
+// The same of both outputs.
+fn holds<R: Abort>(rt: &R, whole: bool, outputs: &Outputs, text: &str, reports: &str) {
+    is_written(rt, whole, &outputs.text, text);
+    is_written(rt, whole, &outputs.reports, reports);
 }
 
 // Whether a run met a refusal: its own, or that of a sink in memory, which fails as a device does.
@@ -34,22 +41,10 @@ fn run_leaves_a_front<R: Abort + AllocGlobal>(
     text: &str,
     reports: &str,
 ) {
-    let window = long_window();
-    let mut join = Join::new(rt.alloc(), table, window);
-    let mut reader = MemorySource::new(log.as_bytes(), 60, 0);
-    let mut writer = MemorySink::new(rt.alloc(), 10, 0);
-    let mut reporter = MemorySink::new(rt.alloc(), 10, 0);
-    let answer = run(
-        rt.alloc(),
-        table,
-        &mut join,
-        frames(window),
-        &mut reader,
-        &mut writer,
-        &mut reporter,
-    );
-    holds(rt, answer.is_ok(), &writer, text);
-    holds(rt, answer.is_ok(), &reporter, reports);
+    let (options, log) = (frames(long_window()), log.as_bytes());
+    let mut outputs = empty_outputs(rt.alloc(), 10);
+    let answer = decode(rt.alloc(), table, options, log, 60, &mut outputs);
+    holds(rt, answer.is_ok(), &outputs, text, reports);
     if let Err(fault) = answer {
         assert!(rt; is_refused(fault));
     }
@@ -80,25 +75,22 @@ fn part_leaves_a_front<R: Abort + AllocGlobal>(
     text: &str,
     reports: &str,
 ) {
-    let mut reader = MemorySource::new(log.as_bytes(), 60, 0);
-    let mut writer = MemorySink::new(rt.alloc(), 10, 0);
-    let mut reporter = MemorySink::new(rt.alloc(), 10, 0);
+    let mut outputs = empty_outputs(rt.alloc(), 10);
     let answer = run_part(
         rt.alloc(),
         table,
         state,
         options,
-        &mut reader,
-        &mut writer,
-        &mut reporter,
+        &mut source(log.as_bytes(), 60),
+        &mut outputs.text,
+        &mut outputs.reports,
     );
-    holds(rt, answer.is_ok(), &writer, text);
-    holds(rt, answer.is_ok(), &reporter, reports);
+    holds(rt, answer.is_ok(), &outputs, text, reports);
     match answer {
         Ok(_) | Err(PartFault::Memory) => {}
         Err(PartFault::State(fault)) => {
             assert!(rt; fault == StateFault::Memory);
-            assert!(rt; writer.bytes().is_empty() && reporter.bytes().is_empty());
+            assert!(rt; outputs.text.bytes().is_empty() && outputs.reports.bytes().is_empty());
         }
         Err(PartFault::Run(fault)) => assert!(rt; is_refused(fault)),
         Err(PartFault::Stopped(_, _)) => assert!(rt; false, "stopped"),
@@ -168,18 +160,16 @@ fn refused_memory_in_parts(rt: HostRuntime) {
             return;
         }
     }
-    let mut writer = MemorySink::new(rt.alloc(), 10, 0);
-    let mut reporter = MemorySink::new(rt.alloc(), 10, 0);
+    let mut outputs = empty_outputs(rt.alloc(), 10);
     let answer = run_parts(
         rt.alloc(),
         &table,
         frames(long_window()),
         &lines,
-        &mut writer,
-        &mut reporter,
+        &mut outputs.text,
+        &mut outputs.reports,
     );
-    holds(&rt, answer.is_ok(), &writer, TWO_SOURCES_TEXT);
-    holds(&rt, answer.is_ok(), &reporter, "");
+    holds(&rt, answer.is_ok(), &outputs, TWO_SOURCES_TEXT, "");
     match answer {
         Ok(_) | Err(PartFault::Memory) => {}
         Err(PartFault::State(fault)) => assert!(rt; fault == StateFault::Memory),
@@ -194,19 +184,10 @@ fn frames_leave_a_front<R: Abort + AllocGlobal>(
     interface: Option<&str>,
     text: &str,
 ) {
-    let mut reader = MemorySource::new(SPLIT_AND_BACK.as_bytes(), 60, 0);
-    let mut writer = MemorySink::new(rt.alloc(), 10, 0);
-    let mut reporter = MemorySink::new(rt.alloc(), 10, 0);
-    let answer = frames_at(
-        rt.alloc(),
-        table,
-        interface,
-        &mut reader,
-        &mut writer,
-        &mut reporter,
-    );
-    holds(rt, answer.is_ok(), &writer, text);
-    holds(rt, answer.is_ok(), &reporter, "");
+    let log = SPLIT_AND_BACK.as_bytes();
+    let mut outputs = empty_outputs(rt.alloc(), 10);
+    let answer = frames_at(rt.alloc(), table, interface, log, 60, &mut outputs);
+    holds(rt, answer.is_ok(), &outputs, text, "");
     if let Err(fault) = answer {
         assert!(rt; is_refused(fault));
     }

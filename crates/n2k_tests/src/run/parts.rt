@@ -1,7 +1,8 @@
 //! Worked examples of logs in parts.
-ghost use Rattle.std.specs.Prelude.{◌<◌};
-
-use super::options::{REPEAT_BREAKS, TWO_SOURCES, TWO_SOURCES_TEXT, frames, has_summary};
+use super::samples::{
+    Outputs, REPEAT_BREAKS, TWO_SOURCES, TWO_SOURCES_TEXT, empty_outputs, frames, has_printed,
+    has_summary, source,
+};
 use n2k_join::Window;
 use n2k_join_tests::samples::{long_window, spelled};
 use n2k_run::{MemorySink, MemorySource, Options, Part, PartFault, RunFault, run_part, run_parts};
@@ -92,25 +93,33 @@ fn is_left<R: Abort + AllocGlobal>(
     has_summary(rt, &part.counts, summary)
 }
 
-// The parts of a log, run in turn, give what the log gives.
+// The parts of a log, run in turn.
+fn joined(
+    alloc: Global,
+    table: &Table,
+    options: Options,
+    parts: &[&[u8]],
+    to: &mut Outputs,
+) -> Result<Part, PartFault> {
+    run_parts(alloc, table, options, parts, &mut to.text, &mut to.reports)
+}
+
+// The parts of a log give what the log gives.
 fn gives<R: Abort + AllocGlobal>(
     rt: &R,
     table: &Table,
     parts: &[&[u8]],
     example: &Example,
 ) -> Result<(), Fail> {
-    let mut writer = MemorySink::new(rt.alloc(), 4096, 0);
-    let mut reporter = MemorySink::new(rt.alloc(), 4096, 0);
-    let last = run_parts(
+    let mut outputs = empty_outputs(rt.alloc(), 4096);
+    let last = joined(
         rt.alloc(),
         table,
         frames(long_window()),
         parts,
-        &mut writer,
-        &mut reporter,
+        &mut outputs,
     )?;
-    assert_eq!(rt; writer.bytes(), example.text.as_bytes());
-    assert_eq!(rt; reporter.bytes(), example.reports.as_bytes());
+    has_printed(rt, &outputs, example.text, example.reports);
     is_left(rt, &last, example.state, example.summary)
 }
 
@@ -245,49 +254,56 @@ fn part_of_log(
     options: Options,
     state: Option<&[u8]>,
     log: &[u8],
-    writer: &mut MemorySink,
-    reporter: &mut MemorySink,
+    to: &mut Outputs,
 ) -> Result<Part, PartFault> {
-    let mut reader = MemorySource::new(log, 4096, 0);
-    run_part(alloc, table, state, options, &mut reader, writer, reporter)
+    run_part(
+        alloc,
+        table,
+        state,
+        options,
+        &mut source(log, 4096),
+        &mut to.text,
+        &mut to.reports,
+    )
 }
 
 // two-sources, as one part without a state
 #[test]
 fn one_part_from_the_beginning(rt: HostRuntime) -> Result<(), Fail> {
     let table = sample(rt.alloc())?;
-    let mut writer = MemorySink::new(rt.alloc(), 7, 0);
-    let mut reporter = MemorySink::new(rt.alloc(), 7, 0);
-    let part = part_of_log(
-        rt.alloc(),
-        &table,
-        frames(long_window()),
-        None,
-        TWO_SOURCES.as_bytes(),
-        &mut writer,
-        &mut reporter,
-    )?;
-    assert_eq!(rt; writer.bytes(), TWO_SOURCES_TEXT.as_bytes());
-    assert_eq!(rt; reporter.bytes(), b"".as_slice());
+    let (options, log) = (frames(long_window()), TWO_SOURCES.as_bytes());
+    let mut outputs = empty_outputs(rt.alloc(), 7);
+    let part = part_of_log(rt.alloc(), &table, options, None, log, &mut outputs)?;
+    has_printed(&rt, &outputs, TWO_SOURCES_TEXT, "");
     is_left(&rt, &part, EXAMPLES[1].state, EXAMPLES[1].summary)
 }
 
+// The part behind a state as it is spelled.
+fn resume(
+    alloc: Global,
+    table: &Table,
+    options: Options,
+    state: &str,
+    log: &str,
+    to: &mut Outputs,
+) -> Result<Part, Fail> {
+    let state = spelled(alloc, state)?;
+    let (state, log) = (Some(state.as_bytes()), log.as_bytes());
+    Ok(part_of_log(alloc, table, options, state, log, to)?)
+}
+
 fn goes_on<R: Abort + AllocGlobal>(rt: &R, table: &Table, resumed: &Resumed) -> Result<(), Fail> {
-    let mut writer = MemorySink::new(rt.alloc(), 7, 0);
-    let mut reporter = MemorySink::new(rt.alloc(), 7, 0);
-    let window = Window::new(resumed.window).ok_or("no window")?;
-    let state = spelled(rt.alloc(), resumed.state)?;
-    let part = part_of_log(
+    let options = frames(Window::new(resumed.window).ok_or("no window")?);
+    let mut outputs = empty_outputs(rt.alloc(), 7);
+    let part = resume(
         rt.alloc(),
         table,
-        frames(window),
-        Some(state.as_bytes()),
-        resumed.log.as_bytes(),
-        &mut writer,
-        &mut reporter,
+        options,
+        resumed.state,
+        resumed.log,
+        &mut outputs,
     )?;
-    assert_eq!(rt; writer.bytes(), resumed.text.as_bytes());
-    assert_eq!(rt; reporter.bytes(), resumed.reports.as_bytes());
+    has_printed(rt, &outputs, resumed.text, resumed.reports);
     has_summary(rt, &part.counts, resumed.summary)
 }
 
@@ -315,30 +331,13 @@ const OUT_OF_ORDER: &str =
 #[test]
 fn a_part_without_the_order_is_completed_in_order(rt: HostRuntime) -> Result<(), Fail> {
     let table = sample(rt.alloc())?;
-    let any_order = frames(long_window());
-    let in_order = frames(long_window().in_order());
-    let mut writer = MemorySink::new(rt.alloc(), 7, 0);
-    let mut reporter = MemorySink::new(rt.alloc(), 7, 0);
-    let front = part_of_log(
-        rt.alloc(),
-        &table,
-        any_order,
-        None,
-        ONE_THEN_ZERO.as_bytes(),
-        &mut writer,
-        &mut reporter,
-    )?;
-    part_of_log(
-        rt.alloc(),
-        &table,
-        in_order,
-        Some(front.state.as_slice()),
-        TWO.as_bytes(),
-        &mut writer,
-        &mut reporter,
-    )?;
-    assert_eq!(rt; writer.bytes(), OUT_OF_ORDER.as_bytes());
-    assert_eq!(rt; reporter.bytes(), b"".as_slice());
+    let mut outputs = empty_outputs(rt.alloc(), 7);
+    let (options, log) = (frames(long_window()), ONE_THEN_ZERO.as_bytes());
+    let front = part_of_log(rt.alloc(), &table, options, None, log, &mut outputs)?;
+    let (options, state) = (frames(long_window().in_order()), front.state.as_slice());
+    let log = TWO.as_bytes();
+    part_of_log(rt.alloc(), &table, options, Some(state), log, &mut outputs)?;
+    has_printed(&rt, &outputs, OUT_OF_ORDER, "");
     Ok(())
 }
 
@@ -346,21 +345,12 @@ fn a_part_without_the_order_is_completed_in_order(rt: HostRuntime) -> Result<(),
 #[test]
 fn parts_in_order_print_no_message_out_of_order(rt: HostRuntime) -> Result<(), Fail> {
     let table = sample(rt.alloc())?;
-    let mut writer = MemorySink::new(rt.alloc(), 7, 0);
-    let mut reporter = MemorySink::new(rt.alloc(), 7, 0);
-    run_parts(
-        rt.alloc(),
-        &table,
-        frames(long_window().in_order()),
-        &[ONE_THEN_ZERO.as_bytes(), TWO.as_bytes()],
-        &mut writer,
-        &mut reporter,
-    )?;
-    assert_eq!(rt; writer.bytes(), b"".as_slice());
-    assert_eq!(rt;
-        reporter.bytes(),
-        b"line 2 broken pgn 130820 src 5 dst 255 seq 0 first 1\n".as_slice()
-    );
+    let parts = [ONE_THEN_ZERO.as_bytes(), TWO.as_bytes()];
+    let options = frames(long_window().in_order());
+    let mut outputs = empty_outputs(rt.alloc(), 7);
+    joined(rt.alloc(), &table, options, &parts, &mut outputs)?;
+    let report = "line 2 broken pgn 130820 src 5 dst 255 seq 0 first 1\n";
+    has_printed(&rt, &outputs, "", report);
     Ok(())
 }
 
@@ -388,34 +378,41 @@ fn cut_inside_a_line(rt: HostRuntime) -> Result<(), Fail> {
     )
 }
 
-// The log of two sources in pieces of this size, where this read fails: what is printed, and the state that is left.
-fn stops_with_read<R: Abort + AllocGlobal>(
-    rt: &R,
+// The log of two sources in pieces of this size, where this read fails.
+fn with_failing_read(
+    alloc: Global,
     table: &Table,
     piece: usize,
     failing_read: u64,
-    text: &str,
-    left: &str,
-    summary: &str,
-) -> Result<(), Fail>
-    requires { 0 < piece }
-{
-    let mut reader = MemorySource::new(TWO_SOURCES.as_bytes(), piece, failing_read);
-    let mut writer = MemorySink::new(rt.alloc(), 7, 0);
-    let mut reporter = MemorySink::new(rt.alloc(), 7, 0);
-    let answer = run_part(
-        rt.alloc(),
+    to: &mut Outputs,
+) -> Result<Part, PartFault> {
+    let log = TWO_SOURCES.as_bytes();
+    run_part(
+        alloc,
         table,
         None,
         frames(long_window()),
-        &mut reader,
-        &mut writer,
-        &mut reporter,
-    );
+        &mut MemorySource::new(log, piece.max(1), failing_read),
+        &mut to.text,
+        &mut to.reports,
+    )
+}
+
+// What is printed where that read fails, and the state that is left.
+fn stops_with_read<R: Abort + AllocGlobal>(
+    rt: &R,
+    table: &Table,
+    (piece, failing_read): (usize, u64),
+    text: &str,
+    left: &str,
+    summary: &str,
+) -> Result<(), Fail> {
+    let mut outputs = empty_outputs(rt.alloc(), 7);
+    let answer = with_failing_read(rt.alloc(), table, piece, failing_read, &mut outputs);
     let Err(PartFault::Stopped(RunFault::Read, part)) = answer else {
         return Err("the read was taken".into());
     };
-    assert_eq!(rt; writer.bytes(), text.as_bytes());
+    assert_eq!(rt; outputs.text.bytes(), text.as_bytes());
     is_left(rt, &part, left, summary)
 }
 
@@ -431,8 +428,8 @@ const ONE_OPEN: &str = "lines 3 messages 1 bad 0 unknown 0 broken 0 open 1\n";
 #[test]
 fn a_failed_read_leaves_a_state(rt: HostRuntime) -> Result<(), Fail> {
     let table = sample(rt.alloc())?;
-    stops_with_read(&rt, &table, 60, 3, "", AFTER_TWO, TWO_OPEN)?;
-    stops_with_read(&rt, &table, 43, 4, XY, AFTER_THREE, ONE_OPEN)
+    stops_with_read(&rt, &table, (60, 3), "", AFTER_TWO, TWO_OPEN)?;
+    stops_with_read(&rt, &table, (43, 4), XY, AFTER_THREE, ONE_OPEN)
 }
 
 // A state of as many lines as are counted.
@@ -442,18 +439,11 @@ const FULL: &str =
 #[test]
 fn no_line_past_the_last(rt: HostRuntime) -> Result<(), Fail> {
     let table = sample(rt.alloc())?;
-    let mut writer = MemorySink::new(rt.alloc(), 7, 0);
-    let mut reporter = MemorySink::new(rt.alloc(), 7, 0);
+    let options = frames(long_window());
+    let mut outputs = empty_outputs(rt.alloc(), 7);
     let full = spelled(rt.alloc(), FULL)?;
-    let answer = part_of_log(
-        rt.alloc(),
-        &table,
-        frames(long_window()),
-        Some(full.as_bytes()),
-        b"\n",
-        &mut writer,
-        &mut reporter,
-    );
+    let state = Some(full.as_bytes());
+    let answer = part_of_log(rt.alloc(), &table, options, state, b"\n", &mut outputs);
     let Err(PartFault::Stopped(RunFault::TooManyLines, part)) = answer else {
         return Err("one line more was taken".into());
     };
@@ -461,25 +451,22 @@ fn no_line_past_the_last(rt: HostRuntime) -> Result<(), Fail> {
     Ok(())
 }
 
-// What a log's run answers where the third write of a device fails.
-fn fails<R: AllocGlobal>(
-    rt: &R,
+// What a log's run answers where this write of the output fails, and this one of the reports, and what was written.
+fn failed(
+    alloc: Global,
     table: &Table,
-    log: &[u8],
-    writer: &mut MemorySink,
-    reporter: &mut MemorySink,
-) -> Option<RunFault> {
-    match part_of_log(
-        rt.alloc(),
-        table,
-        frames(long_window()),
-        None,
-        log,
-        writer,
-        reporter,
-    ) {
-        Err(PartFault::Run(fault)) => Some(fault),
-        _ => None,
+    log: &str,
+    failing_write: u64,
+    failing_report: u64,
+) -> (Option<RunFault>, Outputs) {
+    let options = frames(long_window());
+    let mut outputs = Outputs {
+        text: MemorySink::new(alloc, 10, failing_write),
+        reports: MemorySink::new(alloc, 10, failing_report),
+    };
+    match part_of_log(alloc, table, options, None, log.as_bytes(), &mut outputs) {
+        Err(PartFault::Run(fault)) => (Some(fault), outputs),
+        _ => (None, outputs),
     }
 }
 
@@ -487,12 +474,9 @@ fn fails<R: AllocGlobal>(
 #[test]
 fn a_failed_write_leaves_a_front(rt: HostRuntime) -> Result<(), Fail> {
     let table = sample(rt.alloc())?;
-    let mut writer = MemorySink::new(rt.alloc(), 10, 3);
-    let mut reporter = MemorySink::new(rt.alloc(), 10, 0);
-    let log = TWO_SOURCES.as_bytes();
-    let fault = fails(&rt, &table, log, &mut writer, &mut reporter);
+    let (fault, outputs) = failed(rt.alloc(), &table, TWO_SOURCES, 3, 0);
     assert_eq!(rt; fault, Some(RunFault::Write));
-    assert_eq!(rt; writer.bytes(), b"{\"timestamp\":\"1970-0".as_slice());
+    assert_eq!(rt; outputs.text.bytes(), b"{\"timestamp\":\"1970-0".as_slice());
     Ok(())
 }
 
@@ -500,11 +484,8 @@ fn a_failed_write_leaves_a_front(rt: HostRuntime) -> Result<(), Fail> {
 #[test]
 fn a_failed_report_leaves_a_front(rt: HostRuntime) -> Result<(), Fail> {
     let table = sample(rt.alloc())?;
-    let mut writer = MemorySink::new(rt.alloc(), 10, 0);
-    let mut reporter = MemorySink::new(rt.alloc(), 10, 3);
-    let log = REPEAT_BREAKS.as_bytes();
-    let fault = fails(&rt, &table, log, &mut writer, &mut reporter);
+    let (fault, outputs) = failed(rt.alloc(), &table, REPEAT_BREAKS, 0, 3);
     assert_eq!(rt; fault, Some(RunFault::Report));
-    assert_eq!(rt; reporter.bytes(), b"line 3 broken pgn 13".as_slice());
+    assert_eq!(rt; outputs.reports.bytes(), b"line 3 broken pgn 13".as_slice());
     Ok(())
 }

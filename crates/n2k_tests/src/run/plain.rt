@@ -1,7 +1,5 @@
 //! Worked examples of frames as plain lines.
-ghost use Rattle.std.specs.Prelude.{◌<◌};
-
-use super::options::{TWO_SOURCES, has_summary};
+use super::samples::{Outputs, TWO_SOURCES, empty_outputs, has_printed, has_summary, source};
 use n2k_join::Counts;
 use n2k_run::{MemorySink, MemorySource, RunFault, read_bytes, run_plain, run_plain_counted};
 use std::alloc::{AllocError, Global};
@@ -79,15 +77,21 @@ const EXAMPLES: [Example; 6] = [
     },
 ];
 
-fn prints<R: Abort + AllocGlobal>(rt: &R, example: &Example, piece: usize) -> Result<(), Fail>
-    requires { 0 < piece }
-{
-    let mut reader = MemorySource::new(example.log.as_bytes(), piece, 0);
-    let mut writer = MemorySink::new(rt.alloc(), piece, 0);
-    let mut reports = MemorySink::new(rt.alloc(), piece, 0);
-    let counts = run_plain(rt.alloc(), &mut reader, &mut writer, &mut reports)?;
-    assert_eq!(rt; writer.bytes(), example.text.as_bytes());
-    assert_eq!(rt; reports.bytes(), example.reports.as_bytes());
+// Writes the plain lines of a log that comes in pieces, and tells what was counted.
+fn write_plain(
+    alloc: Global,
+    log: &[u8],
+    piece: usize,
+    to: &mut Outputs,
+) -> Result<Counts, RunFault> {
+    let mut log = source(log, piece);
+    run_plain(alloc, &mut log, &mut to.text, &mut to.reports)
+}
+
+fn prints<R: Abort + AllocGlobal>(rt: &R, example: &Example, piece: usize) -> Result<(), Fail> {
+    let mut outputs = empty_outputs(rt.alloc(), piece);
+    let counts = write_plain(rt.alloc(), example.log.as_bytes(), piece, &mut outputs)?;
+    has_printed(rt, &outputs, example.text, example.reports);
     has_summary(rt, &counts, example.summary)
 }
 
@@ -111,15 +115,9 @@ fn reports_in<R: Abort + AllocGlobal>(
     reports: &str,
     wanted: Counts,
 ) -> Result<(), Fail> {
-    if piece == 0 {
-        return Err("no piece".into());
-    }
-    let mut reader = MemorySource::new(log, piece, 0);
-    let mut writer = MemorySink::new(rt.alloc(), 100, 0);
-    let mut reporter = MemorySink::new(rt.alloc(), 100, 0);
-    let counts = run_plain(rt.alloc(), &mut reader, &mut writer, &mut reporter)?;
-    assert_eq!(rt; writer.bytes(), text.as_bytes());
-    assert_eq!(rt; reporter.bytes(), reports.as_bytes());
+    let mut outputs = empty_outputs(rt.alloc(), 100);
+    let counts = write_plain(rt.alloc(), log, piece, &mut outputs)?;
+    has_printed(rt, &outputs, text, reports);
     assert_eq!(rt; counts, wanted);
     Ok(())
 }
@@ -234,42 +232,41 @@ fn a_block_is_written_before_the_next_is_read(rt: HostRuntime) -> Result<(), Fai
 
 // What was counted before a read failed: the lines that are printed, and no part of one.
 #[test]
-fn counts_of_a_log_that_fails(rt: HostRuntime) -> Result<(), Fail> {
+fn counts_of_a_log_that_fails(rt: HostRuntime) {
     let mut reader = MemorySource::new(TWO_SOURCES.as_bytes(), 60, 3);
-    let mut writer = MemorySink::new(rt.alloc(), 100, 0);
-    let mut reports = MemorySink::new(rt.alloc(), 100, 0);
+    let mut outputs = empty_outputs(rt.alloc(), 100);
     let mut counts = Counts::NONE;
     let answer = run_plain_counted(
         rt.alloc(),
         &mut counts,
         &mut reader,
-        &mut writer,
-        &mut reports,
+        &mut outputs.text,
+        &mut outputs.reports,
     );
     assert_eq!(rt; answer, Err(RunFault::Read));
     assert_eq!(rt; (counts.lines, counts.messages, counts.bad), (2, 2, 0));
-    let (first, others) = TWO_SOURCES_TEXT.split_once("\n").ok_or("a line")?;
-    let (second, _) = others.split_once("\n").ok_or("a second line")?;
-    let text = format!(in rt.alloc(); "{first}\n{second}\n")?;
-    assert_eq!(rt; writer.bytes(), text.as_bytes());
-    Ok(())
+    // Each line has 66 bytes.
+    let two = TWO_SOURCES_TEXT.as_bytes().get(..132);
+    assert_eq!(rt; Some(outputs.text.bytes()), two);
 }
 
 // `tests/faults/refused-growth` lets each growth of the run fail in turn: the answer is that with ample memory or a
 // refusal, and what was written is a front.
 #[test]
 fn refused_memory_leaves_a_front(rt: HostRuntime) {
-    let mut reader = MemorySource::new(TWO_SOURCES.as_bytes(), 60, 0);
-    let mut writer = MemorySink::new(rt.alloc(), 10, 0);
-    let mut reports = MemorySink::new(rt.alloc(), 10, 0);
-    match run_plain(rt.alloc(), &mut reader, &mut writer, &mut reports) {
+    let mut outputs = empty_outputs(rt.alloc(), 10);
+    match write_plain(rt.alloc(), TWO_SOURCES.as_bytes(), 60, &mut outputs) {
         Ok(counts) => {
             assert_eq!(rt; counts.messages, 4);
-            assert_eq!(rt; writer.bytes(), TWO_SOURCES_TEXT.as_bytes());
+            assert_eq!(rt; outputs.text.bytes(), TWO_SOURCES_TEXT.as_bytes());
         }
         Err(fault) => {
             assert!(rt; fault == RunFault::Memory || fault == RunFault::Write);
-            assert!(rt; TWO_SOURCES_TEXT.as_bytes().starts_with(writer.bytes()));
+            assert!(rt;
+                TWO_SOURCES_TEXT
+                    .as_bytes()
+                    .starts_with(outputs.text.bytes())
+            );
         }
     }
 }

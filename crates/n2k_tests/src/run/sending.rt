@@ -1,8 +1,8 @@
 //! Worked examples of messages that are written as frames, and read again.
-use super::options::{frames, has_summary};
-use n2k_join::{Counts, Join};
+use super::samples::{Outputs, decode, empty_outputs, frames, has_printed, has_summary, source};
+use n2k_join::Counts;
 use n2k_join_tests::samples::long_window;
-use n2k_run::{MemorySink, MemorySource, RunFault, run, run_frames};
+use n2k_run::{RunFault, run_frames};
 use n2k_table::Table;
 use n2k_table_tests::samples::sample;
 use n2k_wire::is_interface;
@@ -118,15 +118,16 @@ pub(crate) fn frames_at(
     alloc: Global,
     table: &Table,
     interface: Option<&str>,
-    reader: &mut MemorySource,
-    writer: &mut MemorySink,
-    reporter: &mut MemorySink,
+    log: &[u8],
+    piece: usize,
+    to: &mut Outputs,
 ) -> Result<Counts, RunFault> {
+    let (mut log, text, reports) = (source(log, piece), &mut to.text, &mut to.reports);
     match interface {
         Some(name) if is_interface(name.as_bytes()) => {
-            run_frames(alloc, table, Some(name), reader, writer, reporter)
+            run_frames(alloc, table, Some(name), &mut log, text, reports)
         }
-        _ => run_frames(alloc, table, None, reader, writer, reporter),
+        _ => run_frames(alloc, table, None, &mut log, text, reports),
     }
 }
 
@@ -136,22 +137,10 @@ fn makes<R: Abort + AllocGlobal>(
     example: &Example,
     piece: usize,
 ) -> Result<(), Fail> {
-    if piece == 0 {
-        return Err("no piece".into());
-    }
-    let mut reader = MemorySource::new(example.log.as_bytes(), piece, 0);
-    let mut writer = MemorySink::new(rt.alloc(), piece, 0);
-    let mut reporter = MemorySink::new(rt.alloc(), piece, 0);
-    let counts = frames_at(
-        rt.alloc(),
-        table,
-        example.interface,
-        &mut reader,
-        &mut writer,
-        &mut reporter,
-    )?;
-    assert_eq!(rt; writer.bytes(), example.text.as_bytes());
-    assert_eq!(rt; reporter.bytes(), example.reports.as_bytes());
+    let (log, interface) = (example.log.as_bytes(), example.interface);
+    let mut outputs = empty_outputs(rt.alloc(), piece);
+    let counts = frames_at(rt.alloc(), table, interface, log, piece, &mut outputs)?;
+    has_printed(rt, &outputs, example.text, example.reports);
     has_summary(rt, &counts, example.summary)
 }
 
@@ -178,58 +167,36 @@ fn worked_examples_in_pieces(rt: HostRuntime) -> Result<(), Fail> {
 }
 
 // The plain lines of the frames of a log's messages.
-fn frames_of<R: Abort + AllocGlobal>(
-    rt: &R,
-    table: &Table,
-    log: &[u8],
-) -> Result<MemorySink, Fail> {
-    let mut reader = MemorySource::new(log, 1000, 0);
-    let mut writer = MemorySink::new(rt.alloc(), 1000, 0);
-    let mut reporter = MemorySink::new(rt.alloc(), 1000, 0);
-    run_frames(
-        rt.alloc(),
-        table,
-        None,
-        &mut reader,
-        &mut writer,
-        &mut reporter,
-    )?;
-    assert_eq!(rt; reporter.bytes(), b"".as_slice());
-    Ok(writer)
+fn frames_of<R: Abort + AllocGlobal>(rt: &R, table: &Table, log: &str) -> Result<Outputs, Fail> {
+    let mut outputs = empty_outputs(rt.alloc(), 1000);
+    frames_at(rt.alloc(), table, None, log.as_bytes(), 1000, &mut outputs)?;
+    assert_eq!(rt; outputs.reports.bytes(), b"".as_slice());
+    Ok(outputs)
 }
 
-// What a log decodes to, with these reports, that many messages and broken groups; no group is open.
-fn decodes<R: Abort + AllocGlobal>(
+// A log decodes to this text, with these reports, that many messages and broken groups; no group is open.
+fn decodes_to<R: Abort + AllocGlobal>(
     rt: &R,
     table: &Table,
     log: &[u8],
+    text: &[u8],
     reports: &str,
     messages: u64,
     broken: u64,
-) -> Result<MemorySink, Fail> {
-    let window = long_window();
-    let mut join = Join::new(rt.alloc(), table, window);
-    let mut reader = MemorySource::new(log, 1000, 0);
-    let mut writer = MemorySink::new(rt.alloc(), 1000, 0);
-    let mut reporter = MemorySink::new(rt.alloc(), 1000, 0);
-    run(
-        rt.alloc(),
-        table,
-        &mut join,
-        frames(window),
-        &mut reader,
-        &mut writer,
-        &mut reporter,
-    )?;
-    assert_eq!(rt; reporter.bytes(), reports.as_bytes());
+) -> Result<(), Fail> {
+    let options = frames(long_window());
+    let mut outputs = empty_outputs(rt.alloc(), 1000);
+    let counts = decode(rt.alloc(), table, options, log, 1000, &mut outputs)?;
+    assert_eq!(rt; outputs.text.bytes(), text);
+    assert_eq!(rt; outputs.reports.bytes(), reports.as_bytes());
     let wanted = Counts {
-        lines: join.counts().lines,
+        lines: counts.lines,
         messages,
         broken,
         ..Counts::NONE
     };
-    assert_eq!(rt; join.counts(), wanted);
-    Ok(writer)
+    assert_eq!(rt; counts, wanted);
+    Ok(())
 }
 
 const NINE: &str = "1970-01-01T00:00:10.300Z,7,130820,5,255,11,a3,99,01,41,42,43,00,00,00,00,00
@@ -280,12 +247,20 @@ fn nine_and_another(alloc: Global) -> Result<Vec<u8>, AllocError> {
 #[test]
 fn nine_messages_and_another_source(rt: HostRuntime) -> Result<(), Fail> {
     let table = sample(rt.alloc())?;
-    let frames = frames_of(&rt, &table, NINE.as_bytes())?;
-    let log = with_another_source(rt.alloc(), frames.bytes())?;
+    let frames = frames_of(&rt, &table, NINE)?;
+    let log = with_another_source(rt.alloc(), frames.text.bytes())?;
     let wanted = nine_and_another(rt.alloc())?;
-    let decoded = decodes(&rt, &table, &log, "", 10, 0)?;
-    assert_eq!(rt; decoded.bytes(), wanted.as_slice());
-    Ok(())
+    decodes_to(&rt, &table, &log, &wanted, "", 10, 0)
+}
+
+fn without_the_second(alloc: Global, frames: &[u8]) -> Result<Vec<u8>, AllocError> {
+    let mut log = Vec::new(alloc);
+    for (number, line) in frames.split_inclusive(|byte| *byte == b'\n').enumerate() {
+        if number != 1 {
+            log.extend_from_slice(line)?;
+        }
+    }
+    Ok(log)
 }
 
 // The frames of nine messages without the second: the first message is lost, its group is broken by the ninth, which has
@@ -293,25 +268,11 @@ fn nine_messages_and_another_source(rt: HostRuntime) -> Result<(), Fail> {
 #[test]
 fn nine_messages_without_the_second_frame(rt: HostRuntime) -> Result<(), Fail> {
     let table = sample(rt.alloc())?;
-    let frames = frames_of(&rt, &table, NINE.as_bytes())?;
-    let mut log = Vec::new(rt.alloc());
-    let mut wanted = Vec::new(rt.alloc());
-    for (number, line) in frames
-        .bytes()
-        .split_inclusive(|byte| *byte == b'\n')
-        .enumerate()
-    {
-        if number != 1 {
-            log.extend_from_slice(line)?;
-        }
-    }
-    for _ in 0..8 {
-        wanted.extend_from_slice(LABEL.as_bytes())?;
-    }
+    let frames = frames_of(&rt, &table, NINE)?;
+    let log = without_the_second(rt.alloc(), frames.text.bytes())?;
+    let wanted = LABEL.repeat(rt.alloc(), 8)?;
     let report = "line 16 broken pgn 130820 src 5 dst 255 seq 0 first 1\n";
-    let decoded = decodes(&rt, &table, &log, report, 8, 1)?;
-    assert_eq!(rt; decoded.bytes(), wanted.as_slice());
-    Ok(())
+    decodes_to(&rt, &table, &log, wanted.as_bytes(), report, 8, 1)
 }
 
 // Eight messages of one stream, of the kinds 1 to 8.
@@ -354,18 +315,22 @@ const KINDS: [&str; 8] = [
     "\"Kind\":1",
 ];
 
+// The JSON lines of those messages.
+fn labels(alloc: Global) -> Result<Vec<u8>, Fail> {
+    let mut lines = Vec::new(alloc);
+    for kind in &KINDS {
+        let label = LABEL.replace(alloc, KINDS[7], kind)?;
+        lines.extend_from_slice(label.as_bytes())?;
+    }
+    Ok(lines)
+}
+
 // eight-under-way, from the messages on: eight groups are open at once.
 #[test]
 fn eight_under_way(rt: HostRuntime) -> Result<(), Fail> {
     let table = sample(rt.alloc())?;
-    let frames = frames_of(&rt, &table, EIGHT.as_bytes())?;
-    let log = under_way(rt.alloc(), frames.bytes())?;
-    let mut wanted = Vec::new(rt.alloc());
-    for kind in &KINDS {
-        let label = LABEL.replace(rt.alloc(), KINDS[7], kind)?;
-        wanted.extend_from_slice(label.as_bytes())?;
-    }
-    let decoded = decodes(&rt, &table, &log, "", 8, 0)?;
-    assert_eq!(rt; decoded.bytes(), wanted.as_slice());
-    Ok(())
+    let frames = frames_of(&rt, &table, EIGHT)?;
+    let log = under_way(rt.alloc(), frames.text.bytes())?;
+    let wanted = labels(rt.alloc())?;
+    decodes_to(&rt, &table, &log, &wanted, "", 8, 0)
 }

@@ -1,9 +1,10 @@
-//! What the tests of runs take: options, the log of two sources, and the test of a summary.
-ghost use Rattle.std.specs.Prelude.{◌≡◌};
-
-use n2k_join::{Counts, Window};
-use n2k_run::{Options, summary_text};
+//! What the tests of runs take: the log of two sources, options, outputs in memory, and runs of a log in memory. None has
+//! a clause, so that no test's proof goes through what a run promises.
+use n2k_join::{Counts, Join, Window};
+use n2k_run::{MemorySink, MemorySource, Options, RunFault, run, summary_text};
+use n2k_table::Table;
 use n2k_wire::Packing;
+use std::alloc::Global;
 use std::process::Abort;
 use std::test::Fail;
 
@@ -35,14 +36,61 @@ pub(crate) const REPEAT_BREAKS_REPORT: &str =
     "line 3 broken pgn 130820 src 5 dst 255 seq 3 first 1\n";
 
 // Frames are read, under a window.
-pub(crate) fn frames(window: Window) -> Options
-    ensures { result.window ≡ window }
-{
+pub(crate) fn frames(window: Window) -> Options {
     Options {
         packing: Packing::Frames,
         empty: false,
         window,
     }
+}
+
+// What is printed and what is reported.
+#[derive(Drop)]
+pub(crate) struct Outputs {
+    pub(crate) text: MemorySink,
+    pub(crate) reports: MemorySink,
+}
+
+// Outputs without a byte, which take so many a call.
+pub(crate) fn empty_outputs(alloc: Global, piece: usize) -> Outputs {
+    let piece = piece.max(1);
+    Outputs {
+        text: MemorySink::new(alloc, piece, 0),
+        reports: MemorySink::new(alloc, piece, 0),
+    }
+}
+
+// A log that comes in pieces.
+pub(crate) fn source(log: &[u8], piece: usize) -> MemorySource<'_> {
+    MemorySource::new(log, piece.max(1), 0)
+}
+
+// Decodes a log in pieces, and tells what was counted.
+pub(crate) fn decode(
+    alloc: Global,
+    table: &Table,
+    options: Options,
+    log: &[u8],
+    piece: usize,
+    to: &mut Outputs,
+) -> Result<Counts, RunFault> {
+    let mut join = Join::new(alloc, table, options.window);
+    let mut log = source(log, piece);
+    run(
+        alloc,
+        table,
+        &mut join,
+        options,
+        &mut log,
+        &mut to.text,
+        &mut to.reports,
+    )?;
+    Ok(join.counts())
+}
+
+pub(crate) fn has_printed<R: Abort>(rt: &R, outputs: &Outputs, text: &str, reports: &str) {
+    assert_eq!(rt; outputs.text.bytes(), text.as_bytes());
+    assert_eq!(rt; outputs.reports.bytes(), reports.as_bytes());
 }
 
 pub(crate) fn has_summary<R: Abort + AllocGlobal>(
