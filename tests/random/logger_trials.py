@@ -54,10 +54,6 @@ class Log:
         whole = [(its[-1], key) for key, its in self.places.items() if begin <= its[0] and its[-1] < end]
         return [(key[0], self.data[key]) for _, key in sorted(whole)]
 
-    def places_of(self, one):
-        """The places of the frames of a message."""
-        return next(its for key, its in self.places.items() if (key[0], self.data[key]) == one)
-
     def cut(self, begin, end):
         """How many messages have some of their frames at these places, and not all."""
         return sum(any(begin <= it < end for it in its) for its in self.places.values()) - len(self.whole(begin, end))
@@ -439,35 +435,47 @@ def short(program, room, chance):
         subprocess.run(["umount", "-l", disk], check=True)
 
 
-SYNCED = 2  # seconds, as --sync has it
 SHUTDOWN, NO_LOG_FLUSH = 0x8004587D, struct.pack("I", 2)  # EXT4_IOC_SHUTDOWN: nothing more goes to the disk, the journal neither
 
 
-def lag(room):
-    """How late things are on this computer now, in seconds: beside other work, a small pipeline and a sync take their time."""
-    begin = time.monotonic()
-    for _ in range(3):
-        subprocess.run("date | sed s/a/b/ | sort | tail -n 1 >late && sync late", shell=True, cwd=room, check=True)
-    return 5 * (time.monotonic() - begin)
-
-
 def timed(path, told, seconds):
-    """A sender: writes the lines of the file one by one within these seconds, tells when each was written, and ends."""
-    with open(path, "rb") as file, open(told, "w", encoding="utf-8") as times:
+    """A sender: writes the lines of the file one by one within these seconds, and tells each before. Where it is started again, it goes on
+    where it was; it waits as long as it is held."""
+    with open(path, "rb") as file, open(told, "a+b") as its:
         lines = file.readlines()
+        its.seek(0)
+        first = its.read().count(b"\n")
         begin = time.monotonic()
-        for place, line in enumerate(lines):
-            time.sleep(max(0, begin + place * float(seconds) / len(lines) - time.monotonic()))
-            os.write(1, line)
-            times.write(f"{time.monotonic()}\n")
-            times.flush()
+        for place in range(first, len(lines)):
+            time.sleep(max(0, begin + (place - first) * float(seconds) / len(lines) - time.monotonic()))
+            while os.path.exists(f"{told}.held"):
+                time.sleep(0.01)
+            # A line that is lost on its way was sent.
+            its.write(b"%f\n" % time.monotonic())
+            its.flush()
+            os.write(1, lines[place])
+
+
+def settled(told, missing):
+    """Holds a sender until nothing is missing of what it has sent, for a minute at most. Gives how many lines that are."""
+    held, until, sent = f"{told}.held", time.monotonic() + 60, 0
+    open(held, "wb").close()
+    with open(told, "a+b") as its:
+        while True:
+            its.seek(0)
+            sent = its.read().count(b"\n")
+            if not missing(sent) or time.monotonic() > until:
+                break
+            time.sleep(0.05)
+    os.remove(held)
+    return sent
 
 
 class Disk:
     """A file system of its own, in a file, whose power can be cut."""
 
     def __init__(self, room, megabytes=48):
-        self.image, self.folder = f"{room}/image", f"{room}/disk"
+        self.room, self.image, self.folder = room, f"{room}/image", f"{room}/disk"
         os.mkdir(self.folder)
         with open(self.image, "wb") as file:
             file.truncate(megabytes << 20)
@@ -492,6 +500,24 @@ class Disk:
         at = os.open(self.folder, os.O_RDONLY)
         fcntl.ioctl(at, SHUTDOWN, NO_LOG_FLUSH)
         os.close(at)
+
+    def note_syncs(self, environment):
+        """Has a logger's syncs noted, each when it has ended."""
+        os.mkdir(f"{self.room}/bin")
+        with open(f"{self.room}/bin/sync", "w", encoding="utf-8") as file:
+            file.write(f'#!/bin/sh\nbegan=$(date +%s.%N)\n{shutil.which("sync")} "$@" && echo "$began $*" >>{self.room}/syncs\n')
+        os.chmod(file.name, 0o755)
+        environment["PATH"] = f"{self.room}/bin:{environment['PATH']}"
+
+    def synced(self, logger):
+        """Waits until a sync that begins from now on has ended, or the logger has, for half a minute; gives the seconds."""
+        begin, stamp = time.monotonic(), time.time()
+        with open(f"{self.room}/syncs", "a+", encoding="utf-8") as its:
+            while logger.poll() is None and time.monotonic() < begin + 30:
+                if any(" -d -- " in it and float(it.split()[0]) > stamp for it in its):
+                    break
+                time.sleep(0.05)
+        return time.monotonic() - begin
 
     def end(self):
         subprocess.run(["umount", "-l", self.folder], check=False, capture_output=True)
@@ -519,28 +545,25 @@ def cut(program, room, chance):
         boat = Boat(program, disk.folder)
         subprocess.run(["sync", "-f", disk.folder], check=True)
         boat.environment["BOAT"] = boat.folder
+        disk.note_syncs(boat.environment)
         command = [sys.executable, __file__, "timed", put(room, log.lines[:half]), f"{room}/times", "12"]
-        logger = boat.start(*command, words=("--raw", "--sync", os.environ.get("LOGGER_TRIALS_SYNC", str(SYNCED))), start_new_session=True)
+        logger = boat.start(*command, words=("--raw", "--sync", os.environ.get("LOGGER_TRIALS_SYNC", "2")), start_new_session=True)
         time.sleep(1.5 + 8 * chance.random())
-        late = lag(room)
+        safe = log.whole(0, settled(f"{room}/times", lambda sent: {*log.whole(0, sent)} - {*boat.printed()}))
+        if disk.synced(logger) > 30:
+            yield "nothing is synced"
+        time.sleep(2 * chance.random())
         disk.cut()
-        at = time.monotonic()
-        late = 1 + max(late, lag(room))
         for _ in range(20):
             if not (pids := [*{*tree(logger.pid), *left(boat)}]):
                 break
             kill(pids)
             logger.poll()
         logger.communicate()
-        times = [float(it) for it in open(f"{room}/times", encoding="utf-8").read().split("\n")[:-1]]
         disk.again()
         printed = boat.printed()
-        # What was whole before the last sync, with a second for the way of a line, or more beside other work.
-        sent = log.whole(0, len(times))
-        safe = log.whole(0, sum(it < at - SYNCED - late for it in times))
-        cut.lost.append(at - times[min((log.places_of(it)[-1] for it in sent if it not in printed), default=-1)])
         if missing := [it for it in safe if it not in printed]:
-            yield f"{len(missing)} messages of {len(sent)} are lost that were older than {SYNCED} seconds"
+            yield f"{len(missing)} messages of {len(safe)} are lost that were synced"
         logger = boat.start("cat", put(room, log.lines[half:]))
         said = logger.communicate()[1]
         if logger.returncode:
@@ -551,13 +574,8 @@ def cut(program, room, chance):
             yield "what was sent afterwards is not there"
         if sum(message(it) is None for it in boat.text("json").splitlines()) > 2:
             yield "more lines are cut than days were written"
-        if os.environ.get("LOGGER_TRIALS_SAY"):
-            print(f"cut, {len(times)} lines sent, {len(sent)} messages, lost {sum(it not in printed for it in sent)}, the oldest of {cut.lost[-1]:.1f} s", file=sys.stderr)
     finally:
         disk.end()
-
-
-cut.lost = []
 
 
 def terminal(program, room, chance):

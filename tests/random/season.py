@@ -9,10 +9,13 @@ part the disk is full for a while, stamps are years ahead or days back, the tabl
 send the files to SQLite and to a server made up of InfluxDB's interface.
 
 In the end files are whole, no message is of two, none is there twice, no day is from the future, and no message is lost that
-docs/GUIDE.md doesn't allow to be: those with a frame in a hole, in the last second before a kill, in the last SYNCED seconds
-before a cut of the power, while the disk was full, and where the table was replaced those across midnight. Rows and points are
-those of the files, each once, and beside them only what a cut took from the files. On a full disk a logger waits, and where
-nothing else comes it goes on when there is room.
+docs/GUIDE.md doesn't allow to be: those with a frame in a hole, on its way at a kill, behind the last sync at a cut of the power,
+while the disk was full, and where the table was replaced those across midnight. Rows and points are those of the files, each once,
+and beside them only what a cut took from the files. On a full disk a logger waits, and where nothing else comes it goes on when
+there is room.
+
+What is on its way, or synced, is not judged by the clock: before a disturbance the sender is held until its messages are there, and
+before a cut a sync is waited for.
 
 The last line is `N faults`, after a line for each, and one of what was free on the disk when. Status 77 says that no ext4
 image can be had here, and why.
@@ -29,28 +32,13 @@ import time
 
 import feed_trials
 import logger_trials
-from logger_trials import Boat, Disk, Log, kill, lag, left, message, tree
+from logger_trials import Boat, Disk, Log, kill, left, message, settled, tree
 
 SYNCED = 1  # seconds
-LATE = 1  # seconds in which a line is surely written, on a computer that has nothing else to do
+LATE = 2  # seconds that a logger may take on the average for what it does between syncs, on a computer that has other work
 PARTS = 8
 HOW = ["alone", "alone", "stopped", "killed", "killed", "cut", "cut"]
 WHAT = ["nothing", "full", "ahead", "back", "server", "table", "feed"]
-
-
-def send(path, told, seconds):
-    """A sender: writes the lines one by one, and tells when; where it is started again, it goes on where it was."""
-    lines = open(path, "rb").read().splitlines(True)
-    with open(told, "a+", encoding="utf-8") as times:
-        times.seek(0)
-        first = len(times.read().splitlines())
-        begin = time.monotonic()
-        for place in range(first, len(lines)):
-            time.sleep(max(0, begin + (place - first) * float(seconds) / len(lines) - time.monotonic()))
-            # A line that is lost on its way was sent.
-            times.write(f"{time.monotonic()}\n")
-            times.flush()
-            os.write(1, lines[place])
 
 
 def is_in_part(line):
@@ -119,8 +107,10 @@ class Round:
         self.table = f"{room}/table.toml"
         shutil.copy(logger_trials.TABLE, self.table)
         self.fed = Fed(room, self.boat.folder, chance)
-        # Of each line: its part and when it was sent. Of a disturbance: when it began and ended.
-        self.parts, self.times, self.disturbed, self.torn, self.was_cut, self.crossed, self.lag = {}, {}, [], 0, False, set(), 0
+        # Of each line: its part and when it was sent. Of a disturbance: its part, the first line, and when it had ended.
+        self.parts, self.times, self.disturbed, self.torn, self.was_cut, self.crossed = {}, {}, [], 0, False, set()
+        # How long a sync was waited for.
+        self.waits = []
         # Parts whose logger did not get over a full disk, and what was free when.
         self.given_up, self.free = [], []
         self.filler = f"{self.disk.folder}/other"
@@ -153,40 +143,39 @@ class Round:
         with open(path, "wb") as file:
             file.writelines(lines)
         open(told, "wb").close()
-        command = [LOGGER, "--raw", f"--sync={SYNCED}", self.boat.folder, self.table, sys.executable, __file__, "send", path, told]
+        command = [LOGGER, "--raw", f"--sync={SYNCED}", self.boat.folder, self.table, sys.executable, logger_trials.__file__, "timed", path, told]
         # Some lines are to come when a logger that waited for room has surely seen it.
         command.append("13" if (what, how) == ("full", "alone") else "4")
         with open(f"{self.room}/said", "ab") as said:
             logger = Boat.logger = subprocess.Popen(command, env=self.boat.environment, stderr=said, start_new_session=True)
         until = time.monotonic() + (30 if how == "alone" else 1 + 4 * self.chance.random())
         time.sleep(0.3 + self.chance.random())
-        since, self.lag = [], lag(self.room)
-        self.incident(part, how, what)
+        self.incident(part, begin, how, what)
         while time.monotonic() < until and logger.poll() is None:
             time.sleep(0.1)
-            self.lag = max(self.lag, lag(self.room))
+        safe = self.settled(part, begin) if how in ("killed", "cut") else None
         if how == "stopped":
             logger.terminate()
-            since.append(time.monotonic() - 0.3 - self.lag)
         elif how == "killed":
+            time.sleep(0.3 * self.chance.random())
             pids = tree(logger.pid)
-            at = time.monotonic()
             kill(self.chance.sample(pids, self.chance.randrange(1, 1 + len(pids))) if pids else [])
             self.torn += 1
-            since.append(at - LATE - self.lag)
         elif how == "cut":
+            sizes = {it: os.stat(it).st_size for it in self.newest()}
+            waited = self.disk.synced(logger)
+            # After a full disk it waits for room first.
+            self.waits += [waited] if what != "full" else []
+            time.sleep(SYNCED * self.chance.random())
             self.fed.kill()
             self.disk.cut()
-            at = time.monotonic()
             self.was_cut, self.torn = True, self.torn + 1
-            since.append(at - SYNCED - LATE - self.lag)
             for _ in range(50):
                 if not (pids := [*{*tree(logger.pid), *left(self.boat)}]) or pids == [logger.pid] and logger.poll() is not None:
                     break
                 kill(pids)
                 logger.poll()
         self.end(logger)
-        self.disturbed += [(it, time.monotonic()) for it in since]
         self.note("ended")
         if how == "cut":
             self.disk.again()
@@ -195,29 +184,50 @@ class Round:
             if os.path.exists(self.filler):
                 os.remove(self.filler)
                 self.note("removed again")
-            self.tear()
+            self.tear(sizes)
         if not self.fed.running:
             self.fed.start()
         # A part's lines that the sender has not come to were not sent; the next part begins behind them.
-        times = open(told, encoding="utf-8").read().split("\n")[:-1]
-        for number, it in enumerate(times):
-            self.parts[begin + number], self.times[begin + number] = part, float(it)
+        count = self.sent(part, begin)
+        if how != "alone":
+            # The last line of a sender that was stopped may not have been written.
+            self.disturbed.append((part, begin + (count - 1 if safe is None else safe), time.monotonic()))
         # Where there is room again before it has looked, it ends as it does where a file can't be written.
-        if (how, what) == ("alone", "full") and len(times) < len(lines) and logger.returncode != 3:
+        if (how, what) == ("alone", "full") and count < len(lines) and logger.returncode != 3:
             self.given_up.append(part + 1)
 
-    def tear(self):
-        """Other file systems may end a file within a line that was not synced."""
+    def sent(self, part, begin):
+        """Takes which lines of a part were sent, and when; gives how many."""
+        with open(f"{self.room}/times.{part}", encoding="utf-8") as its:
+            times = its.read().split("\n")[:-1]
+        for number, it in enumerate(times, begin):
+            self.parts[number], self.times[number] = part, float(it)
+        return len(times)
+
+    def settled(self, part, begin):
+        """Holds the sender until each message that is owed is there; gives how many lines of the part are sent."""
+
+        def missing(_):
+            self.sent(part, begin)
+            return {*self.owed(begin)} - {*self.boat.printed()}
+
+        return settled(f"{self.room}/times.{part}", missing)
+
+    def newest(self):
+        """The newest file of each kind."""
         for folder, kinds in (self.boat.folder, (".json", ".reports")), (f"{self.boat.folder}/raw", (".log",)):
             names = sorted(os.listdir(folder)) if os.path.isdir(folder) else []
-            for kind in kinds:
-                if (its := [f"{folder}/{it}" for it in names if it.endswith(kind)]) and self.chance.randrange(2):
-                    size = os.stat(its[-1]).st_size
-                    os.truncate(its[-1], max(0, size - self.chance.randrange(200)))
+            yield from (max(its) for kind in kinds if (its := [f"{folder}/{it}" for it in names if it.endswith(kind)]))
 
-    def fill(self, part, how):
+    def tear(self, synced):
+        """Other file systems may end a file within a line that was not synced."""
+        for it in self.newest():
+            if self.chance.randrange(2):
+                os.truncate(it, max(synced.get(it, 0), os.stat(it).st_size - self.chance.randrange(200)))
+
+    def fill(self, part, begin, how):
         """Fills the disk for a while, of a logger that is let alone until it has seen that."""
-        at, waits = time.monotonic(), self.waits()
+        safe, at, times = self.settled(part, begin), time.monotonic(), self.short()
         try:
             with open(self.filler, "wb") as file:
                 while True:
@@ -226,7 +236,7 @@ class Round:
         except OSError:
             pass
         self.note("filled")
-        while how == "alone" and self.waits() == waits and Boat.logger.poll() is None and time.monotonic() < at + 10:
+        while how == "alone" and self.short() == times and Boat.logger.poll() is None and time.monotonic() < at + 10:
             time.sleep(0.05)
         time.sleep(0.5 + self.chance.random())
         # What it has gzipped may have made room meanwhile.
@@ -236,9 +246,9 @@ class Round:
         self.note("removed")
         self.torn += 1
         # It looks for room every five seconds.
-        self.disturbed.append((at - LATE - self.lag, time.monotonic() + 7 + self.lag))
+        self.disturbed.append((part, begin + safe, time.monotonic() + 7))
 
-    def waits(self):
+    def short(self):
         """How often loggers have begun to wait for room."""
         with open(f"{self.room}/said", "rb") as said:
             return said.read().count(b"disk full: ")
@@ -252,9 +262,9 @@ class Round:
             return False
         return True
 
-    def incident(self, part, how, what):
+    def incident(self, part, begin, how, what):
         if what == "full":
-            self.fill(part, how)
+            self.fill(part, begin, how)
         elif what == "server":
             self.fed.server.stop()
             self.fed.base.stop()
@@ -285,13 +295,17 @@ class Round:
 
     def is_owed(self, places):
         """Whether a message of these lines has to be there."""
-        parts, times = {self.parts.get(it) for it in places}, [self.times.get(it, 0) for it in places]
+        parts = {self.parts.get(it) for it in places}
         if None in parts or len(parts) > 1:
             return False
         days = {int(float(self.log.lines[it][1:18])) // 86400 for it in places}
         if len(days) > 1 and parts & self.crossed:
             return False
-        return not any(begin <= it <= end for it in times for begin, end in self.disturbed)
+        return not any({part} == parts and first <= it and self.times[it] <= end for it in places for part, first, end in self.disturbed)
+
+    def owed(self, begin=0):
+        """The messages from a line on that have to be there."""
+        return [(key[0], self.log.data[key]) for key, places in self.log.places.items() if places[0] >= begin and self.is_owed(places)]
 
     def faults(self):
         boat, log = self.boat, self.log
@@ -300,10 +314,11 @@ class Round:
         lines = text.splitlines()
         printed = [it for it in map(message, lines) if it]
         sent = {(key[0], data) for key, data in log.data.items()}
-        owed = [(key[0], log.data[key]) for key, places in log.places.items() if self.is_owed(places)]
-        Round.owed, Round.printed = Round.owed + len(owed), Round.printed + len(printed)
+        owed = self.owed()
         if self.given_up:
             yield f"in parts {self.given_up} the logger does not wait for room, or does not go on when there is some"
+        if sum(self.waits) > (SYNCED + LATE) * len(self.waits):
+            yield f"{len(self.waits)} syncs were waited for {sum(self.waits):.0f} seconds"
         if wrong := [it for it in printed if it not in sent]:
             yield f"{len(wrong)} messages that were not sent"
         if len({*printed}) != len(printed):
@@ -333,13 +348,10 @@ class Round:
         self.disk.end()
 
 
-Round.owed = Round.printed = 0
 LOGGER = logger_trials.LOGGER
 
 
 def main():
-    if sys.argv[1] == "send":
-        return send(*sys.argv[2:])
     signal.signal(signal.SIGTERM, lambda *_: sys.exit("it was ended"))
     program, rounds, seed = os.path.realpath(sys.argv[1]), int([*sys.argv, 1][2]), int([*sys.argv, 1, 1][3])
     faults = 0
@@ -358,8 +370,6 @@ def main():
                     print(f"season, seed {number}: kB free on the disk: {', '.join(one.free)}", flush=True)
                 one.end_all()
         finally:
-            if "SEASON_SAY" in os.environ:
-                print(f"seed {number}: {Round.printed} printed, {Round.owed} owed", file=sys.stderr)
             shutil.rmtree(room, ignore_errors=True)
     print(f"{faults} faults")
     return bool(faults)
