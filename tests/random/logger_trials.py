@@ -11,7 +11,9 @@ them again in one run. The others ask that each line which can be read as JSON i
 The last line is `N faults`, after a line for each. Status 77 says that the trial can't be made here, and why.
 """
 
+import contextlib
 import fcntl
+import glob
 import gzip
 import json
 import os
@@ -85,6 +87,11 @@ class Boat:
 
     def names(self, pattern):
         return sorted(it for it in os.listdir(self.folder) if re.fullmatch(pattern, it))
+
+    def newest(self):
+        """The newest file of each kind."""
+        its = [glob.glob(f"{self.folder}/{it}") for it in ("*.json", "*.reports", "raw/*.log")]
+        return [max(it) for it in its if it]
 
     def days(self):
         return sorted({it[:10] for it in self.names(r"\d{4}-\d\d-\d\d\.json(\.gz)?")})
@@ -449,6 +456,7 @@ def timed(path, told, seconds):
         for place in range(first, len(lines)):
             time.sleep(max(0, begin + (place - first) * float(seconds) / len(lines) - time.monotonic()))
             while os.path.exists(f"{told}.held"):
+                begin += 0.01
                 time.sleep(0.01)
             # A line that is lost on its way was sent.
             its.write(b"%f\n" % time.monotonic())
@@ -456,19 +464,17 @@ def timed(path, told, seconds):
             os.write(1, lines[place])
 
 
-def settled(told, missing):
-    """Holds a sender until nothing is missing of what it has sent, for a minute at most. Gives how many lines that are."""
-    held, until, sent = f"{told}.held", time.monotonic() + 60, 0
-    open(held, "wb").close()
-    with open(told, "a+b") as its:
-        while True:
-            its.seek(0)
-            sent = its.read().count(b"\n")
-            if not missing(sent) or time.monotonic() > until:
-                break
-            time.sleep(0.05)
-    os.remove(held)
-    return sent
+@contextlib.contextmanager
+def held(told, missing):
+    """Holds a sender, once nothing is missing of what it has sent. Gives how many lines that are."""
+    path, until = f"{told}.held", time.monotonic() + 60
+    open(path, "wb").close()
+    while missing(sent := open(told, "rb").read().count(b"\n")):
+        if time.monotonic() > until:
+            raise TimeoutError("what was sent is not there after a minute")
+        time.sleep(0.05)
+    yield sent
+    os.remove(path)
 
 
 class Disk:
@@ -502,19 +508,19 @@ class Disk:
         os.close(at)
 
     def note_syncs(self, environment):
-        """Has a logger's syncs noted, each when it has ended."""
+        """Has a logger's syncs noted, each when it has ended: when it began, and of which files."""
         os.mkdir(f"{self.room}/bin")
         with open(f"{self.room}/bin/sync", "w", encoding="utf-8") as file:
-            file.write(f'#!/bin/sh\nbegan=$(date +%s.%N)\n{shutil.which("sync")} "$@" && echo "$began $*" >>{self.room}/syncs\n')
+            file.write(f'#!/bin/sh\nbegan=$(date +%s.%N)\n{shutil.which("sync")} "$@" && echo "$began $*" >>"{self.room}/syncs"\n')
         os.chmod(file.name, 0o755)
         environment["PATH"] = f"{self.room}/bin:{environment['PATH']}"
 
-    def synced(self, logger):
-        """Waits until a sync that begins from now on has ended, or the logger has, for half a minute; gives the seconds."""
+    def synced(self, files, logger):
+        """Waits until a sync of files that begins from now on has ended, or the logger has, for half a minute; gives the seconds."""
         begin, stamp = time.monotonic(), time.time()
         with open(f"{self.room}/syncs", "a+", encoding="utf-8") as its:
             while logger.poll() is None and time.monotonic() < begin + 30:
-                if any(" -d -- " in it and float(it.split()[0]) > stamp for it in its):
+                if any(float(it.split()[0]) > stamp and all(file in it for file in files) for it in its):
                     break
                 time.sleep(0.05)
         return time.monotonic() - begin
@@ -547,11 +553,13 @@ def cut(program, room, chance):
         boat.environment["BOAT"] = boat.folder
         disk.note_syncs(boat.environment)
         command = [sys.executable, __file__, "timed", put(room, log.lines[:half]), f"{room}/times", "12"]
+        open(f"{room}/times", "wb").close()
         logger = boat.start(*command, words=("--raw", "--sync", os.environ.get("LOGGER_TRIALS_SYNC", "2")), start_new_session=True)
         time.sleep(1.5 + 8 * chance.random())
-        safe = log.whole(0, settled(f"{room}/times", lambda sent: {*log.whole(0, sent)} - {*boat.printed()}))
-        if disk.synced(logger) > 30:
-            yield "nothing is synced"
+        with held(f"{room}/times", lambda sent: {*log.whole(0, sent)} - {*boat.printed()}) as sent:
+            if disk.synced(boat.newest(), logger) > 30:
+                yield "nothing is synced"
+        safe = log.whole(0, sent)
         time.sleep(2 * chance.random())
         disk.cut()
         for _ in range(20):

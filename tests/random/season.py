@@ -20,7 +20,6 @@ before a cut a sync is waited for.
 The last line is `N faults`, after a line for each, and one of what was free on the disk when. Status 77 says that no ext4
 image can be had here, and why.
 """
-import json
 import os
 import random
 import shutil
@@ -32,10 +31,10 @@ import time
 
 import feed_trials
 import logger_trials
-from logger_trials import Boat, Disk, Log, kill, left, message, settled, tree
+from logger_trials import Boat, Disk, Log, held, kill, left, message, tree
 
 SYNCED = 1  # seconds
-LATE = 2  # seconds that a logger may take on the average for what it does between syncs, on a computer that has other work
+LATE = 1  # seconds that a logger may take for what it does between syncs, on a computer that has other work
 PARTS = 8
 HOW = ["alone", "alone", "stopped", "killed", "killed", "cut", "cut"]
 WHAT = ["nothing", "full", "ahead", "back", "server", "table", "feed"]
@@ -104,6 +103,7 @@ class Round:
         self.boat = Boat(program, self.disk.folder)
         subprocess.run(["sync", "-f", self.disk.folder], check=True)
         self.boat.environment["BOAT"] = self.boat.folder
+        self.disk.note_syncs(self.boat.environment)
         self.table = f"{room}/table.toml"
         shutil.copy(logger_trials.TABLE, self.table)
         self.fed = Fed(room, self.boat.folder, chance)
@@ -153,7 +153,14 @@ class Round:
         self.incident(part, begin, how, what)
         while time.monotonic() < until and logger.poll() is None:
             time.sleep(0.1)
-        safe = self.settled(part, begin) if how in ("killed", "cut") else None
+        safe = None
+        if how in ("killed", "cut"):
+            with self.held(part, begin) as safe:
+                if how == "cut":
+                    sizes = {it: os.stat(it).st_size for it in self.boat.newest()}
+                    waited = self.disk.synced(sizes, logger)
+                    # After a full disk it waits for room first.
+                    self.waits += [waited] if what != "full" and logger.poll() is None else []
         if how == "stopped":
             logger.terminate()
         elif how == "killed":
@@ -162,10 +169,6 @@ class Round:
             kill(self.chance.sample(pids, self.chance.randrange(1, 1 + len(pids))) if pids else [])
             self.torn += 1
         elif how == "cut":
-            sizes = {it: os.stat(it).st_size for it in self.newest()}
-            waited = self.disk.synced(logger)
-            # After a full disk it waits for room first.
-            self.waits += [waited] if what != "full" else []
             time.sleep(SYNCED * self.chance.random())
             self.fed.kill()
             self.disk.cut()
@@ -204,30 +207,26 @@ class Round:
             self.parts[number], self.times[number] = part, float(it)
         return len(times)
 
-    def settled(self, part, begin):
-        """Holds the sender until each message that is owed is there; gives how many lines of the part are sent."""
+    def held(self, part, begin):
+        """Holds the sender, once each message that is owed is there; gives how many lines of the part are sent."""
 
         def missing(_):
             self.sent(part, begin)
             return {*self.owed(begin)} - {*self.boat.printed()}
 
-        return settled(f"{self.room}/times.{part}", missing)
-
-    def newest(self):
-        """The newest file of each kind."""
-        for folder, kinds in (self.boat.folder, (".json", ".reports")), (f"{self.boat.folder}/raw", (".log",)):
-            names = sorted(os.listdir(folder)) if os.path.isdir(folder) else []
-            yield from (max(its) for kind in kinds if (its := [f"{folder}/{it}" for it in names if it.endswith(kind)]))
+        return held(f"{self.room}/times.{part}", missing)
 
     def tear(self, synced):
         """Other file systems may end a file within a line that was not synced."""
-        for it in self.newest():
+        for it in self.boat.newest():
             if self.chance.randrange(2):
-                os.truncate(it, max(synced.get(it, 0), os.stat(it).st_size - self.chance.randrange(200)))
+                size = os.stat(it).st_size
+                os.truncate(it, max(min(size, synced.get(it, 0)), size - self.chance.randrange(200)))
 
     def fill(self, part, begin, how):
         """Fills the disk for a while, of a logger that is let alone until it has seen that."""
-        safe, at, times = self.settled(part, begin), time.monotonic(), self.short()
+        with self.held(part, begin) as safe:
+            at, times = time.monotonic(), self.short()
         try:
             with open(self.filler, "wb") as file:
                 while True:
