@@ -17,7 +17,7 @@ there is room.
 What is on its way, or synced, is not judged by the clock: before a disturbance the sender is held until its messages are there, and
 before a cut a sync is waited for.
 
-The last line is `N faults`, after a line for each, and one of what was free on the disk when. Status 77 says that no ext4
+The last line is `N faults`, after a line for each, and one of the parts. Status 77 says that no ext4
 image can be had here, and why.
 """
 import os
@@ -111,8 +111,8 @@ class Round:
         self.parts, self.times, self.disturbed, self.torn, self.was_cut, self.crossed = {}, {}, [], 0, False, set()
         # How long a sync was waited for.
         self.waits = []
-        # Parts whose logger did not get over a full disk, and what was free when.
-        self.given_up, self.free = [], []
+        # The parts, and those whose logger did not get over a full disk.
+        self.played, self.given_up = [], []
         self.filler = f"{self.disk.folder}/other"
 
     def play(self):
@@ -124,6 +124,7 @@ class Round:
             how = self.chance.choice(HOW) if part < PARTS - 1 else "alone"
             what = self.chance.choice(WHAT)
             lines = self.stamped(self.log.lines[begin:place], what)
+            self.played.append(f"{what}, {how}")
             self.part(part, begin, lines, how, what)
 
     def stamped(self, lines, what):
@@ -132,13 +133,7 @@ class Round:
         add = {"ahead": 10 * 365 * 86400, "back": -self.chance.randrange(1, 4) * 86400}.get(what, 0)
         return [b"(%.6f%s" % (float(it[1:18]) + add, it[18:]) if at <= number < at + count and add else it for number, it in enumerate(lines)]
 
-    def note(self, event):
-        """Notes what is free on the disk, in kB."""
-        disk = os.statvfs(self.disk.folder)
-        self.free.append(f"{event} {disk.f_bfree * disk.f_frsize // 1024}")
-
     def part(self, part, begin, lines, how, what):
-        self.note(f"part {part + 1} ({what}, {how})")
         path, told = f"{self.room}/lines.{part}", f"{self.room}/times.{part}"
         with open(path, "wb") as file:
             file.writelines(lines)
@@ -179,14 +174,11 @@ class Round:
                 kill(pids)
                 logger.poll()
         self.end(logger)
-        self.note("ended")
         if how == "cut":
             self.disk.again()
-            self.note("mounted")
             # Its removal may not have been synced.
             if os.path.exists(self.filler):
                 os.remove(self.filler)
-                self.note("removed again")
             self.tear(sizes)
         if not self.fed.running:
             self.fed.start()
@@ -234,7 +226,6 @@ class Round:
                     file.flush()
         except OSError:
             pass
-        self.note("filled")
         while how == "alone" and self.short() == times and Boat.logger.poll() is None and time.monotonic() < at + 10:
             time.sleep(0.05)
         time.sleep(0.5 + self.chance.random())
@@ -242,7 +233,6 @@ class Round:
         if Boat.logger.poll() == 3 and not self.has_room():
             self.given_up.append(part + 1)
         os.remove(self.filler)
-        self.note("removed")
         self.torn += 1
         # It looks for room every five seconds.
         self.disturbed.append((part, begin + safe, time.monotonic() + 7))
@@ -366,7 +356,7 @@ def main():
                 failed = faults > before
             finally:
                 if failed:
-                    print(f"season, seed {number}: kB free on the disk: {', '.join(one.free)}", flush=True)
+                    print(f"season, seed {number}: its parts: {'; '.join(one.played)}", flush=True)
                 one.end_all()
         finally:
             shutil.rmtree(room, ignore_errors=True)
