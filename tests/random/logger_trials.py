@@ -466,8 +466,10 @@ def timed(path, told, seconds):
 
 @contextlib.contextmanager
 def held(told, missing):
-    """Holds a sender, once nothing is missing of what it has sent. Gives how many lines that are."""
+    """Holds a sender that has begun, once nothing is missing of what it has sent. Gives how many lines that are."""
     path, until = f"{told}.held", time.monotonic() + 60
+    while not os.path.getsize(told) and time.monotonic() < until:
+        time.sleep(0.05)
     open(path, "wb").close()
     while missing(sent := open(told, "rb").read().count(b"\n")):
         if time.monotonic() > until:
