@@ -5,33 +5,31 @@ brace as far to the right as the function's head.
 """
 import collections
 import functools
+import importlib.machinery
+import importlib.util
+import os
+import pathlib
 import re
+import shutil
+import sys
 
-# Its impl's head, or nothing; its name and the numbers of its head's line and its last; where its body begins and ends; all of its text.
-Function = collections.namedtuple("Function", "owner name line last begin end text")
+HERE = pathlib.Path(__file__).resolve().parent
+# What the kit asks of a crate whose edits it lists.
+Place = collections.namedtuple("Place", "name folder")
+# The head of its impl or trait, or nothing; its name; the numbers of its head's line and its last; where its comments, its body and what
+# follows begin; its text up to the body, without comments, and the whole.
+Function = collections.namedtuple("Function", "owner name line last start begin end head text")
 HEAD = re.compile(r'( *)(?:pub(?:\([^)]*\))? )?(?:default |const |unsafe |extern "C" )*fn (\w+)')
 
 
-def texts_of(edit):
-    """Yields the path, the old and the new text of each pair of an edit."""
-    path = old = None
-    for line in edit.read_text(encoding="utf-8").split("\n"):
-        if line.startswith("file: "):
-            path = line[len("file: ") :].strip()
-        elif line.startswith("old: "):
-            old = line[len("old: ") :]
-        elif line.startswith("new:"):
-            yield path, old, line[len("new:") :].removeprefix(" ")
-            old = None
-
-
-def misfit(edit, crate):
-    """Says why an edit can't be applied to a crate's folder, or nothing where it can."""
-    try:
-        edited(edit, crate)
-    except ValueError as fault:
-        return str(fault)
-    return None
+@functools.lru_cache(maxsize=None)
+def kit():
+    """The kit's command rt, as a module."""
+    sys.dont_write_bytecode = True
+    loader = importlib.machinery.SourceFileLoader("rt", os.path.realpath(shutil.which("rt") or sys.exit("the kit's command rt is not on the PATH")))
+    made = importlib.util.module_from_spec(importlib.util.spec_from_loader("rt", loader))
+    loader.exec_module(made)
+    return made
 
 
 @functools.lru_cache(maxsize=None)
@@ -48,23 +46,24 @@ def functions(text):
             owner = lines[at]
         elif lines[at] == "}":
             owner = ""
-        if head:
-            opened = opening(lines, at, head[1])
-            if opened is not None:
-                closed = opened if lines[opened].endswith("{}") else lines.index(f"{head[1]}}}", opened)
-                begin = starts[opened] + len(lines[opened]) - (1 if closed == opened else 0)
-                first = at
-                while re.match(rf"{head[1]}(#|//)", lines[first - 1]) and first > 0:
-                    first -= 1
-                end = begin if closed == opened else starts[closed]
-                found.append(Function(owner if head[1] else "", head[2], at + 1, closed + 1, begin, end, "\n".join(lines[first : closed + 1])))
-                at = closed
+        opened = opening(lines, at, head[1]) if head else None
+        if opened is not None:
+            closed = opened if lines[opened].endswith("{}") else lines.index(f"{head[1]}}}", opened)
+            begin = starts[opened] + len(lines[opened]) - (1 if closed == opened else 0)
+            first = at
+            while first > 0 and re.match(rf"{head[1]}(#|//)", lines[first - 1]):
+                first -= 1
+            said = "\n".join(it for it in lines[first : opened + 1] if not it.lstrip().startswith("//"))
+            end = begin if closed == opened else starts[closed]
+            whole = "\n".join(lines[first : closed + 1])
+            found.append(Function(owner if head[1] else "", head[2], at + 1, closed + 1, starts[first], begin, end, said, whole))
+            at = closed
         at += 1
     return found
 
 
 def opening(lines, at, indent):
-    """The line in which a function's body begins, whose head begins in this one; None where it has none."""
+    """The line in which a function's body begins, whose head begins in this one; None if it has none."""
     for place in range(at, len(lines)):
         line = lines[place]
         if line in (f"{indent}{{", f"{indent}{{}}") or line.endswith((" {", " {}")) and (place == at or line.startswith(f"{indent})")):
@@ -74,23 +73,44 @@ def opening(lines, at, indent):
     return None
 
 
+def without(text, begin="start"):
+    """A file's text without its functions, or without their bodies alone."""
+    for it in reversed(functions(text)):
+        text = text[: getattr(it, begin)] + text[it.end :]
+    return text
+
+
 def edited(edit, crate):
-    """The texts of the files that an edit changes, and the path and the function of each of its pairs; None stands for a place that is
-    in no body. A ValueError says why it can't be applied."""
-    texts, places = {}, []
-    for path, old, new in texts_of(edit):
-        if not path or not old:
-            raise ValueError("a 'new:' line stands before any 'file:' or 'old:' line")
-        if path not in texts:
-            if not (crate / path).is_file():
-                raise ValueError(f"there is no file {path}")
-            texts[path] = (crate / path).read_text(encoding="utf-8")
-        found, begin = texts[path].count(old), texts[path].find(old)
-        if found != 1:
-            raise ValueError(f"an 'old:' text stands in {path} {found} times, and not once: {old.strip()}")
-        inside = [it for it in functions(texts[path]) if path.endswith(".rt") and it.begin <= begin and begin + len(old) <= it.end]
-        places.append((path, inside[0] if inside else None))
-        texts[path] = texts[path].replace(old, new)
-    if not places:
-        raise ValueError("it has no 'old:' and 'new:' pair")
+    """The texts of the files that an edit changes, and the path, the function and the new body of each body that it changes; the last two are
+    None if it changes more of a file than bodies. A ValueError says why the edit cannot be applied."""
+    texts, why = kit().read_edit(str(edit), str(crate))
+    if why:
+        raise ValueError(why)
+    places = []
+    for path, text in texts.items():
+        was = (crate / path).read_text(encoding="utf-8")
+        if not path.endswith(".rt") or without(was, "begin") != without(text, "begin"):
+            places.append((path, None, None))
+            continue
+        pairs = zip(functions(was), functions(text))
+        places += [(path, old, text[new.begin : new.end]) for old, new in pairs if was[old.begin : old.end] != text[new.begin : new.end]]
     return texts, places
+
+
+def together(crate, changes):
+    """The texts of the files that changes of bodies change: of each the path, the function and the new body, no function twice."""
+    texts = {}
+    # From the last one on, so that what is before it is where it was.
+    for path, function, body in sorted(changes, key=lambda it: -it[1].begin):
+        text = texts.get(path) or (crate / path).read_text(encoding="utf-8")
+        texts[path] = text[: function.begin] + body + text[function.end :]
+    return texts
+
+
+def misfit(edit, crate):
+    """Says why an edit cannot be applied to a crate's folder, or nothing."""
+    try:
+        edited(edit, crate)
+    except ValueError as fault:
+        return str(fault)
+    return None

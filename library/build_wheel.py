@@ -1,4 +1,4 @@
-"""Makes the wheel that `pip install ./library` installs (PEP 517): the package n2kdec, with the library that it calls.
+"""Makes the wheel that `pip install ./library` installs (PEP 517): the package n2kdec, with its table and the library that it calls.
 
 The library is the file that the variable N2KDEC_LIBRARY names; else what library/build makes, where the command rt of the
 Rattle kit is there. Where it is not, the wheel has none, and the package calls the system's libn2kdec.so.1: where that
@@ -64,7 +64,9 @@ def build_wheel(wheel_directory, config_settings=None, metadata_directory=None):
     """Writes the wheel into a folder, and gives its name. The same files make the same bytes."""
     version, library = _version(), _library()
     tag = "py3-none-any" if library is None else f"py3-none-linux_{platform.machine()}"
-    files = {f"n2kdec/{name}": (HERE / "n2kdec" / name).read_bytes() for name in ("__init__.py", "py.typed")}
+    names = sorted(it.name for it in HERE.glob("n2kdec/*.py"))
+    files = {f"n2kdec/{name}": (HERE / "n2kdec" / name).read_bytes() for name in (*names, "py.typed")}
+    files["n2kdec/n2k.toml"] = (HERE.parent / "tables/n2k.toml").read_bytes()
     if library is not None:
         files["n2kdec/libn2kdec.so.1"] = library
     about = f"n2kdec-{version}.dist-info"

@@ -4,9 +4,9 @@
     tools/from_canboat.py canboat.json > canboat.toml
     tools/from_canboat.py --compare tables/n2k.toml canboat.json
 
-The first prints a table of format 3, and on standard error what is in it and what was left out, by cause. The second
-prints where that table differs from another one, message by message. tables/README.md says what is left out (Python
-3.9 or newer).
+The first command prints a table of format 3, and on standard error what the table contains and what was left out, by cause.
+The second prints how that table differs from another, message by message. tables/README.md says what is left out (Python 3.9
+or newer).
 """
 from __future__ import annotations
 

@@ -4,7 +4,7 @@ mixed.
 
     tools/random_log.py TABLE SEED LINES
 
-All messages are whole. The same words print the same log (Python 3.11 or newer).
+All messages are whole. The same arguments print the same log (Python 3.11 or newer).
 """
 import collections
 import random

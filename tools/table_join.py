@@ -1,15 +1,15 @@
 #!/usr/bin/env python3
-"""Prints a table joined of an owner's files and the shipped one, as n2k --also and n2k-logger --also take it.
+"""Prints a table that joins an owner's files with the shipped table, as n2k --also and n2k-logger --also use it.
 
     tools/table_join.py TABLE FILE..
 
-Each FILE is a table by itself, of any format, whose fields may name lookups of the others. Its definitions stand before
-those of TABLE, which has none of its own changed, and the first that matches is chosen; names of lookups of one name are
-put together, and of two names of one value that of the first file counts. The same files give the same bytes.
+Each FILE is a complete table, of any format; its fields may name lookups of the others. Its definitions come before those of
+TABLE, which are unchanged, and the first that matches is chosen. Lookups of one name are merged; if they name one value
+differently, the first file counts. The same files give the same bytes.
 
-A fault is told on standard error with file and line, and nothing is printed: status 2, and 3 where a file can't be read. So
-are definitions that hide another file's, or are of another kind than that one's of their PGN, which are left out, or than
-their PGN's range; then the table is printed (Python 3.9 or newer).
+A fault is reported on standard error with file and line, and nothing is printed: status 2, or 3 if a file can't be read.
+Definitions that hide those of another file are reported too, and so are definitions whose kind differs from that of their
+PGN's range, or from that of the PGN in another file, which are left out; then the table is printed (Python 3.9 or newer).
 """
 from __future__ import annotations
 

@@ -1,161 +1,381 @@
-"""Decodes the logs of many boats side by side on Dask: on the processors of this computer, or on a cluster.
+"""Decodes the logs of many boats side by side: on the processors of this computer, or on a cluster of Dask.
 
-    n2k-fleet [--scheduler ADDRESS] [--table FILE] [--columns PGN/FIELD,.. [--joined]] --out FOLDER LOG..
+    n2k-fleet [--scheduler ADDRESS] [--table FILE] [--also FILE] [--columns PGN/FIELD,.. [--joined]] --out FOLDER LOG..
 
-LOG is a boat's log (a file, maybe gzipped), or the folder of an `n2k-logger --raw`, whose days are parts of one log: they
-are decoded one behind the other, each from the state behind the one before. Boats are decoded side by side. Each computer
-has to see LOG and FOLDER under the same names, and to have the library (python3-n2kdec) and Dask (python3-distributed).
+LOG and FOLDER are names of this computer, or of fsspec, as s3://bucket/boats/*.
+
+LOG is a boat's log (a file, maybe compressed by gzip or zstd), or the folder of an `n2k-logger --raw`, whose days are parts of
+one log: each day is decoded after the day before it, from the state that the day before left. Boats are decoded side by side.
+Without a scheduler each boat gets a process of this computer, and nothing listens. On a cluster each worker must see LOG and
+FOLDER under the same names, and must have the library (python3-n2kdec); n2k-fleet sends the rest.
 
 FOLDER gets of each log NAME.json.gz, what `n2kdec decode --in-order` prints, and NAME.reports, its reports and the line of
-counts; of a folder of days BOAT/DATE.json.gz, BOAT/DATE.reports, and BOAT/DATE.state, the state behind the day. Each is
-written beside and renamed, so what is there is whole. What is there, and newer than log, table and program, is not made
-again. One call works in a FOLDER at a time.
+counts; of a folder of days BOAT/DATE.json.gz, BOAT/DATE.reports, and BOAT/DATE.state, the state after the day. Each file is
+written under another name and renamed when it is whole. FOLDER/.n2k-fleet records what each file was made of: a file is made
+again if its log, a day before it, the table or the program has changed. One call at a time works in a FOLDER.
 
-    --scheduler ADDRESS   that of a dask-scheduler, as tcp://10.0.0.2:8786; without it this computer's processors work
-    --table FILE          the table; without it the one that is installed
-    --columns LIST        in place of JSON a table NAME.csv a boat, as `n2k --csv` makes it of these columns
-    --joined              and all boats in one, fleet.csv, whose first column is the boat
+    --scheduler ADDRESS   the address of a dask-scheduler, as tcp://10.0.0.2:8786 [default: DASK_SCHEDULER_ADDRESS or Dask's
+                          configuration; if neither has one, or ADDRESS is empty, this computer works]
+    --table FILE          the table [default: the installed table]
+    --also FILE           add the messages and names of your own table, as n2k --also does; may be given several times
+    --columns LIST        instead of JSON a table NAME.csv for each boat, as `n2k --csv` makes it of these columns,
+                          each of the first thing that comes
+    --joined              with --columns: also all boats in one table, fleet.csv, whose first column is the boat
 
-At the end a table has days, lines and counts of each boat. The status is 1 where lines were bad, 2 for the words and the
-table, 3 where a log failed: it is named, and the others are done.
+If a day cannot be read, n2k-fleet names it and decodes the next day from no state. At the end a table has days, lines and
+counts of each boat. The status is 1 if lines were bad, 2 if an argument or the table is refused, 3 if a log failed or the
+work stopped; n2k-fleet names each fault, and does the other boats.
 
-From a notebook, `bag(logs)` is a Dask bag of messages, and `frame(logs, columns)` a Dask data frame.
+In a notebook `bag(logs)` is a Dask bag of messages; `n2kdec.frame` gives a Dask data frame of one PGN.
 """
 from __future__ import annotations
 
 import argparse
+import collections
 import contextlib
+import copy
+import fcntl
+import functools
+import getpass
 import gzip
+import hashlib
 import importlib.machinery
 import importlib.util
 import json
 import logging
+import multiprocessing
+import multiprocessing.connection
 import os
 import pathlib
+import pickle
+import platform
 import re
-import shutil
+import signal
 import socket
+import subprocess
 import sys
 import tempfile
 import threading
 import time
+import uuid
 import zipfile
-import zlib
 from collections.abc import Callable, Iterator, Sequence
-from typing import Any, BinaryIO, NamedTuple, Optional
+from typing import Any, BinaryIO, NamedTuple, Optional, Union
 
-import n2kdec
+try:
+    import n2kdec
+    from n2kdec._logs import Boat, Chain, Log, LogError, boats_of, is_remote, messages_of, names_of, store_of
+    MISSING = ""
+except ImportError as _error:  # a worker gets this file even if it has no library, and says so
+    MISSING = str(_error)
 
 HERE = pathlib.Path(__file__).resolve().parent
-PIECE = 1 << 20
-DAY = re.compile(r"(\d{4}-\d\d-\d\d)\.log(\.gz)?")
-# What reading a log or writing beside it may raise.
-FAULTS = (OSError, EOFError, zlib.error, n2kdec.Error)
+# The folder of records within a folder of results, and the names of files that are not whole yet.
+OWN = ".n2k-fleet"
+UNFINISHED = re.compile(r"\..+\.(json|json\.gz|reports|state|csv)\.new-.+-\d+-\d+")
+TRIES = 3
 
 
-class Boat(NamedTuple):
-    """A boat's log: one file, or the files of its days, which are parts of one log."""
+class Program(NamedTuple):
+    """The library that decodes: its version, for which processor it is, and the digest of its files."""
 
-    name: str
-    logs: tuple[str, ...]
-    has_days: bool
+    version: str
+    machine: str
+    digest: str
 
-    def part(self, log: str) -> str:
-        """What the files of a part are called, below the folder."""
-        name = re.sub(r"(\.log)?(\.gz)?$", "", pathlib.Path(log).name) if self.has_days else self.name
-        return f"{self.name}/{name}" if self.has_days else name
+
+class Job(NamedTuple):
+    """What is the same for all boats of a call."""
+
+    toml: bytes
+    program: Program
+    folder: str
+    columns: tuple[str, ...]
+    call: str
+
+    def key(self, before: str, log: Log) -> str:
+        """What a part is made of: the parts before it, its log, the table, the program and the columns."""
+        own = [before, log.mark, hashlib.sha256(self.toml).hexdigest(), self.program.digest, *self.columns]
+        return hashlib.sha256("\n".join(own).encode()).hexdigest()
 
 
 class Done(NamedTuple):
-    """What came of a boat: the counts behind its last part that was decoded, how many lines this call decoded in how many
-    seconds, and why it ended early."""
+    """What came of a boat: how many parts are made, the counts after the last one, how many lines this call decoded in how
+    many seconds, the parts that cannot be read, and why and from where on the others are not made."""
 
     boat: str
     days: int
     counts: n2kdec.Counts
     lines: int
     seconds: float
-    fault: Optional[str]
+    faults: tuple[str, ...]
+    stop: Optional[tuple[str, str]]
 
 
-class NoLog(ValueError):
-    """A file in which no line is one of a log."""
+class Wrong(NamedTuple):
+    """A worker that has another program, or none."""
+
+    worker: str
+    text: str
 
 
-def boats_of(paths: Sequence[str]) -> list[Boat]:
-    """The boats of files and folders. ValueError where a folder has no days, or two boats have one name."""
-    boats: dict[str, Boat] = {}
-    for path in map(pathlib.Path, paths):
-        path = path.absolute()
-        if path.is_dir():
-            inner = path / "raw" if (path / "raw").is_dir() else path
-            days = sorted(it for it in inner.iterdir() if DAY.fullmatch(it.name))
-            if not days:
-                raise ValueError(f"{path} has no days: a folder is that of an n2k-logger --raw")
-            boat = Boat(path.name, tuple(map(str, days)), True)
-        else:
-            boat = Boat(re.sub(r"(\.log)?(\.gz)?$", "", path.name), (str(path),), False)
-        if boat.name in boats:
-            raise ValueError(f"{boats[boat.name].logs[0]} and {boat.logs[0]} are both called {boat.name}")
-        boats[boat.name] = boat
-    return list(boats.values())
+class Lost(Exception):
+    """The scheduler does not answer, or no longer answers."""
 
 
-def opened(log: str) -> BinaryIO:
-    file = open(log, "rb")
-    if file.peek(2)[:2] != b"\x1f\x8b":
-        return file
-    return gzip.GzipFile(fileobj=file)  # type: ignore[return-value]
+class Busy(Exception):
+    """Another call works in the folder."""
 
 
-def decode_part(log: str, toml: bytes, state: Optional[bytes], write: Callable[[bytes], object],
-                report: Callable[[bytes], object]) -> tuple[n2kdec.Counts, bytes]:
-    """Hands on what `n2kdec decode --in-order` prints and reports of a log, as it comes. The counts and the state behind it."""
-    with n2kdec.Decoder(toml, state=state, in_order=True) as decoder, opened(log) as file:
-        def step() -> None:
-            write(decoder.take())
-            for line in decoder.reports():
-                report(f"{line}\n".encode())
-
-        while piece := file.read(PIECE):
-            decoder.feed(piece)
-            step()
-        decoder.end()
-        step()
-        counts = decoder.counts
-        if state is None and counts.bad and not any((counts.messages, counts.unknown, counts.broken, counts.open)):
-            raise NoLog(f"no line of {log} is one of a log")
-        report(line_of(counts).encode())
-        return counts, decoder.save()
+@functools.lru_cache(None)
+def program() -> Program:
+    """The program of this computer. OSError if there is no library."""
+    if MISSING:
+        raise OSError(MISSING)
+    n2kdec.Decoder(b"format = 3").close()
+    with open("/proc/self/maps", encoding="utf-8", errors="surrogateescape") as maps:
+        loaded = {line.split(None, 5)[5].rstrip("\n") for line in maps if "libn2kdec" in line}
+    digest = hashlib.sha256()
+    for file in [*sorted(pathlib.Path(n2kdec.__file__).parent.glob("*.py")), *sorted(loaded)]:
+        digest.update(pathlib.Path(str(file)).read_bytes())
+    return Program(n2kdec.__version__, platform.machine(), digest.hexdigest())
 
 
-def line_of(counts: n2kdec.Counts) -> str:
-    return " ".join(f"{name} {number}" for name, number in counts._asdict().items()) + "\n"
-
-
-def counts_in(reports: pathlib.Path) -> n2kdec.Counts:
-    """The counts in the last line of a file of reports."""
-    with open(reports, "rb") as file:
-        file.seek(max(0, os.path.getsize(reports) - 200))
-        words = file.read().split(b"\n")[-2].split()
-    return n2kdec.Counts(*map(int, words[1::2]))
-
-
-@contextlib.contextmanager
-def beside(path: pathlib.Path, began: int) -> Iterator[BinaryIO]:
-    """A file that takes the place of `path` once it is whole. It has the time at which the work began: a log that grows
-    meanwhile is newer."""
-    path.parent.mkdir(parents=True, exist_ok=True)
-    new = path.with_name(f".{path.name}.new-{socket.gethostname()}-{os.getpid()}-{threading.get_ident()}")
+def difference(wanted: Program) -> str:
+    """Why this computer cannot work for one with the program `wanted`, or nothing."""
     try:
-        with open(new, "wb") as file:
-            yield file
+        own = program()
+    except Exception as error:  # also those of an n2kdec that is not here
+        return f"has no n2kdec: {error}"
+    if own.version != wanted.version:
+        return f"has n2kdec {own.version}, and this computer {wanted.version}"
+    if own.machine == wanted.machine and own.digest != wanted.digest:
+        return f"has other files of n2kdec {own.version} than this computer"
+    return ""
+
+
+class Folder:
+    """A folder of this computer that gets what is made. Names in it are relative."""
+
+    def __init__(self, name: str) -> None:
+        self.name = name
+
+    def path(self, name: str) -> str:
+        return os.path.join(self.name, name)
+
+    def names(self, folder: str) -> set[str]:
+        """What is in a folder of it, which may not be there."""
+        try:
+            return set(os.listdir(self.path(folder)))
+        except FileNotFoundError:
+            return set()
+
+    def read(self, name: str) -> Optional[bytes]:
+        try:
+            return pathlib.Path(self.path(name)).read_bytes()
+        except FileNotFoundError:
+            return None
+
+    def open(self, name: str) -> BinaryIO:
+        return open(self.path(name), "rb")
+
+    @contextlib.contextmanager
+    def new(self, name: str, is_kept: bool = True) -> Iterator[BinaryIO]:
+        """A file that gets its name when it is whole; if `is_kept`, a power cut after that does not undo it."""
+        folder, base = os.path.split(self.path(name))
+        os.makedirs(folder, exist_ok=True)
+        new = os.path.join(folder, f".{base}.new-{socket.gethostname()}-{os.getpid()}-{threading.get_ident()}")
+        try:
+            with open(new, "w+b") as file:
+                yield file
+                file.flush()
+                if is_kept:
+                    os.fsync(file.fileno())
+            os.replace(new, self.path(name))
+        finally:
+            with contextlib.suppress(FileNotFoundError):
+                os.unlink(new)
+
+    def clean(self, folders: Sequence[str]) -> None:
+        """Removes the files that a process which was killed has left in these folders of it."""
+        for folder in folders:
+            for name in filter(UNFINISHED.fullmatch, self.names(folder)):
+                with contextlib.suppress(FileNotFoundError):
+                    os.unlink(self.path(os.path.join(folder, name)))
+
+    @contextlib.contextmanager
+    def held(self, call: str) -> Iterator[None]:
+        """Keeps the folder for this call. Busy if another call has it."""
+        name = self.path(f"{OWN}/lock")
+        os.makedirs(os.path.dirname(name), exist_ok=True)
+        while True:
+            file = open(name, "a+", encoding="utf-8")
+            try:
+                fcntl.flock(file, fcntl.LOCK_EX | fcntl.LOCK_NB)
+            except BlockingIOError:
+                raise Busy(f"{self.name}: another call works there: {holder_of(self.read(f'{OWN}/lock'))}") from None
+            # The call that had it may have removed the file meanwhile.
+            with contextlib.suppress(FileNotFoundError):
+                if os.fstat(file.fileno()).st_ino == os.stat(name).st_ino:
+                    break
+            file.close()
+        with file:
+            file.truncate(0)
+            file.write(this_call(call))
             file.flush()
-            os.fsync(file.fileno())
-        os.utime(new, ns=(began, began))
-        os.replace(new, path)
-    finally:
-        new.unlink(missing_ok=True)
+            try:
+                yield
+            finally:
+                os.unlink(name)
+
+
+class RemoteFolder(Folder):
+    """A folder of a store that fsspec knows."""
+
+    def __init__(self, name: str) -> None:
+        super().__init__(name.rstrip("/"))
+        self.store, self.root = store_of(self.name)
+
+    def path(self, name: str) -> str:
+        return f"{self.root}/{name}".rstrip("/")
+
+    @contextlib.contextmanager
+    def asked(self) -> Iterator[None]:
+        """Each store has errors of its own."""
+        try:
+            yield
+        except Exception as error:
+            raise OSError(f"{self.name}: {error}") from error
+
+    def has(self, name: str) -> bool:
+        self.store.invalidate_cache()
+        return bool(self.store.exists(self.path(name)))
+
+    def names(self, folder: str) -> set[str]:
+        with self.asked():
+            found = self.store.ls(self.path(folder), detail=False) if self.has(folder) else []
+            return {it.rstrip("/").rpartition("/")[2] for it in found}
+
+    def read(self, name: str) -> Optional[bytes]:
+        with self.asked():
+            return bytes(self.store.cat_file(self.path(name))) if self.has(name) else None
+
+    def open(self, name: str) -> BinaryIO:
+        with self.asked():
+            file: BinaryIO = self.store.open(self.path(name), "rb")
+            return file
+
+    @contextlib.contextmanager
+    def new(self, name: str, is_kept: bool = True) -> Iterator[BinaryIO]:
+        """It is made here, sent under another name, and renamed there."""
+        folder, base = os.path.split(self.path(name))
+        new = f"{folder}/.{base}.new-{socket.gethostname()}-{os.getpid()}-{threading.get_ident()}"
+        with tempfile.NamedTemporaryFile() as file:
+            yield file  # type: ignore[misc]
+            file.flush()
+            with self.asked():
+                self.store.makedirs(folder, exist_ok=True)
+                self.store.put_file(file.name, new)
+                self.store.mv(new, self.path(name))
+
+    def clean(self, folders: Sequence[str]) -> None:
+        for folder in folders:
+            for name in filter(UNFINISHED.fullmatch, self.names(folder)):
+                with self.asked():
+                    self.store.rm_file(self.path(f"{folder}/{name}".lstrip("/")))
+
+    @contextlib.contextmanager
+    def held(self, call: str) -> Iterator[None]:
+        """A store has no locks: what another call has written there counts, if its process may still be there."""
+        name = f"{OWN}/lock"
+        lock = self.read(name)
+        if lock and not has_ended(lock):
+            raise Busy(f"{self.name}: another call works there: {holder_of(lock)}; if it has ended, remove {self.name}/{name}")
+        with self.new(name) as file:
+            file.write(this_call(call).encode())
+        check_call(self, call)
+        try:
+            yield
+        finally:
+            with self.asked():
+                self.store.rm_file(self.path(name))
+
+
+def folder_of(name: str) -> Folder:
+    return RemoteFolder(name) if is_remote(name) else Folder(name)
+
+
+def has_ended(lock: bytes) -> bool:
+    """Whether the call that wrote this was one of this computer, and its process has ended."""
+    try:
+        it = json.loads(lock)
+        if it["host"] == socket.gethostname():
+            os.kill(it["process"], 0)
+    except ProcessLookupError:
+        return True
+    except (ValueError, KeyError, OSError):
+        pass
+    return False
+
+
+def this_call(call: str) -> str:
+    """What the lock says of this call."""
+    try:
+        user = getpass.getuser()
+    except (KeyError, OSError):
+        user = str(os.getuid())
+    since = time.strftime("%Y-%m-%dT%H:%M:%SZ", time.gmtime())
+    return json.dumps({"call": call, "host": socket.gethostname(), "process": os.getpid(), "user": user, "since": since})
+
+
+def holder_of(lock: Optional[bytes]) -> str:
+    """Who has a folder."""
+    try:
+        it = json.loads(lock or b"")
+        return f"process {it['process']} of {it['user']} on {it['host']}, since {it['since']}"
+    except (ValueError, KeyError):
+        return "it has just begun"
+
+
+class Record:
+    """What the files of a boat were made of: of each part its key and its counts."""
+
+    def __init__(self, folder: Folder, name: str) -> None:
+        self.folder, self.name = folder, f"{OWN}/{name}.json"
+        try:
+            self.parts = json.loads(folder.read(self.name) or b"{}")
+        except ValueError:
+            self.parts = {}
+        self.saved = 0.0
+
+    def counts(self, part: str, key: str) -> Optional[n2kdec.Counts]:
+        """The counts of a part if it was made of this."""
+        known, counts = self.parts.get(part, ("", None))
+        return n2kdec.Counts(*counts) if known == key else None
+
+    def forget(self, part: str) -> None:
+        """A part is made anew: while its files change, the record does not name them."""
+        if self.parts.pop(part, None):
+            self.save()
+
+    def put(self, part: str, key: str, counts: n2kdec.Counts) -> None:
+        self.parts[part] = key, counts
+        # A boat may have thousands of short days. A killed worker's last second is done again.
+        if time.monotonic() - self.saved > 1:
+            self.save()
+
+    def save(self) -> None:
+        with self.folder.new(self.name, is_kept=False) as file:
+            file.write(json.dumps(self.parts).encode())
+        self.saved = time.monotonic()
+
+
+def added(one: n2kdec.Counts, other: n2kdec.Counts) -> n2kdec.Counts:
+    return n2kdec.Counts(*(it + its for it, its in zip(one, other)))
+
+
+def line_of(counts: n2kdec.Counts) -> bytes:
+    return (" ".join(f"{name} {number}" for name, number in counts._asdict().items()) + "\n").encode()
 
 
 def packed(file: BinaryIO) -> gzip.GzipFile:
@@ -163,42 +383,101 @@ def packed(file: BinaryIO) -> gzip.GzipFile:
     return gzip.GzipFile(filename="", fileobj=file, mode="wb", compresslevel=1, mtime=0)
 
 
-def is_made(made: Sequence[pathlib.Path], of: Sequence[str], state: Optional[pathlib.Path] = None) -> bool:
-    """Whether these files are there, and newer than what they are made of: each package and copy keeps the time of
-    writing, so what counts is when a file came to be what it is here. `state` is that of the day before, which a call that
-    was ended may have made anew."""
-    newest = max(*(os.stat(it).st_ctime_ns for it in of), state.stat().st_mtime_ns if state else 0)
-    return all(it.exists() and it.stat().st_mtime_ns > newest for it in made)
+def check_call(folder: Folder, call: str) -> None:
+    """OSError if another call has begun to work in the folder: then nothing more gets a name for this call."""
+    with contextlib.suppress(ValueError):
+        if json.loads(folder.read(f"{OWN}/lock") or b"{}").get("call", call) != call:
+            raise OSError(f"{folder.name}: another call works there now")
 
 
-def decode_boat(boat: Boat, toml: bytes, sources: Sequence[str], folder: str) -> Done:
-    """Makes the files of a boat, those of days that are made already left out. `sources` are the files of table and
-    program."""
-    start, lines, counts, fault = time.monotonic(), 0, n2kdec.Counts(0, 0, 0, 0, 0, 0), None
-    state: Optional[pathlib.Path] = None
-    is_new = False
-    for day, log in enumerate(boat.logs):
-        base = pathlib.Path(folder) / boat.part(log)
-        messages, reports, after = (base.with_name(base.name + end) for end in (".json.gz", ".reports", ".state"))
-        try:
-            made = [messages, reports, after] if boat.has_days else [messages, reports]
-            if not is_new and is_made(made, [log, *sources], state):
-                counts = counts_in(reports)
+class Work:
+    """The work on a boat, and what comes of it."""
+
+    def __init__(self, boat: Boat, job: Job) -> None:
+        self.boat, self.job, self.start = boat, job, time.monotonic()
+        self.folder = folder_of(job.folder)
+        self.record = Record(self.folder, f"{boat.name}.csv" if job.columns else boat.name)
+        self.chain = Chain(job.toml)
+        self.days = self.lines = 0
+        # The counts of the part before, and of what ended with a part that cannot be read.
+        self.counts = self.ended = n2kdec.Counts(0, 0, 0, 0, 0, 0)
+        self.faults: list[str] = []
+        self.is_broken = False
+
+    def done(self, stop: Optional[tuple[str, str]] = None) -> Done:
+        self.chain.end()
+        return Done(self.boat.name, self.days, added(self.counts, self.ended), self.lines, time.monotonic() - self.start, tuple(self.faults), stop)
+
+    def put(self, log: Log, counts: n2kdec.Counts, lines: int) -> None:
+        """A part is made."""
+        if self.is_broken:
+            self.faults[-1] += f"; {log.part} begins from no state"
+        self.is_broken, self.counts = False, counts
+        self.days, self.lines = self.days + 1, self.lines + lines
+
+    def fail(self, error: LogError) -> None:
+        """A part cannot be read."""
+        self.faults.append(str(error))
+        self.is_broken = True
+        self.ended = added(self.counts, self.ended)
+        self.counts = n2kdec.Counts(0, 0, 0, 0, 0, 0)
+
+
+def stop_of(error: Exception, where: str) -> tuple[str, str]:
+    """Why a boat's work ends, and from where on: the same cause has the same words."""
+    return (error.strerror if isinstance(error, OSError) and error.strerror else str(error)), where
+
+
+def decode_boat(boat: Boat, job: Job, may_work: bool = True) -> Optional[Done]:
+    """Makes the files of a boat that are not made yet; None if there are some and it may not work."""
+    work, key, before = Work(boat, job), "", ""
+    names = work.folder.names(boat.name if boat.has_days else "")
+    try:
+        for log in boat.logs:
+            base = f"{boat.name}/{log.part}" if boat.has_days else boat.name
+            files = [f"{log.part}{end}" for end in (".json.gz", ".reports", *[".state"][:boat.has_days])]
+            key = job.key(key, log)
+            counts = None if log.fault else work.record.counts(log.part, key)
+            if counts is not None and names.issuperset(files):
+                work.chain.end()
+                work.put(log, counts, 0)
+            elif not may_work:
+                return None
             else:
-                is_new, began = True, time.time_ns()
-                before = state.read_bytes() if state else None
-                with beside(messages, began) as out, beside(reports, began) as said, packed(out) as text:
-                    new, saved = decode_part(log, toml, before, text.write, said.write)
-                    text.close()
-                    if boat.has_days:
-                        with beside(after, began) as file:
-                            file.write(saved)
-                lines, counts = lines + new.lines - counts.lines, new
-            state = after
-        except (*FAULTS, NoLog) as error:
-            fault = f"{log}: {error}" if log not in str(error) else str(error)
-            return Done(boat.name, day, counts, lines, time.monotonic() - start, fault)
-    return Done(boat.name, len(boat.logs), counts, lines, time.monotonic() - start, fault)
+                try:
+                    if counts is None:
+                        work.record.forget(log.part)
+                    counts = decode_part(work, log, base, before)
+                    work.record.put(log.part, key, counts)
+                    work.put(log, counts, counts.lines - work.counts.lines)
+                except LogError as error:
+                    work.fail(error)
+                    key = before = ""
+                    continue
+            before = f"{base}.state"
+        if may_work:
+            work.record.save()
+        return work.done()
+    except (OSError, n2kdec.Error) as error:
+        return work.done(stop_of(error, f"{boat.name} from {log.part} on" if boat.has_days else boat.name))
+
+
+def decode_part(work: Work, log: Log, base: str, before: str) -> n2kdec.Counts:
+    """Makes the files of a part, whose names begin with `base`; `before` is the state that it goes on from."""
+    folder, chain = work.folder, work.chain
+    if chain.decoder is None:
+        chain.begin(folder.read(before) if before else None)
+    with folder.new(f"{base}.json.gz") as out, folder.new(f"{base}.reports") as reports, packed(out) as text:
+        for printed, told in chain.decode(log):
+            text.write(printed)
+            reports.write("".join(f"{it}\n" for it in told).encode())
+        reports.write(line_of(chain.counts))
+        text.close()
+        check_call(folder, work.job.call)
+        if work.boat.has_days:
+            with folder.new(f"{base}.state") as state:
+                state.write(chain.save())
+    return chain.counts
 
 
 def convert() -> Any:
@@ -217,44 +496,80 @@ def convert() -> Any:
     return module
 
 
-def rows(boat: Boat, toml: bytes, columns: Sequence[str], write: Callable[[str], object],
-         report: Callable[[bytes], object]) -> n2kdec.Counts:
-    """Hands on the rows of a boat, as `n2k --csv` makes them of the columns."""
-    recipe = convert()
-    csv, state, counts, wrong = recipe.Csv(list(columns)), None, n2kdec.Counts(0, 0, 0, 0, 0, 0), [0]
+class Rows:
+    """The rows of a boat, as `n2k --csv` makes them of the columns."""
 
-    def take(text: bytes) -> None:
-        lines = text.decode("utf-8", "surrogateescape").split("\n")
-        write("".join(csv.lines(recipe.found_in(lines, wrong, csv.sieve))))
+    def __init__(self, columns: Sequence[str]) -> None:
+        self.recipe = convert()
+        self.csv = self.recipe.Csv(list(columns), True)
+        self.head: str = self.csv.head
 
-    write(csv.head)
+    def of(self, printed: bytes) -> str:
+        lines = printed.decode("utf-8", "surrogateescape").split("\n")
+        return "".join(self.csv.lines(self.recipe.found_in(lines, [0], self.csv.sieve)))
+
+
+def tabulate_boat(boat: Boat, job: Job, may_work: bool = True) -> Optional[Done]:
+    """Makes NAME.csv and NAME.reports of a boat if they are not made yet; None if they are not and it may not work."""
+    work, key = Work(boat, job), ""
     for log in boat.logs:
-        counts, state = decode_part(log, toml, state, take, report)
-    return counts
-
-
-def tabulate_boat(boat: Boat, toml: bytes, sources: Sequence[str], folder: str, columns: Sequence[str]) -> Done:
-    """Makes NAME.csv and NAME.reports of a boat, if they are not made already, of these columns."""
-    start, counts = time.monotonic(), n2kdec.Counts(0, 0, 0, 0, 0, 0)
-    csv, reports = (pathlib.Path(folder) / (boat.name + end) for end in (".csv", ".reports"))
+        key = job.key(key, log)
+    made = work.record.counts("csv", key)
+    if made is not None and work.folder.names("").issuperset([f"{boat.name}.csv", f"{boat.name}.reports"]):
+        work.counts, work.days = made, len(boat.logs)
+        return work.done()
+    if not may_work:
+        return None
     try:
-        if is_made([csv, reports], [*boat.logs, *sources]):
-            with open(csv, encoding="utf-8") as file:
-                if file.readline() == convert().Csv(list(columns)).head:
-                    return Done(boat.name, len(boat.logs), counts_in(reports), 0, time.monotonic() - start, None)
-        began = time.time_ns()
-        with beside(csv, began) as out, beside(reports, began) as said:
-            counts = rows(boat, toml, columns, lambda text: out.write(text.encode("utf-8", "surrogateescape")), said.write)
-    except (*FAULTS, NoLog) as error:
-        return Done(boat.name, 0, counts, 0, time.monotonic() - start, f"{boat.name}: {error}")
-    return Done(boat.name, len(boat.logs), counts, counts.lines, time.monotonic() - start, None)
+        work.record.forget("csv")
+        with work.folder.new(f"{boat.name}.csv") as out, work.folder.new(f"{boat.name}.reports") as reports:
+            tabulate_parts(work, out, reports)
+            check_call(work.folder, job.call)
+        if not work.faults:
+            work.record.put("csv", key, work.counts)
+            work.record.save()
+        return work.done()
+    except (OSError, n2kdec.Error) as error:
+        return work.done(stop_of(error, boat.name))
 
 
-def join(boats: Sequence[str], folder: pathlib.Path) -> None:
+def tabulate_parts(work: Work, out: BinaryIO, reports: BinaryIO) -> None:
+    """Writes rows and reports of all parts of a boat. A part that cannot be read leaves none."""
+    rows = Rows(work.job.columns)
+    out.write(rows.head.encode("utf-8", "surrogateescape"))
+    for log in work.boat.logs:
+        began, before = (out.tell(), reports.tell()), copy.deepcopy(rows.csv)
+        try:
+            for printed, told in work.chain.decode(log):
+                out.write(rows.of(printed).encode("utf-8", "surrogateescape"))
+                reports.write("".join(f"{it}\n" for it in told).encode())
+            counts = work.chain.counts
+            reports.write(line_of(counts))
+            work.put(log, counts, counts.lines - work.counts.lines)
+        except LogError as error:
+            work.fail(error)
+            for file, place in zip((out, reports), began):
+                file.seek(place)
+                file.truncate()
+            rows.csv = before
+
+
+def work_on(boat: Boat, job: Job) -> Done:
+    """Makes what a call makes of a boat."""
+    done = (tabulate_boat if job.columns else decode_boat)(boat, job)
+    assert done
+    return done
+
+
+def failed(boat: Boat, text: str) -> Done:
+    return Done(boat.name, 0, n2kdec.Counts(0, 0, 0, 0, 0, 0), 0, 0.0, (text,), None)
+
+
+def join(boats: Sequence[str], folder: Folder) -> None:
     """One table of all boats, whose first column is the boat."""
-    with beside(folder / "fleet.csv", time.time_ns()) as out:
+    with folder.new("fleet.csv") as out:
         for at, name in enumerate(sorted(boats)):
-            with open(folder / f"{name}.csv", "rb") as file:
+            with folder.open(f"{name}.csv") as file:
                 head = file.readline()
                 if not at:
                     out.write(b'"boat",' + head)
@@ -263,72 +578,28 @@ def join(boats: Sequence[str], folder: pathlib.Path) -> None:
                     out.write(cell + line)
 
 
-def shipped_table() -> pathlib.Path:
-    places = HERE.parent / "n2k.toml", HERE.parents[1] / "tables/n2k.toml"
+def shipped(name: str) -> pathlib.Path:
+    """A file that is installed above the recipes; in the sources it has another folder."""
+    places = HERE.parent / name, HERE.parents[1] / "tables" / name, HERE.parents[1] / "tools" / name
     return next((it for it in places if it.exists()), places[0])
 
 
-def messages_of(boat: Boat, toml: bytes) -> Iterator[dict[str, Any]]:
-    """The messages of a boat, as they come."""
-    state = None
-    for log in boat.logs:
-        with n2kdec.Decoder(toml, state=state, in_order=True) as decoder, opened(log) as file:
-            yield from decoder.decode(file)
-            state = decoder.save()
-
-
 def bag(logs: Sequence[str], table: Any = None) -> Any:
-    """A Dask bag of the messages of logs, as dicts: a partition a boat."""
+    """A Dask bag of the messages of logs, as dicts: a partition a boat. Workers need the library alone."""
+    import dask
     import dask.bag
-    boats, toml = boats_of(logs), pathlib.Path(table or shipped_table()).read_bytes()
+    boats, toml = boats_of(logs), dask.delayed(pathlib.Path(table or shipped("n2k.toml")).read_bytes())
     return dask.bag.from_sequence(boats, npartitions=len(boats)).map(messages_of, toml).flatten()
 
 
-def rows_of(boat: Boat, toml: bytes, columns: Sequence[str], texts: Sequence[str]) -> Any:
-    """The data frame of a boat."""
-    import io
-
-    import pandas
-    text = io.StringIO()
-    rows(boat, toml, columns, text.write, lambda _: None)
-    text.seek(0)
-    found = pandas.read_csv(text, dtype=str, header=0, names=["time", *columns], keep_default_na=False)
-    found.insert(0, "boat", boat.name)
-    found["time"] = pandas.to_datetime(found["time"], utc=True, errors="coerce")
-    for name in columns:
-        if name not in texts:
-            found[name] = pandas.to_numeric(found[name], errors="coerce")
-    return found
-
-
-def frame(logs: Sequence[str], columns: Sequence[str], table: Any = None, texts: Sequence[str] = ()) -> Any:
-    """A Dask data frame of the columns, as PGN/FIELD: a partition a boat, with `boat` and `time` before them. Columns are
-    numbers, and what is none is missing, but those that `texts` names."""
-    import dask
-    import dask.dataframe
-    import pandas
-    toml = pathlib.Path(table or shipped_table()).read_bytes()
-    kinds = {"boat": "object", "time": "datetime64[ns, UTC]", **{it: "object" if it in texts else "float64" for it in columns}}
-    shape = pandas.DataFrame({name: pandas.Series(dtype=kind) for name, kind in kinds.items()})
-    parts = [dask.delayed(rows_of)(boat, toml, columns, texts) for boat in boats_of(logs)]
-    return dask.dataframe.from_delayed(parts, meta=shape)
-
-
 def send_recipes(client: Any) -> None:
-    """Workers get this file and the recipe that makes CSV, those too that come later."""
+    """Workers get this file and the recipe that makes CSV; so do workers that come later."""
     with tempfile.TemporaryDirectory() as folder:
         archive = pathlib.Path(folder) / "n2k_fleet.zip"
         with zipfile.ZipFile(archive, "w") as file:
             file.write(HERE / "fleet.py", "fleet.py")
             file.write(HERE / "convert", "n2k_convert.py")
         client.upload_file(str(archive))
-
-
-def program_files() -> list[str]:
-    """The module, and the library that it has loaded."""
-    with open("/proc/self/maps", encoding="utf-8", errors="surrogateescape") as maps:
-        loaded = {line.split(None, 5)[5].rstrip("\n") for line in maps if "/libn2kdec.so" in line}
-    return [n2kdec.__file__, *sorted(loaded)]
 
 
 def say(text: str) -> None:
@@ -350,38 +621,142 @@ def table_text(done: Sequence[Done], seconds: float) -> str:
                              for at, (cell, width) in enumerate(zip(row, widths))) + "\n" for row in rows)
 
 
-def work(client: Any, boats: Sequence[Boat], toml: bytes, sources: Sequence[str], folder: pathlib.Path,
-         columns: Sequence[str]) -> list[Done]:
-    """What comes of each boat, in their order. A boat whose worker died goes to another."""
+def run_child(writer: multiprocessing.connection.Connection, boat: Boat, job: Job) -> None:
+    """What a process of this computer does."""
+    # Ctrl-C goes to all; the parent ends its children.
+    signal.signal(signal.SIGINT, signal.SIG_IGN)
+    signal.signal(signal.SIGTERM, signal.SIG_DFL)
+    try:
+        writer.send(work_on(boat, job))
+    except Exception as error:  # pylint: disable=broad-except
+        writer.send(failed(boat, f"{boat.name}: {error!r}"))
+
+
+def on_this_computer(boats: Sequence[Boat], job: Job) -> Iterator[Done]:
+    """What comes of each boat. A boat whose process died gets another, three in all."""
+    # fsspec has threads, and a process with threads cannot be forked.
+    is_plain = not any(map(is_remote, [job.folder, *(log.file for boat in boats for log in boat.logs)]))
+    context: Any = multiprocessing.get_context("fork" if is_plain else "spawn")
+    waiting, tries = collections.deque(boats), collections.Counter[str]()
+    busy: dict[Any, tuple[Any, Boat]] = {}
+    try:
+        while waiting or busy:
+            while waiting and len(busy) < len(os.sched_getaffinity(0)):
+                boat = waiting.popleft()
+                reader, writer = context.Pipe(duplex=False)
+                process = context.Process(target=run_child, args=(writer, boat, job), daemon=True)
+                process.start()
+                writer.close()
+                busy[reader] = process, boat
+            for reader in multiprocessing.connection.wait(list(busy)):
+                process, boat = busy.pop(reader)
+                try:
+                    done = reader.recv()  # type: ignore[union-attr]
+                except EOFError:
+                    done = None
+                process.join()
+                tries[boat.name] += 1
+                if done is None and tries[boat.name] < TRIES:
+                    waiting.append(boat)
+                else:
+                    yield done or failed(boat, f"{boat.name}: its process died {TRIES} times, the last time with status {process.exitcode}")
+    finally:
+        for process, _ in busy.values():
+            process.kill()
+            process.join()
+
+
+def by_worker(boat: bytes, job: Job) -> Union[Done, Wrong]:
+    """What a worker of a cluster does. It may have no module that knows a boat, which is pickled."""
+    if text := difference(job.program):
+        import distributed
+        return Wrong(distributed.get_worker().address, text)
+    return work_on(pickle.loads(boat), job)
+
+
+def on_cluster(address: str, boats: Sequence[Boat], job: Job) -> Iterator[Done]:
+    """What comes of each boat. A boat whose worker died goes to another worker. Lost if the scheduler does not answer."""
+    import distributed
+    # What Dask logs of a lost scheduler is said here, in a sentence.
+    logging.disable(logging.CRITICAL)
+    faults = OSError, distributed.TimeoutError, distributed.CancelledError
+    try:
+        client = distributed.Client(address)
+    except (*faults, ValueError) as error:
+        raise Lost(f"no scheduler answers at {address}: {error}") from error
+    try:
+        yield from by_client(client, boats, job)
+    except faults as error:
+        raise Lost(f"the scheduler at {address} is lost") from error
+    finally:
+        # A client whose scheduler is lost may not close in time; nothing waits for it.
+        with contextlib.suppress(Exception):
+            client.close(timeout=5)
+
+
+def by_client(client: Any, boats: Sequence[Boat], job: Job) -> Iterator[Done]:
     import distributed
     send_recipes(client)
     if not client.scheduler_info()["workers"]:
-        say("the scheduler has no worker yet: it is waited for")
-    client.wait_for_workers(1)
-    table = client.submit(bytes, toml)
-    call, more = (tabulate_boat, (columns,)) if columns else (decode_boat, ())
-    futures = [client.submit(call, boat, table, sources, str(folder), *more, pure=False) for boat in boats]
-    if sys.stdout.isatty():
-        distributed.progress(futures, notebook=False)
-        print()
-    done = []
-    for boat, future in zip(boats, futures):
+        say("the scheduler has no worker yet: waiting for one")
+        while not client.scheduler_info()["workers"]:
+            if client.status != "running":
+                raise distributed.CancelledError
+            time.sleep(0.2)
+    # The table goes to each worker once; a worker that died with it does no harm, since it can be made again.
+    handed = client.submit(Job, *job)
+    boat_of = {client.submit(by_worker, pickle.dumps(boat), handed, pure=False): boat for boat in boats}
+    wrong: dict[str, str] = {}
+    results = distributed.as_completed(list(boat_of))
+    for future in results:
+        boat = boat_of.pop(future)
         error = future.exception()
-        done.append(future.result() if error is None else
-                    Done(boat.name, 0, n2kdec.Counts(0, 0, 0, 0, 0, 0), 0, 0.0, f"{boat.name}: {error!r}"))
-    return done
+        done = failed(boat, fault_of(boat, error)) if error is not None else future.result()
+        if isinstance(done, Done):
+            yield done
+            continue
+        if done.worker not in wrong:
+            wrong[done.worker] = done.text
+            say(f"the worker {done.worker} {done.text}: it gets no boat")
+        able = [it for it in client.scheduler_info()["workers"] if it not in wrong]
+        if able:
+            again = client.submit(by_worker, pickle.dumps(boat), handed, pure=False, workers=able)
+            boat_of[again] = boat
+            results.add(again)
+        else:
+            yield failed(boat, "")._replace(faults=(), stop=("no worker has this computer's n2kdec", boat.name))
+
+
+def fault_of(boat: Boat, error: BaseException) -> str:
+    import distributed
+    if isinstance(error, distributed.scheduler.KilledWorker):
+        return f"{boat.name}: its worker died, and so did those that it was given to then"
+    return f"{boat.name}: {error!r}"
+
+
+def scheduler_of(asked: Optional[str]) -> str:
+    """The address of the scheduler: the one that was asked for, or that of Dask's configuration, if there is one."""
+    if asked is None:
+        try:
+            import dask.config
+            return str(dask.config.get("scheduler-address", None) or "")
+        except ImportError:
+            return ""
+    return asked
 
 
 def parsed(words: Sequence[str]) -> argparse.Namespace:
-    parser = argparse.ArgumentParser("n2k-fleet", description="Decodes the logs of many boats side by side on Dask.")
-    parser.add_argument("--scheduler", metavar="ADDRESS", help="that of a dask-scheduler; without it this computer's processors work")
-    parser.add_argument("--table", metavar="FILE", default=str(shipped_table()), help="the table; without it the one that is installed")
-    parser.add_argument("--columns", metavar="PGN/FIELD,..", default="", help="a CSV of these columns a boat, in place of JSON")
-    parser.add_argument("--joined", action="store_true", help="with --columns: all boats in fleet.csv too")
-    parser.add_argument("--out", metavar="FOLDER", required=True, help="where what is made goes")
+    parser = argparse.ArgumentParser("n2k-fleet", description="Decodes the logs of many boats side by side: on this computer, or on a cluster of Dask.")
+    parser.add_argument("--scheduler", metavar="ADDRESS", help="the address of a dask-scheduler, as tcp://10.0.0.2:8786 [default: "
+                        "DASK_SCHEDULER_ADDRESS or Dask's configuration; else this computer works]")
+    parser.add_argument("--table", metavar="FILE", default=str(shipped("n2k.toml")), help="the table [default: the installed table]")
+    parser.add_argument("--also", metavar="FILE", action="append", default=[], help="add the messages and names of your own table")
+    parser.add_argument("--columns", metavar="PGN/FIELD,..", default="", help="instead of JSON a CSV of these columns for each boat")
+    parser.add_argument("--joined", action="store_true", help="with --columns: also all boats in fleet.csv")
+    parser.add_argument("--out", metavar="FOLDER", required=True, help="where the results go")
     parser.add_argument("logs", metavar="LOG", nargs="+", help="a boat's log, or the folder of an n2k-logger --raw")
     options = parser.parse_args(words)
-    options.columns = [it for it in re.split(r",(?=\d+/)", options.columns) if it]
+    options.columns = tuple(it for it in re.split(r",(?=\d+/)", options.columns) if it)
     if any(not re.fullmatch(r"\d+/.+", it) for it in options.columns):
         parser.error("--columns has a PGN and a field, as 128267/Depth, with commas between")
     if options.joined and not options.columns:
@@ -389,45 +764,97 @@ def parsed(words: Sequence[str]) -> argparse.Namespace:
     return options
 
 
+def table_of(options: argparse.Namespace) -> bytes:
+    """The table, with those of --also. ValueError says what is wrong with it."""
+    toml = pathlib.Path(options.table).read_bytes()
+    if options.also:
+        joined = subprocess.run([sys.executable, shipped("table_join.py"), options.table, *options.also], capture_output=True, check=False)
+        told = joined.stderr.decode(errors="replace").splitlines()
+        if joined.returncode:
+            raise (ValueError if joined.returncode == 2 else OSError)("\nn2k-fleet: ".join(told))
+        for line in told:
+            say(line)
+        toml = joined.stdout
+    try:
+        n2kdec.Decoder(toml).close()
+    except n2kdec.ArgumentError as error:
+        raise ValueError(f"{options.table}: {error}") from error
+    return toml
+
+
 def main(words: Sequence[str]) -> int:
     options = parsed(words)
-    try:
-        import distributed
-    except ImportError:
-        say("Dask is not here: sudo apt install python3-distributed")
+    if MISSING:
+        say(f"{MISSING}: the package python3-n2kdec has the library for Python")
         return 3
-    folder, start = pathlib.Path(options.out).absolute(), time.monotonic()
+    start, call = time.monotonic(), uuid.uuid4().hex
     try:
+        own, folder = program(), folder_of(names_of(options.out)[0])
         boats = boats_of(options.logs)
         if options.joined and any(it.name == "fleet" for it in boats):
             raise ValueError("a boat is called fleet, as the table of --joined is")
-        toml = pathlib.Path(options.table).read_bytes()
-        n2kdec.Decoder(toml).close()
-        folder.mkdir(parents=True, exist_ok=True)
-    except (ValueError, n2kdec.Error) as error:
-        say(f"{options.table}: {error}" if isinstance(error, n2kdec.Error) else str(error))
-        return 2
-    except OSError as error:
+        job = Job(table_of(options), own, folder.name, options.columns, call)
+        # SIGTERM ends the processes that this call has started, too.
+        signal.signal(signal.SIGTERM, lambda *_: sys.exit(128 + signal.SIGTERM))
+        with folder.held(call):
+            return decode_all(boats, job, folder, options, start)
+    except ValueError as error:
         say(str(error))
-        return 3
-    sources = [str(pathlib.Path(options.table).absolute()), *program_files()]
-    with contextlib.ExitStack() as stack:
+        return 2
+    except (OSError, Busy, n2kdec.Error) as error:
+        say(str(error))
+    except KeyboardInterrupt:
+        say("stopped: what is there is whole, and the next call makes the rest")
+        return 128 + signal.SIGINT
+    return 3
+
+
+def decode_all(boats: Sequence[Boat], job: Job, folder: Folder, options: argparse.Namespace, start: float) -> int:
+    """Makes what is not made yet, and says what came of it."""
+    done: dict[str, Done] = {}
+
+    def look() -> list[Boat]:
+        """The boats that are not made yet."""
+        for boat in boats:
+            if boat.name not in done:
+                made = failed(boat, boat.fault) if boat.fault else (tabulate_boat if job.columns else decode_boat)(boat, job, may_work=False)
+                done.update({boat.name: made} if made else {})
+        return [it for it in boats if it.name not in done]
+
+    rest, lost = look(), ""
+    if rest:
+        address = scheduler_of(options.scheduler)
         try:
-            place = options.scheduler or stack.enter_context(distributed.LocalCluster(
-                n_workers=len(os.sched_getaffinity(0)), threads_per_worker=1, dashboard_address=None, silence_logs=logging.CRITICAL))
-            client = stack.enter_context(distributed.Client(place))
-        except OSError as error:
-            say(f"no scheduler answers at {options.scheduler}: {error}")
-            return 3
-        done = work(client, boats, toml, sources, folder, options.columns)
-        # What a worker that died has left.
-        for it in folder.rglob(".*.new-*"):
-            it.unlink(missing_ok=True)
-    whole = [it for it in done if it.fault is None]
-    if options.joined:
-        join([it.boat for it in whole], folder)
-    sys.stdout.write(table_text(done, time.monotonic() - start))
+            for it in on_cluster(address, rest, job) if address else on_this_computer(rest, job):
+                done[it.boat] = it
+                if sys.stderr.isatty():
+                    print(f"\r{len(done)} of {len(boats)} boats", end="\n" if len(done) == len(boats) else "", file=sys.stderr)
+        except ImportError:
+            lost = "Dask is not installed: sudo apt install python3-distributed"
+        except Lost as error:
+            lost = str(error)
+            look()
+        else:
+            # What a process that was killed has left.
+            folder.clean(["", OWN, *(it.name for it in boats if it.has_days)])
+    if options.joined and not lost:
+        join([it.boat for it in done.values() if it.days and not it.stop], folder)
+    ends = [done[it.name] for it in boats if it.name in done]
+    sys.stdout.write(table_text(ends, time.monotonic() - start))
+    return judged(ends, lost, len(boats))
+
+
+def judged(done: Sequence[Done], lost: str, count: int) -> int:
+    """Names each fault once. The status."""
     for it in done:
-        if it.fault is not None:
-            say(it.fault)
-    return 3 if len(whole) < len(done) else 1 if any(it.counts.bad for it in done) else 0
+        for fault in it.faults:
+            say(fault)
+    stops: dict[str, list[str]] = {}
+    for it in done:
+        if it.stop:
+            stops.setdefault(it.stop[0], []).append(it.stop[1])
+    for text, places in stops.items():
+        say(f"{text}: not made: {', '.join(places)}")
+    if lost:
+        say(f"{lost}: {count - len(done)} of {count} boats are not finished; the next call goes on with them")
+    return 3 if lost or stops or any(it.faults for it in done) else 1 if any(it.counts.bad for it in done) else 0

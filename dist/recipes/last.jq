@@ -1,7 +1,8 @@
 # Takes JSON lines, gives the last value of everything as a table: watch -n 1 'tail -n 2000 boat.json | jq -rf last.jq'
 #
-# Of each sender, PGN and thing (n2k.jq lists what tells these apart) the last message counts: what it lacks is not
-# available now. The values of sets are not shown. Units are those of units.json; behind convert degrees, --arg units degrees
+# First is what is looked for on board, from depth to engines; last are address claims and product information. Times are UTC, with
+# dates if the lines are of several days. Of each sender, PGN and thing (n2k.jq lists what tells these apart) the last message
+# counts: what it lacks is not available now. The values of sets are not shown. Units are those of units.json; behind convert degrees, --arg units degrees
 # names its units, and --arg units knots those with knots. A table of your own wants --slurpfile own FILE, of what
 # `tools/units TABLE` prints.
 include "n2k" {search: "./"};
@@ -18,17 +19,25 @@ def unit_names:
     {date: "days", time: "s"}
     + if . == null then {} else {rad: "deg", "rad/s": "deg/s", K: "°C", Pa: "hPa", date: null, time: null} end
     + if . == "knots" then {"m/s": "knots"} else {} end;
+# Where a PGN stands: by its place here, then all others, then what is of the bus itself.
+def ranks:
+    [127233, 128267, 128259, 129026, 130306, 129025, 129029, 127488, 127489, 127493, 127250, 127245, 127505, 127508] as $first
+    | [59392, 59904, 60160, 60416, 65240, 126208, 126464, 126993, 126998, 60928, 126996] as $last
+    | reduce range($first | length) as $at ({}; .[$first[$at] | tostring] = $at) | reduce range($last | length) as $at (.; .[$last[$at] | tostring] = 100 + $at);
 
-things as $things | ($things | keys) as $names | ($ARGS.named.own // $known::known)[0] as $units | ($ARGS.named.units | unit_names) as $called
-| reduce lines as $m ({}; setpath([$m | [.pgn, .src, .description, (.fields | .[keys_unsorted[] | select($things[.])])] | tojson]; $m))
-| [.[]] | sort_by(.pgn, .src, .description)
+ranks as $ranks | things as $things | ($things | keys) as $names | ($ARGS.named.own // $known::known)[0] as $units | ($ARGS.named.units | unit_names) as $called
+| reduce lines as $m ({last: {}};
+      (if .has_days then . elif .day == null then .day = $m.timestamp[:10] else .has_days = .day != $m.timestamp[:10] end)
+      | setpath(["last", ($m | [.pgn, .src, .description, (.fields | .[keys_unsorted[] | select($things[.])])] | tojson)]; $m))
+| (.has_days and (.day | test("^\\d{4}-\\d\\d-\\d\\d$"))) as $has_days
+| [.last[]] | sort_by($ranks[.pgn | tostring] // 50, .pgn, .src, .description)
 | [.[] as $m | ($units[$m.pgn | tostring][$m.description] // {}) as $mine
     | ([$m.fields[$names[]] | values | shown] | join(", ")) as $thing
     | $m.fields | to_entries[] | select((.key != "list" or (.value | type != "array" or any(.[]; type != "object"))) and .value != null and $things[.key] == null)
     | $mine[.key] as $unit
-    | [($m.timestamp | iso | .[11:19]), "\($m.src)", $m.description, $thing, .key,
+    | [($m.timestamp | iso | if $has_days then .[:10] + " " else "" end + .[11:19]), "\($m.src)", $m.description, $thing, .key,
        if $unit == "s" and (.value | type) == "number" and (.key | is_hours) then "\(.value / 360 | round / 10) h" else
        (.value | shown) + (if $unit and (.value | type) == "number" then
            ($called | if has($unit) then .[$unit] else $unit end) as $name | if $name then " " + $name else "" end else "" end) end]]
-| [["time", "src", "message", "of", "field", "value"]] + . | (transpose | map(map(length) | max)) as $widths
+| [["time UTC", "src", "message", "of", "field", "value"]] + . | (transpose | map(map(length) | max)) as $widths
 | .[] | .[-1] as $value | [range(length - 1) as $at | .[$at] | padded($widths[$at])] + [$value] | join("  ") | plain

@@ -1,7 +1,20 @@
 # What the recipes share. It takes and gives nothing by itself: they include it.
 
-# The lines of a run, whether jq was called with -n or not.
-def lines: values, inputs;
+# The messages of a run, whether jq was called with -n or not. With -R, by which each line is a text, a line that was cut is left out,
+# and a log that is not decoded is refused.
+def lines:
+    foreach (values, inputs) as $it ({};
+        if $it | type != "string" then .message = $it
+        else
+            .message = ($it | try fromjson catch null | if type == "object" and .pgn and .fields then . else null end)
+            | if .message or ($it | test("^\\s*$")) then .
+              elif $it | test("^\\s*[{]") then .cut = (.cut // 0) + 1
+              else
+                  # jq 1.6 goes on with the next line, where there is one.
+                  (reduce inputs as $rest (null; .)) | "there is no message: it takes what n2kdec decode prints; of a log: n2k with --last, --named, --gpx or --nmea0183\n" | halt_error(3)
+              end
+        end;
+        .message // (if .cut == 1 then "lines that are no message are left out" | stderr | empty else empty end));
 
 # A name as an id, as canboat's -camel makes it: letters and digits alone, small, and great where a word begins.
 def camel:

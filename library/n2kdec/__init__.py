@@ -2,23 +2,23 @@
 
     import n2kdec
 
-    for message in n2kdec.decode("trip.log", table="n2k.toml", in_order=True):
+    for message in n2kdec.decode("trip.log", in_order=True):
         print(message["description"], message["fields"])
 
-A log is what `candump -L` or canboat's readers write, a message one line of JSON of `n2kdec decode`, as a dict: its
-"timestamp" (a text, in UTC), "prio", "src", "dst" and "pgn" (whole numbers), its "description", and in "fields" a
-number, text, list of flags or list of sets for each field that has a value. A number with a point is a float, or with
-`decimals=True` a Decimal with just the digits that were printed. Numbers have the units of the table, which the table's
-units.json names: metres, seconds, radians, kelvins and so on.
+A log is what `candump -L` or canboat's readers write, or CAN frames of python-can. A message is one line of JSON of
+`n2kdec decode`, as a dict: `Message` has its members. A number with a point is a float, or with `decimals=True` a Decimal
+with just the digits that were printed. Numbers have the units of the table, which the table's units.json names: metres,
+seconds, radians, kelvins and so on. If no table is given, it is the one that comes with this package.
 
-The module calls the library libn2kdec.so.1: the file that the variable N2KDEC_LIBRARY names, else the one in this package,
-else the system's. Nothing else is needed but Python 3.9.
+The module calls the library libn2kdec.so.1: the file that the variable N2KDEC_LIBRARY names, or the one in this package,
+or the system's. It needs nothing else but Python 3.9.
 """
 from __future__ import annotations
 
 import collections
 import ctypes
 import functools
+import itertools
 import json
 import os
 import pathlib
@@ -26,19 +26,50 @@ import threading
 import warnings
 from collections.abc import Callable, Iterable, Iterator
 from decimal import Decimal
-from typing import Any, BinaryIO, NamedTuple, Optional, Union
+from typing import Any, BinaryIO, NamedTuple, Optional, Protocol, TypedDict, Union
 
-__all__ = ["ArgumentError", "Counts", "Decoder", "Error", "decode"]
+__all__ = ["ArgumentError", "CanFrame", "Counts", "Decoder", "Error", "FieldValue", "Message", "decode", "frame"]
 __version__ = "1.1.0"
 
+#: A number, a name or text, the names of flags, the sets of a message that repeats, or None if the field is absent
+#: (only with `empty=True`). A flag without a name is its number.
+FieldValue = Union[int, float, Decimal, str, list[Union[str, int]], list[dict[str, Any]], None]
+
+
+class Message(TypedDict):
+    """A message: the members of a line of `n2kdec decode`."""
+
+    #: In UTC for a candump log, as "2025-07-04T06:00:00.114Z"; otherwise as the log has it.
+    timestamp: str
+    prio: int
+    src: int
+    dst: int
+    pgn: int
+    description: str
+    #: The value of each field that has one, by the field's name.
+    fields: dict[str, FieldValue]
+
+
+class CanFrame(Protocol):
+    """What a decoder reads of a CAN frame: python-can's `can.Message` has it."""
+
+    timestamp: float
+    arbitration_id: int
+    data: Union[bytes, bytearray]
+    is_extended_id: bool
+    is_error_frame: bool
+    is_remote_frame: bool
+    is_fd: bool
+
+
 Bytes = Union[bytes, bytearray, memoryview]
-Message = dict[str, Any]
+Data = Union[Bytes, CanFrame]
 Name = Union[str, "os.PathLike[str]"]
-Source = Union[BinaryIO, Iterable[Bytes], Bytes, Name]
+Source = Union[BinaryIO, Iterable[Data], Bytes, Name]
 Table = Union[bytes, Name]
 
 # Statuses of n2kdec.h.
-_ROOM, _WINDOW, _TABLE = 1, 3, 100
+_DONE, _ROOM, _WINDOW, _ENDED, _TABLE = 0, 1, 3, 7, 100
 
 
 class Error(Exception):
@@ -87,13 +118,18 @@ class _Counted(ctypes.Structure):
 
 
 def _load() -> ctypes.CDLL:
-    """The library, with the types of its calls."""
+    """The library, with the types of its calls. One of another version is refused."""
     within = pathlib.Path(__file__).resolve().with_name("libn2kdec.so.1")
     name = os.environ.get("N2KDEC_LIBRARY") or (str(within) if within.is_file() else within.name)
     try:
         library = ctypes.CDLL(name)
     except OSError as error:
         raise OSError(f"{error}: the package libn2kdec1 has the library, or N2KDEC_LIBRARY names it") from error
+    version = int(getattr(library, "n2k_version", int)())
+    major, minor, _ = (int(part) for part in __version__.split("."))
+    if version // 10_000 != major or version // 100 % 100 < minor:
+        found = f"{version // 10_000}.{version // 100 % 100}.{version % 100}"
+        raise OSError(f"{name} is libn2kdec {found}, and this package needs {__version__} or a later {major}.x")
     text, size, handle = ctypes.c_char_p, ctypes.c_size_t, ctypes.POINTER(_Handle)
     moves = [handle, text, size, ctypes.POINTER(size)]
     calls: dict[str, list[Any]] = {
@@ -128,16 +164,30 @@ def _loaded() -> ctypes.CDLL:
     return _library
 
 
-def _bytes_of(data: Bytes) -> bytes:
+def _own_table() -> bytes:
+    """The table that comes with the package, or that of the sources."""
+    here = pathlib.Path(__file__).resolve()
+    within = here.with_name("n2k.toml")
+    return (within if within.is_file() else here.parents[2] / "tables/n2k.toml").read_bytes()
+
+
+def _bytes_of(data: Data) -> bytes:
     if isinstance(data, bytes):
         return data
     if isinstance(data, (bytearray, memoryview)):
         return bytes(data)
-    raise TypeError(f"a log is bytes, and not {type(data).__name__}: its file is opened as 'rb'")
+    if hasattr(data, "arbitration_id"):
+        return _line_of(data)
+    raise TypeError(f"a log is bytes, and not {type(data).__name__}: open its file with mode 'rb'")
 
 
-def _lines_of(text: bytes) -> list[str]:
-    return text.decode().split("\n")[:-1]
+def _line_of(frame: CanFrame) -> bytes:
+    """The line that `candump -L` prints of a frame. What it prints of an error, a remote or an FD frame is skipped."""
+    identifier = f"{frame.arbitration_id:08X}" if frame.is_extended_id else f"{frame.arbitration_id:03X}"
+    if frame.is_error_frame:
+        identifier = f"{0x20000000 | frame.arbitration_id:08X}"
+    content = "R" if frame.is_remote_frame else f"{'#0' if frame.is_fd else ''}{frame.data.hex().upper()}"
+    return f"({frame.timestamp:.6f}) can0 {identifier}#{content}\n".encode()
 
 
 def _check(status: int) -> None:
@@ -146,40 +196,91 @@ def _check(status: int) -> None:
         raise (ArgumentError if status > _TABLE else Error)(f"n2kdec: {text}", status)
 
 
-def _read(source: Union[BinaryIO, Iterable[Bytes], Bytes]) -> Iterator[Bytes]:
-    """The bytes of a stream as they come, or those of anything that gives bytes."""
+def _read(source: Union[BinaryIO, Iterable[Data], Bytes]) -> Iterator[Data]:
+    """The bytes of a stream as they come, or those of anything that gives bytes or frames."""
     if isinstance(source, (bytes, bytearray, memoryview)):
-        yield source
-        return
-    # A pipe's `read` would wait until all that it asks for has come.
+        return iter((source,))
+    # A pipe's `read` would wait until it has as many bytes as it is asked for.
     read: Optional[Callable[[int], bytes]] = getattr(source, "read1", None) or getattr(source, "read", None)
-    if read is not None:
-        yield from iter(functools.partial(read, _PIECE), b"")
-    else:
-        yield from source
+    return iter(source) if read is None else iter(functools.partial(read, _PIECE), b"")
 
 
-class _OwnThread:
-    """Refuses the work of another thread than the one that made it."""
+# Interrupts. Python runs a signal's handler, which may raise KeyboardInterrupt, between two of its own instructions and
+# never within a call of C. So each step that may happen only once is one assignment, or one call of C that also keeps the
+# result (`deque.extend(map(call, ..))`). A method that was interrupted goes on from there when it is called again. What
+# remains: before Python 3.11 a handler may run after `take`, `messages` or `reports` has emptied a queue and before it
+# returns; then its result is lost. A loop over `decode` has no such gap.
 
-    def __init__(self) -> None:
-        self._thread = threading.get_ident()
 
-    def is_here(self) -> bool:
-        return threading.get_ident() == self._thread
+class _Input(NamedTuple):
+    """The part of the log that was handed in and is not fed yet."""
 
-    def __enter__(self) -> None:
-        if not self.is_here():
-            raise RuntimeError("a decoder is used by the thread that made it")
+    #: How many bytes were handed in so far.
+    received: int
+    #: Those that are not fed yet.
+    rest: memoryview
+    #: The status of feeding the next piece of them, and the next bytes of the source, once there is one.
+    fed: collections.deque[int]
+    arrived: collections.deque[Data]
 
-    def __exit__(self, *_: object) -> None:
-        pass
+
+def _input(received: int, rest: Bytes = b"") -> _Input:
+    return _Input(received, memoryview(rest), collections.deque(), collections.deque())
+
+
+class _Moved(NamedTuple):
+    """Lines that the library printed or reported, and the call that moves the next ones into a room."""
+
+    lines: collections.deque[str]
+    room: ctypes.Array[ctypes.c_char]
+    size: ctypes.c_size_t
+    #: The status of the call, once there is one.
+    statuses: collections.deque[int]
+
+
+def _moved(lines: Iterable[str], room: ctypes.Array[ctypes.c_char]) -> _Moved:
+    return _Moved(collections.deque(lines), room, ctypes.c_size_t(), collections.deque())
+
+
+class _Output:
+    """The lines that one call moves out of the library, until they are handed on."""
+
+    def __init__(self, call: Callable[..., int]) -> None:
+        self._call = call
+        self.now = _moved((), ctypes.create_string_buffer(_PIECE))
+        #: The first line, if a loop or a function has it already.
+        self.handed_on: Optional[str] = None
+
+    def fill(self, handle: _Handle) -> None:
+        """Adds the lines that the library has. The room grows if they do not fit into it."""
+        while True:
+            now = self.now
+            if not now.statuses:
+                now.statuses.extend(map(self._call, (handle,), (now.room,), (len(now.room),), (now.size,)))
+            if now.statuses[0] != _ROOM:
+                break
+            self.now = _moved(now.lines, ctypes.create_string_buffer(2 * now.size.value))
+        if now.statuses[0] != _DONE:
+            self.now = _moved(now.lines, now.room)
+            _check(now.statuses[0])
+        more = ctypes.string_at(now.room, now.size.value).decode().split("\n")[:-1]
+        self.now = _moved(itertools.chain(now.lines, more), now.room)
+
+    def lines(self) -> collections.deque[str]:
+        """The lines that are not handed on yet."""
+        if self.now.lines and self.now.lines[0] is self.handed_on:
+            self.now.lines.popleft()
+        self.handed_on = None
+        return self.now.lines
+
+    def emptied(self) -> _Moved:
+        return _moved((), self.now.room)
 
 
 class Decoder:
     """A decoder to feed: what it prints of all that it was fed is what `n2kdec decode` prints of the log.
 
-        with n2kdec.Decoder("n2k.toml", in_order=True) as decoder:
+        with n2kdec.Decoder(in_order=True) as decoder:
             for message in decoder.decode(log):
                 ...
             print(decoder.counts)
@@ -190,56 +291,61 @@ class Decoder:
     says so); what is asked of it then is refused by Error. It can't be copied: `save` it.
     """
 
-    def __init__(self, table: Table, *, state: Optional[Bytes] = None, window: int = 10_000, in_order: bool = False,
+    def __init__(self, table: Optional[Table] = None, *, state: Optional[Bytes] = None, window: int = 10_000, in_order: bool = False,
                  empty: bool = False, whole: bool = False) -> None:
         """Reads a table, and begins a log, or goes on from a state.
 
-        `table` is the name of a file, or the bytes of a table. `state` is what `save` gave, or what `n2kdec decode
+        `table` is the name of a file, or the bytes of a table; if it is missing, the one of this package. `state` is what `save` gave, or what `n2kdec decode
         --save` wrote, under the same table, window and order. `window` is in lines, 32 to 1,000,000; it, `in_order`,
         `empty` and `whole` are the options of `n2kdec decode`.
 
         Raises ArgumentError where the table, the state or the window is refused, Error where memory is, and OSError
         where the table's file can't be read or there is no library.
         """
-        self._mine = _OwnThread()
+        self._thread = threading.get_ident()
         self._calls = _loaded()
-        self._room = ctypes.create_string_buffer(1 << 16)
-        # What was handed in and is not fed yet, and a file that was named and is not read to its end.
-        self._rest = memoryview(b"")
-        self._file: Optional[BinaryIO] = None
-        # What was printed and reported and is not handed on yet.
-        self._lines: collections.deque[str] = collections.deque()
-        self._reports: collections.deque[str] = collections.deque()
-        self._ended = False
+        self._input = _input(0)
+        # The files that were named and are not read to their end.
+        self._files: collections.deque[BinaryIO] = collections.deque()
+        self._printed, self._reported = _Output(self._calls.n2k_take), _Output(self._calls.n2k_take_reports)
+        # The statuses of ending the log.
+        self._ends: collections.deque[int] = collections.deque()
         self._handle = _Handle()
-        toml = table if isinstance(table, bytes) else pathlib.Path(table).read_bytes()
+        toml = _own_table() if table is None else table if isinstance(table, bytes) else pathlib.Path(table).read_bytes()
         saved = b"" if state is None else bytes(memoryview(state))
         settings = _Settings(window if 0 <= window < 1 << 32 else 0, in_order, empty, whole)
-        status = self._status(self._calls.n2k_open, toml, len(toml), state is not None, saved, len(saved), settings, self._handle)
+        status = self._calls.n2k_open(toml, len(toml), state is not None, saved, len(saved), settings, self._handle)
         if status == _WINDOW:
             raise ArgumentError(f"a window has 32 to 1,000,000 lines, and not {window:,}", status)
         _check(status)
 
-    def _status(self, call: Callable[..., int], *values: Any) -> int:
-        with self._mine:
-            return call(*values)
+    def _check_thread(self) -> None:
+        if threading.get_ident() != self._thread:
+            raise RuntimeError("a decoder is used by the thread that made it")
 
-    def _moved(self, call: Callable[..., int]) -> bytes:
-        """What a call puts into a room, which grows where that is too small."""
-        size = ctypes.c_size_t()
-        with self._mine:
-            while (status := call(self._handle, self._room, len(self._room), size)) == _ROOM:
-                self._room = ctypes.create_string_buffer(2 * size.value)
-            _check(status)
-            return ctypes.string_at(self._room, size.value)
+    def _check_not_ended(self) -> None:
+        self._check_thread()
+        if self.ended and self._handle.live:
+            _check(_ENDED)
 
     def _feed_piece(self) -> bool:
-        """Feeds a piece of what was handed in, and tells whether there was one. A small one has few messages."""
-        with self._mine:
-            piece, self._rest = bytes(self._rest[:_PIECE]), self._rest[_PIECE:]
-            if piece:
-                _check(self._calls.n2k_feed(self._handle, piece, len(piece)))
-            return bool(piece)
+        """Feeds a piece of the input, and says whether there was one. A small piece has few messages."""
+        now = self._input
+        if now.arrived:
+            try:
+                data = _bytes_of(now.arrived[0])
+            except TypeError:
+                self._input = _input(now.received)
+                raise
+            self._input = now = _input(now.received + len(data), data)
+        elif not now.rest:
+            return False
+        if not now.fed:
+            piece = bytes(now.rest[:_PIECE])
+            now.fed.extend(map(self._calls.n2k_feed, (self._handle,), (piece,), (len(piece),)))
+        self._input = _input(now.received, b"" if now.fed[0] else now.rest[_PIECE:])
+        _check(now.fed[0])
+        return True
 
     def _feed_rest(self) -> None:
         while self._feed_piece():
@@ -249,38 +355,55 @@ class Decoder:
         """Takes bytes of the log, cut anywhere: lines are taken as they complete, and a line that is cut waits.
 
         It waits whole, however long it is, so that what has no line feeds fills the memory. So does what is printed and
-        reported, until it is taken.
+        reported, until it is taken. After an interrupt, `received` shows whether these bytes were taken.
 
-        Raises Error where memory is refused or there are too many lines, and then the decoder is closed and what waited
-        in it is lost; and where the log has ended, which changes nothing.
+        Raises Error if memory is refused or there are too many lines; the decoder is then closed, and what waited in it
+        is lost. Raises Error if the log has ended, which changes nothing.
         """
         piece = _bytes_of(data)
-        with self._mine:
-            self._feed_rest()
-            _check(self._calls.n2k_feed(self._handle, piece, len(piece)))
+        self._check_not_ended()
+        self._feed_rest()
+        self._input = _input(self._input.received + len(piece), piece)
+        self._feed_rest()
 
     def end(self) -> None:
         """Ends the log: its last line is taken, though no line feed ends it. Raises Error as `feed` does."""
-        with self._mine:
-            self._feed_rest()
-            _check(self._calls.n2k_end(self._handle))
-            self._ended = True
+        self._check_not_ended()
+        self._feed_rest()
+        self._ends.extend(map(self._calls.n2k_end, (self._handle,)))
+        _check(self._ends[-1])
+
+    def _collect(self) -> None:
+        """Moves the lines that were printed and reported out of the library."""
+        self._check_thread()
+        self._reported.fill(self._handle)
+        self._printed.fill(self._handle)
 
     def take(self) -> bytes:
         """The lines of JSON that were printed and not handed on yet, each with its line feed."""
-        with self._mine:
-            self._feed_rest()
-            printed = self._moved(self._calls.n2k_take)
-            lines = "".join(f"{line}\n" for line in self._lines).encode()
-            self._lines.clear()
-            return lines + printed
+        self._check_thread()
+        self._feed_rest()
+        self._collect()
+        lines = "".join(f"{line}\n" for line in self._printed.lines()).encode()
+        before = self._printed.now
+        try:
+            self._printed.now = self._printed.emptied()
+            return lines
+        except BaseException:
+            self._printed.now = before
+            raise
 
     def reports(self) -> list[str]:
         """The reports that were not handed on yet: a line for each bad line, and for each message that broke off."""
-        with self._mine:
-            reports = [*self._reports, *_lines_of(self._moved(self._calls.n2k_take_reports))]
-            self._reports.clear()
+        self._collect()
+        reports = list(self._reported.lines())
+        before = self._reported.now
+        try:
+            self._reported.now = self._reported.emptied()
             return reports
+        except BaseException:
+            self._reported.now = before
+            raise
 
     def messages(self, *, decimals: bool = False) -> list[Message]:
         """The messages that were printed and not handed on yet, in order.
@@ -288,100 +411,145 @@ class Decoder:
         A number with a point is a float, or with `decimals` a Decimal with just the digits that were printed. Whole
         numbers are ints either way.
         """
-        lines = self.take().decode()
+        self._check_thread()
+        self._feed_rest()
+        self._collect()
         # One text of many lines is read faster than each line; no line has a line feed within.
-        messages: list[Message] = (_exact if decimals else _plain).decode("[" + lines[:-1].replace("\n", ",") + "]")
-        return messages
+        messages: list[Message] = (_exact if decimals else _plain).decode(f"[{','.join(self._printed.lines())}]")
+        before = self._printed.now
+        try:
+            self._printed.now = self._printed.emptied()
+            return messages
+        except BaseException:
+            self._printed.now = before
+            raise
 
-    def decode(self, source: Source = b"", *, decimals: bool = False,
+    def decode(self, source: Optional[Source] = None, *, decimals: bool = False,
                on_report: Optional[Callable[[str], object]] = None) -> Iterator[Message]:
-        """Yields each message of what is left of the log, as soon as its last line has come, and ends the log.
+        """Yields each message as soon as its last line has come, and ends the log when the source ends.
 
         `source` is the name of a file, a binary stream that waits for what comes (a file, a pipe, a socket's
-        `makefile("rb")`), bytes, or anything that gives bytes. After a `break`, or an exception in the loop's body, what
-        was taken from it and not yielded stays with the decoder: it comes first in the next `decode`, which may be
-        called without a source, or in `messages`. So does the rest of a named file.
+        `makefile("rb")`), bytes, or anything that gives bytes or CAN frames (a `can.Bus`). After a `break`, or an exception in the loop's body, the
+        decoder keeps the messages that it has not yielded and the rest of a named file: they come first in the next
+        `decode`. Without a source, `decode` yields what the decoder kept and does not end the log. An interrupt
+        (KeyboardInterrupt) loses nothing either; the message that was on its way may come again.
         `on_report` is called with each report, before the messages of the piece that it came with; without it reports
-        are dropped. `decimals` is that of `messages`. Raises Error as `feed` does, and what the source raises.
+        are dropped. `decimals` is that of `messages`. Raises Error as `feed` does, at once if the log has ended and there
+        is a source; raises what the source raises.
         """
-        yield from self._handed_on(decimals, on_report)
-        for data in self._handed_in(source):
-            self._rest = memoryview(_bytes_of(data))
-            yield from self._handed_on(decimals, on_report)
-        if not self._ended:
-            self.end()
-        yield from self._handed_on(decimals, on_report)
+        return self._begun(source, decimals, on_report)
 
-    def _handed_in(self, source: Source) -> Iterator[Bytes]:
-        """The bytes of a file that was named before, and of the source."""
-        yield from self._named()
-        if isinstance(source, (str, os.PathLike)):
-            self._file = open(source, "rb")
-            yield from self._named()
+    def _begun(self, source: Optional[Source], decimals: bool, on_report: Optional[Callable[[str], object]],
+               closes: bool = False) -> Iterator[Message]:
+        if source is None:
+            self._check_thread()
         else:
-            yield from _read(source)
+            self._check_not_ended()
+        if isinstance(source, (str, os.PathLike)):
+            self._files.append(open(source, "rb"))
+        return self._yielded(source, decimals, on_report, closes)
 
-    def _named(self) -> Iterator[Bytes]:
-        if self._file is not None:
-            yield from _read(self._file)
-            self._file.close()
-            self._file = None
+    def _read_piece(self, source: Iterator[Data]) -> bool:
+        """Reads from the files that were named, and then from the source; says whether there was something."""
+        arrived = self._input.arrived
+        while self._files and not arrived:
+            arrived.extend(itertools.islice(_read(self._files[0]), 1))
+            if not arrived:
+                self._files.popleft().close()
+        if not arrived:
+            arrived.extend(itertools.islice(source, 1))
+        return bool(arrived)
 
-    def _handed_on(self, decimals: bool, on_report: Optional[Callable[[str], object]]) -> Iterator[Message]:
-        """Each message of what was handed in. Once it is yielded it is the caller's; the others stay."""
+    def _yielded(self, source: Optional[Source], decimals: bool, on_report: Optional[Callable[[str], object]],
+                 closes: bool) -> Iterator[Message]:
+        """The messages that were not handed on yet, and those of the named files and of the source, which ends the log."""
         read = (_exact if decimals else _plain).raw_decode
-        while True:
-            with self._mine:
-                self._reports.extend(self.reports())
-                self._lines.extend(_lines_of(self._moved(self._calls.n2k_take)))
-            while (report := self._first(self._reports)) is not None:
-                if on_report is not None:
-                    on_report(report)
-            while (line := self._first(self._lines)) is not None:
-                yield read(line)[0]
-            if not self._feed_piece():
-                return
-
-    def _first(self, lines: collections.deque[str]) -> Optional[str]:
-        with self._mine:
-            return lines.popleft() if lines else None
+        ends = source is not None
+        more = iter(()) if source is None or isinstance(source, (str, os.PathLike)) else _read(source)
+        try:
+            while True:
+                self._collect()
+                while reports := self._reported.lines():
+                    try:
+                        self._reported.handed_on = reports[0]
+                        if on_report is not None:
+                            on_report(reports[0])
+                    except Exception:
+                        raise
+                    except BaseException:
+                        self._reported.handed_on = None
+                        raise
+                while lines := self._printed.lines():
+                    message = read(lines[0])[0]
+                    try:
+                        self._printed.handed_on = lines[0]
+                        yield message
+                    except GeneratorExit:
+                        raise
+                    except BaseException:
+                        # It is not known whether the loop has this message: it comes again.
+                        self._printed.handed_on = None
+                        raise
+                    self._check_thread()
+                if not self._feed_piece() and not (self._read_piece(more) and self._feed_piece()):
+                    if not ends:
+                        return
+                    self.end()
+                    ends = False
+        finally:
+            if closes:
+                self.close()
 
     @property
     def counts(self) -> Counts:
         """The counts of all lines that were taken."""
+        self._check_thread()
         counted = _Counted()
-        _check(self._status(self._calls.n2k_counts, self._handle, counted))
+        _check(self._calls.n2k_counts(self._handle, counted))
         return Counts(*(getattr(counted, name) for name in Counts._fields))
 
     @property
     def pending(self) -> int:
         """How many bytes wait of a line that is cut: the last ones that were fed."""
+        self._check_thread()
         size = ctypes.c_size_t()
-        _check(self._status(self._calls.n2k_waiting, self._handle, size))
+        _check(self._calls.n2k_waiting(self._handle, size))
         return size.value
 
-    def save(self) -> bytes:
-        """The state behind the lines that were taken, for a later Decoder or `n2kdec decode --resume`.
+    @property
+    def received(self) -> int:
+        """How many bytes of the log the decoder was given since it was made: what `feed` and `decode` took."""
+        return self._input.received
 
-        The bytes that `pending` counts are not in it: they are fed again behind the state. Raises Error where messages were not handed on,
-        since whoever goes on from the state would not have them.
+    @property
+    def ended(self) -> bool:
+        """Whether the log has ended."""
+        return _DONE in self._ends
+
+    def save(self) -> bytes:
+        """The state after the lines that were taken, for a later Decoder or `n2kdec decode --resume`.
+
+        The bytes that `pending` counts are not in the state: feed them again after it. Raises Error if a message was not
+        handed on, or if an interrupt left it unclear whether it was: the state counts it, so it would be lost.
         """
-        with self._mine:
-            size = ctypes.c_size_t()
-            if self._rest or self._lines or self._calls.n2k_take(self._handle, self._room, 0, size) == _ROOM:
-                raise Error("not all was handed on: decode(), messages() or take() gives what is left, and then it is saved")
-            return self._moved(self._calls.n2k_save)
+        self._check_thread()
+        room, size = ctypes.create_string_buffer(_PIECE), ctypes.c_size_t()
+        waits = self._input.rest or self._input.arrived or self._printed.lines() or self._printed.now.statuses
+        if waits or self._calls.n2k_take(self._handle, room, 0, size) == _ROOM:
+            raise Error("not all was handed on: decode(), messages() or take() gives what is left, and then it is saved")
+        while (status := self._calls.n2k_save(self._handle, room, len(room), size)) == _ROOM:
+            room = ctypes.create_string_buffer(2 * size.value)
+        _check(status)
+        return ctypes.string_at(room, size.value)
 
     def close(self) -> None:
         """Frees what the decoder has. Closing again does nothing."""
-        with self._mine:
-            self._calls.n2k_close(self._handle)
-            self._rest = memoryview(b"")
-            self._lines.clear()
-            self._reports.clear()
-            if self._file is not None:
-                self._file.close()
-                self._file = None
+        self._check_thread()
+        self._calls.n2k_close(self._handle)
+        self._input = _input(self._input.received)
+        self._printed.now, self._reported.now = self._printed.emptied(), self._reported.emptied()
+        while self._files:
+            self._files.popleft().close()
 
     def __reduce__(self) -> Any:
         raise TypeError("a decoder can't be copied: save its state")
@@ -395,25 +563,36 @@ class Decoder:
     def __del__(self) -> None:
         if not hasattr(self, "_handle") or not self._handle.live:
             return
-        if self._mine.is_here():
+        if threading.get_ident() == self._thread:
             self.close()
         else:
             warnings.warn("a decoder that is open was dropped by another thread than its own", ResourceWarning, source=self)
 
 
-def decode(source: Source, *, table: Table, state: Optional[Bytes] = None, window: int = 10_000, in_order: bool = False,
+def decode(source: Source, *, table: Optional[Table] = None, state: Optional[Bytes] = None, window: int = 10_000, in_order: bool = False,
            empty: bool = False, whole: bool = False, decimals: bool = False,
            on_report: Optional[Callable[[str], object]] = None) -> Iterator[Message]:
     """Yields each message of a log, as soon as its last line has come.
 
-    The words are those of Decoder and of its `decode`. The table is read, and what is refused is raised, before the
-    first message is asked for. Whoever goes on after a `break`, or needs the counts or the state, makes a Decoder. The
-    messages are asked for by the thread that calls this.
+    The arguments are those of Decoder and of its `decode`. The table is read, the log's file is opened, and errors of
+    both are raised before the first message is asked for. To go on after a `break` or an interrupt, or for the counts or
+    the state, make a Decoder. The thread that calls this also asks for the messages.
     """
     decoder = Decoder(table, state=state, window=window, in_order=in_order, empty=empty, whole=whole)
-    return _closing(decoder, decoder.decode(source, decimals=decimals, on_report=on_report))
+    return decoder._begun(source, decimals, on_report, closes=True)
 
 
-def _closing(decoder: Decoder, messages: Iterator[Message]) -> Iterator[Message]:
-    with decoder:
-        yield from messages
+def frame(logs: Union[Name, Iterable[Name]], pgn: int, fields: Optional[Iterable[str]] = None, *, table: Optional[Table] = None,
+          divisions: bool = True, skip: bool = False) -> Any:
+    """The messages of one PGN in the logs of boats, as a Dask data frame: a partition for each boat and day.
+
+    `logs` are files, or folders of `n2k-logger --raw`, of this computer or of fsspec (`s3://bucket/boats/*`). The index is the
+    time. The columns are `boat`, `src`, `description`, and the fields, of which None takes all: numbers, categories for
+    lookups (a number without a name is its digits), texts for flags and everything else. `table` is that of `Decoder`.
+
+    Of one boat with days, the days are the frame's divisions, and a time that is not in its day raises ValueError while it is
+    computed; `divisions=False` takes any times. A part that cannot be read raises an error that names it, or is left out with
+    `skip`. Raises ArgumentError if the table has no such PGN or field. It needs Dask and pandas, here and on each worker.
+    """
+    from . import _frame
+    return _frame.frame(logs, pgn, None if fields is None else list(fields), table, divisions, skip)

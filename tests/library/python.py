@@ -1,7 +1,10 @@
 """Tries library/n2kdec: N2KDEC_PROGRAM is the program, N2KDEC_LIBRARY the library."""
 import ast
+import collections
 import concurrent.futures
 import copy
+import dis
+import hashlib
 import io
 import json
 import os
@@ -24,6 +27,7 @@ ROOT = pathlib.Path(__file__).resolve().parents[2]
 PROGRAM = os.environ["N2KDEC_PROGRAM"]
 TABLE, TRIP = ROOT / "tables/n2k.toml", ROOT / "examples/trip.log"
 SAMPLE = ROOT / "examples/sample.toml"
+RETURN = dis.opmap["RETURN_VALUE"]
 
 
 def program(*words, log=b""):
@@ -135,8 +139,8 @@ class Decoding(unittest.TestCase):
                             if len(seen) == stops:
                                 break
                         # Those of a stream, which goes on itself, and of the rest of what was handed in.
-                        for message in decoder.decode(source if hasattr(source, "read") or hasattr(source, "__next__") else b""):
-                            seen.append(message)
+                        if not decoder.ended:
+                            seen += decoder.decode(source if hasattr(source, "read") or hasattr(source, "__next__") else b"")
                         self.assertEqual(seen, wanted[: len(seen)])
                         self.assertEqual(len(seen), 48 if source is TRIP else len(wanted))
                         self.assertEqual(decoder.counts.messages, len(seen))
@@ -206,6 +210,52 @@ class Decoding(unittest.TestCase):
             with self.assertRaises(OSError):
                 next(decoder.decode(log, on_report=first))
             self.assertEqual(reports + decoder.reports(), wanted)
+
+    def test_the_table_of_the_package_is_the_shipped_one(self):
+        self.assertEqual(list(n2kdec.decode(TRIP)), self.wanted())
+        with n2kdec.Decoder() as decoder:
+            self.assertEqual(json.loads(decoder.save())["table"], hashlib.sha256(TABLE.read_bytes()).hexdigest())
+
+    def test_frames_of_python_can(self):
+        """A frame gives what the line of candump gives, by hand; other lines of candump are skipped."""
+        Frame = collections.namedtuple("Frame", "timestamp arbitration_id data is_extended_id is_error_frame is_remote_frame is_fd",
+                                       defaults=(True, False, False, False))
+        data = bytes.fromhex("01D6A93D3200FFFF")
+        frames = [Frame(1751608800.114, 0x09F80203, data), Frame(1751608800.5, 0x123, b"x", False), Frame(1.0, 4, bytes(8), True, True),
+                  Frame(2.0, 0x09F80203, b"", True, False, True), Frame(3.0, 0x09F80203, data, True, False, False, True),
+                  Frame(-1.0, 0x09F80203, data)]
+        log = (b"(1751608800.114000) can0 09F80203#01D6A93D3200FFFF\n(1751608800.500000) can0 123#78\n"
+               b"(1.000000) can0 20000004#0000000000000000\n(2.000000) can0 09F80203#R\n"
+               b"(3.000000) can0 09F80203##001D6A93D3200FFFF\n(-1.000000) can0 09F80203#01D6A93D3200FFFF\n")
+        reports = []
+        messages = list(n2kdec.decode(iter(frames), on_report=reports.append))
+        wanted = program("decode", "--table", TABLE, log=log)
+        self.assertEqual(messages, [json.loads(it) for it in wanted.stdout.splitlines()])
+        self.assertEqual((len(messages), messages[0]["timestamp"], messages[0]["fields"]["SOG"]), (1, "2025-07-04T06:00:00.114Z", 0.5))
+        self.assertEqual(reports, ["line 6 bad B2 stamp"])
+        self.assertEqual(reports, wanted.stderr.decode().splitlines()[:-1])
+        try:
+            import can
+        except ImportError:
+            print("left out for want of python3-can: frames of its bus", file=sys.stderr)
+            return
+        with can.Bus("n2kdec", interface="virtual") as bus, can.Bus("n2kdec", interface="virtual") as other:
+            other.send(can.Message(timestamp=1751608800.114, arbitration_id=0x09F80203, data=data))
+            [message] = n2kdec.decode([bus.recv(10)])
+            self.assertEqual(message["fields"], messages[0]["fields"])
+
+    def test_a_library_of_another_version_is_refused(self):
+        for version, is_right in ((10000, False), (20100, False), (10100, True), (10200, True)):
+            with tempfile.TemporaryDirectory() as folder:
+                name = str(pathlib.Path(folder, "libn2kdec.so.1"))
+                code = f"int n2k_version(void) {{ return {version}; }}\n"
+                calls = "open feed end take take_reports save counts waiting close status_text".split()
+                code += "".join(f"int n2k_{call}(void) {{ return 0; }}\n" for call in calls)
+                subprocess.run(["cc", "-shared", "-fPIC", "-o", name, "-x", "c", "-"], input=code.encode(), check=True)
+                loads = subprocess.run([sys.executable, "-c", "import n2kdec; n2kdec._load()"], env={**os.environ, "N2KDEC_LIBRARY": name},
+                                       stderr=subprocess.PIPE, text=True, check=False)
+                self.assertEqual(loads.returncode == 0, is_right, loads.stderr)
+                self.assertTrue(is_right or "this package needs 1.1.0 or a later 1.x" in loads.stderr, loads.stderr)
 
     def test_a_pipe_is_read_as_it_comes(self):
         line = (ROOT / "examples/cog-and-sog.log").read_bytes()
@@ -310,13 +360,15 @@ class Decoding(unittest.TestCase):
                          [(ResourceWarning, "a decoder that is open was dropped by another thread than its own")])
 
     def test_the_module_is_typed_and_of_python_3_9(self):
-        ast.parse((ROOT / "library/n2kdec/__init__.py").read_text(encoding="utf-8"), feature_version=(3, 9))
+        files = list((ROOT / "library/n2kdec").glob("*.py"))
+        for file in files:
+            ast.parse(file.read_text(encoding="utf-8"), feature_version=(3, 9))
         if not shutil.which("mypy"):
             self.skipTest("mypy is not here")
         self.assertTrue((ROOT / "library/n2kdec/py.typed").is_file())
         checked = subprocess.run(["mypy", "--strict", "--python-version", "3.9", "--cache-dir", os.devnull, ROOT / "library/n2kdec"],
                                  stdout=subprocess.PIPE, text=True, check=False)
-        self.assertEqual((checked.returncode, checked.stdout.splitlines()[-1:]), (0, ["Success: no issues found in 1 source file"]))
+        self.assertEqual((checked.returncode, checked.stdout.splitlines()[-1:]), (0, [f"Success: no issues found in {len(files)} source files"]))
 
     def test_its_version_is_the_programs(self):
         self.assertEqual(f"n2kdec {n2kdec.__version__}\n", program("--version").stdout.decode())
@@ -384,6 +436,142 @@ class Decoding(unittest.TestCase):
         print(f"{log.count(10)} lines, {count} messages: {min(by_module):.1f} s, the program and json.loads {min(by_program):.1f} s",
               file=sys.stderr)
         self.assertLess(min(by_module), 3 * min(by_program))
+
+
+class Interrupts(unittest.TestCase):
+    """KeyboardInterrupt before each of Python's instructions in the module, a run for each."""
+
+    LOG = (ROOT / "examples/two-sources.log").read_bytes() + b"bad\nx\n" + (ROOT / "examples/two-sources.log").read_bytes()
+
+    def setUp(self):
+        # Small pieces and rooms, so that a short log has many, and a room grows.
+        self.addCleanup(setattr, n2kdec, "_PIECE", n2kdec._PIECE)
+        n2kdec._PIECE = 150
+        wanted = program("decode", "--table", SAMPLE, log=self.LOG)
+        self.messages = [json.loads(it) for it in wanted.stdout.splitlines()]
+        self.reports = wanted.stderr.decode().splitlines()[:-1]
+
+    @staticmethod
+    def is_interrupted(number, run):
+        """Runs it with KeyboardInterrupt before the instruction of this number; False if it has fewer."""
+        count = 0
+
+        def trace(frame, event, _):
+            nonlocal count
+            if frame.f_code.co_filename != n2kdec.__file__:
+                return None
+            frame.f_trace_opcodes, frame.f_trace_lines = True, False
+            # Python 3.11 and later run no handler before a function returns: what it returns has been handed on then.
+            is_return = frame.f_code.co_code[frame.f_lasti] == RETURN and frame.f_code.co_name in ("take", "messages", "reports")
+            if event == "opcode" and not is_return:
+                count += 1
+                if count == number:
+                    sys.settrace(None)
+                    raise KeyboardInterrupt
+            return trace
+
+        sys.settrace(trace)
+        try:
+            run()
+        except KeyboardInterrupt:
+            return True
+        finally:
+            sys.settrace(None)
+        return False
+
+    def at_each_instruction(self, begin, resume, step=1):
+        """Each message and report comes once, or what was on its way twice; a state has only what was handed on."""
+        number, repeats, saves = 0, 0, 0
+        while True:
+            number += step
+            messages, reports = [], []
+            with n2kdec.Decoder(SAMPLE) as decoder:
+                if not self.is_interrupted(number, lambda: begin(decoder, messages, reports)):
+                    break
+                try:
+                    decoder.save()
+                except n2kdec.Error:
+                    pass
+                else:
+                    saves += 1
+                    self.assertEqual(decoder.counts.messages, len(messages), number)
+                resume(decoder, messages, reports)
+            for got, wanted in ((messages, self.messages), (reports, self.reports)):
+                twice = [at for at in range(1, len(got)) if got[:at] + got[at + 1 :] == wanted and got[at] == got[at - 1]]
+                self.assertTrue(got == wanted or twice, f"interrupt {number}: {got}")
+                repeats += got != wanted
+        print(f"{number // step} interrupts, {repeats} repeats, {saves} states", file=sys.stderr)
+        self.assertGreater(number, 500)
+        self.assertGreater(saves, 50)
+
+    def test_of_a_loop(self):
+        """A stream is given again; of a file that is named the decoder keeps the rest."""
+        def begin_with(source):
+            def begin(decoder, messages, reports):
+                decoder.source = source()
+                for message in decoder.decode(decoder.source, on_report=reports.append):
+                    messages.append(message)
+            return begin
+
+        def resume(decoder, messages, reports):
+            messages.extend(decoder.decode(on_report=reports.append))
+            if not decoder.ended and (decoder.received == 0 or not isinstance(decoder.source, str)):
+                messages.extend(decoder.decode(decoder.source, on_report=reports.append))
+            if not decoder.ended:
+                decoder.end()
+                messages.extend(decoder.decode(on_report=reports.append))
+
+        self.at_each_instruction(begin_with(lambda: io.BytesIO(self.LOG)), resume)
+        self.at_each_instruction(begin_with(lambda: iter([self.LOG[:200], b"", self.LOG[200:]])), resume, 3)
+        with tempfile.TemporaryDirectory() as folder, warnings.catch_warnings():
+            # An interrupt between the opening of a file and the next step leaves it to Python to close it.
+            warnings.simplefilter("ignore", ResourceWarning)
+            tape = pathlib.Path(folder, "tape")
+            tape.write_bytes(self.LOG)
+            self.at_each_instruction(begin_with(lambda: str(tape)), resume, 3)
+
+    def test_of_calls(self):
+        def run(decoder, messages, reports):
+            while decoder.received < len(self.LOG):
+                decoder.feed(self.LOG[decoder.received : decoder.received + 130])
+                reports += decoder.reports()
+                messages += decoder.messages()
+            if not decoder.ended:
+                decoder.end()
+            reports += decoder.reports()
+            messages += [json.loads(line) for line in decoder.take().splitlines()]
+
+        self.at_each_instruction(run, run, 3)
+
+
+class Ended(unittest.TestCase):
+    def test_more_is_refused_and_changes_nothing(self):
+        log, more = (ROOT / "examples/two-sources.log").read_bytes(), TRIP.read_bytes()
+        wanted = [json.loads(it) for it in program("decode", "--table", SAMPLE, log=log).stdout.splitlines()]
+        with n2kdec.Decoder(SAMPLE) as decoder:
+            first = next(decoder.decode(log))
+            decoder.end()
+            for call in (lambda: decoder.decode(more), lambda: decoder.decode(TRIP), lambda: decoder.decode(b""),
+                         lambda: decoder.feed(more), decoder.end):
+                with self.assertRaisesRegex(n2kdec.Error, "the log has ended"):
+                    call()
+            self.assertEqual((decoder.received, decoder.counts.lines, decoder.ended), (len(log), log.count(b"\n"), True))
+            with self.assertRaisesRegex(n2kdec.Error, "not all was handed on"):
+                decoder.save()
+            self.assertEqual([first, *decoder.messages()], wanted)
+            self.assertEqual(json.loads(decoder.save())["lines"], log.count(b"\n"))
+
+    def test_decode_without_a_source_does_not_end_the_log(self):
+        log = (ROOT / "examples/two-sources.log").read_bytes()
+        wanted = [json.loads(it) for it in program("decode", "--table", SAMPLE, log=log).stdout.splitlines()]
+        for cut in range(0, len(log), 40):
+            with n2kdec.Decoder(SAMPLE) as decoder:
+                decoder.feed(log[:cut])
+                messages = list(decoder.decode())
+                self.assertFalse(decoder.ended)
+                messages += decoder.decode(log[cut:])
+                self.assertTrue(decoder.ended)
+                self.assertEqual((messages, list(decoder.decode())), (wanted, []))
 
 
 if __name__ == "__main__":

@@ -1,7 +1,14 @@
-// Put behind a page that stands in frame.html: tells its width, what it takes of it, what stands out of it, and, with the
+// Put behind a page that stands in frame.html: tells its width, what it takes of it, whether times below a chart overlap, and, with the
 // pointer in the middle of the first chart, what is shown there.
 addEventListener("load", function () {
   var told = [innerWidth, document.documentElement.scrollWidth <= innerWidth ? "fits" : "scrolls"]
+  document.querySelectorAll(".plot .x").forEach(function (times) {
+    var last = -Infinity
+    Array.from(times.children, function (time) { return time.getBoundingClientRect() }).filter(function (box) { return box.width }).forEach(function (box) {
+      if (box.left < last + 3) told.push("overlap")
+      last = box.right
+    })
+  })
   var svg = document.querySelector(".plot svg")
   if (svg) {
     var box = svg.getBoundingClientRect()

@@ -214,7 +214,8 @@ def holes(program, room, chance):
         end = place + (rest if left == 0 else chance.randrange(1, max(2, min(rest, 2 * rest // (left + 1)) - 9 * ROUND)))
         lines = log.lines[place:end]
         status, said = ended(boat, chance, put(room, lines), lines[-1])
-        given_up = sum(map(int, re.findall(r"(?:broken|open) (\d+)", said.splitlines()[-1])))
+        # Each day's summary has what broke off on it, the last one also what is open.
+        given_up = sum(map(int, re.findall(r"broken (\d+)", said) + re.findall(r"open (\d+)", said)[-1:]))
         if status or given_up != log.cut(place, end):
             yield f"status {status}, {log.cut(place, end)} messages cut, said: {said}"
         if os.path.exists(f"{boat.folder}/boat.state"):
@@ -609,8 +610,11 @@ def terminal(program, room, chance):
         kill(tree(pid))
         yield "it does not end"
     status = os.waitstatus_to_exitcode(os.waitpid(pid, 0)[1])
-    summary = re.findall(rb"lines \d+ messages \d+ bad \d+ unknown \d+ broken \d+ open \d+", said)
-    if status not in (0, 1) or not summary or not boat.text("reports").endswith(summary[-1] + b"\n"):
+    days = re.findall(rb"lines (\d+) messages (\d+) bad (\d+) unknown (\d+) broken (\d+) open (\d+)", said)
+    # The summaries of the days are together n2kdec's, but for what is open.
+    sums = [sum(int(it[place]) for it in days) for place in range(5)] + [int(it[5]) for it in days[-1:]]
+    wanted = re.findall(rb"\d+", boat.text("reports").splitlines()[-1]) if days else []
+    if status not in (0, 1) or sums != list(map(int, wanted)):
         yield f"status {status}, said: {said}"
     if boat.decoded(boat.raw()) != boat.text("json"):
         yield "the raw log gives other messages"

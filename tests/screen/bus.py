@@ -4,6 +4,7 @@
     bus.py boat SECONDS [START]                 a boat under way: nine devices, some 60 messages a second
     bus.py crowd LINES A_SECOND                 200 devices, with lines that are bad, groups that break, unknown PGNs, ships that
                                                 come and go
+    bus.py flood MESSAGES A_SECOND              241 invented devices, each with an alarm of 110 engines
 
 The same lines each time.
 """
@@ -115,8 +116,19 @@ def crowd(count, rate, start=START):
             yield frame(at, prio, pgn, sender, struct.pack("<BHHBH", turn % 253, number % 30000, (number * 7) % 30000, 0xFC, number % 60000))
 
 
+def flood(count, rate, start=START):
+    """241 devices in turns; each says of 110 engines, one after another, that one has to be checked."""
+    for number in range(count):
+        sender, instance = number % 241, number // 241 % 110
+        engine = struct.pack("<BHHHhhIHHBHHbb", instance, 4120, 0xFFFF, 35615, 1421, 62, 4215600, 0xFFFF, 0xFFFF, 0xFF, 1, 0, 0x7F, 0x7F)
+        yield from fast(start + number / rate, 2, 127489, sender, engine, number // 241)
+
+
 def main(words):
-    lines = boat(float(words[1]), float(words[2]) if len(words) > 2 else START) if words[0] == "boat" else crowd(int(words[1]), int(words[2]))
+    if words[0] == "boat":
+        lines = boat(float(words[1]), float(words[2]) if len(words) > 2 else START)
+    else:
+        lines = {"crowd": crowd, "flood": flood}[words[0]](int(words[1]), int(words[2]))
     for line in lines:
         sys.stdout.write(line + "\n")
 

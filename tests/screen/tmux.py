@@ -7,7 +7,7 @@ import time
 import picture
 
 # A condition is waited for as long as .ci/tests lets a script run, less a minute in which it says what did not come.
-END = time.monotonic() + 1740
+END = time.monotonic() + float(os.environ.get("SCRIPT_SECONDS", "inf")) - 60
 
 
 class Failed(Exception):

@@ -9,7 +9,7 @@ use crate::tables::{many_names, many_pgns, with_letters};
 use anyhow::{Result, anyhow};
 use n2k_join::{Counts, Window};
 use n2k_run::{Options, Part, Source, run_frames, run_part, run_plain};
-use n2k_table::{Kind, LineBuffer, Table, json_line_in};
+use n2k_table::{Kind, LineBuffer, Table, decimal_text, json_line, json_line_in};
 use n2k_wire::{Packing, is_interface};
 use std::alloc::Global;
 use std::str;
@@ -232,6 +232,27 @@ fn convert(rt: &impl Print, alloc: Global, input: &Input, rounds: u64, seed: u64
     decode(rt, alloc, "bad", &table, options_of(false)?, &mut log)
 }
 
+/// Writes so many messages of each definition, and as many decimal numbers, without a buffer that is kept.
+fn alone(rt: &impl Print, alloc: Global, input: &Input, rounds: u64, seed: u64) -> Result<()> {
+    let table = Table::read(alloc, input.table().as_bytes())?;
+    let mut digest = Digest::new(alloc);
+    let mut text = Vec::new(alloc);
+    let mut random = first_random(seed);
+    for definition in input.table().split("[[pgn]]\n").skip(1) {
+        random = next_random(random);
+        let packet = described(definition, random).ok_or_else(|| anyhow!(
+            "no message: {definition}"
+        ))?;
+        for round in 0..rounds {
+            text.clear();
+            json_line(alloc, &table, &packet, false, &mut text)?;
+            decimal_text(alloc, i128::from(round), 3, &mut text)?;
+            push(&mut digest, &text)?;
+        }
+    }
+    tell(rt, "alone", Counts::NONE, digest, Digest::new(alloc))
+}
+
 /// Does a job, or `all`.
 pub(crate) fn run(
     rt: &impl Print,
@@ -249,6 +270,7 @@ pub(crate) fn run(
         "parts" => parts(rt, alloc, input, rounds, seed),
         "start" => start(rt, alloc, input, rounds, seed),
         "convert" => convert(rt, alloc, input, rounds, seed),
+        "alone" => alone(rt, alloc, input, rounds, seed),
         "all" => {
             day(rt, alloc, input, rounds, seed)?;
             lossy(rt, alloc, input, rounds, seed)?;
@@ -256,7 +278,8 @@ pub(crate) fn run(
             scattered(rt, alloc, input, rounds, seed)?;
             parts(rt, alloc, input, rounds, seed)?;
             start(rt, alloc, input, rounds, seed)?;
-            convert(rt, alloc, input, rounds, seed)
+            convert(rt, alloc, input, rounds, seed)?;
+            alone(rt, alloc, input, rounds, seed)
         }
         _ => Err(anyhow!("no job: {job}")),
     }

@@ -30,10 +30,10 @@ impl From<AllocError> for JoinFault {
 #[derive(Clone, Copy, PartialEq, Eq, Debug, Error)]
 pub enum StateFault {
     /// The bytes are not UTF-8, or no JSON text.
-    #[error("the state isn't JSON")]
+    #[error("the state is not valid JSON")]
     NotJson,
     /// It isn't an object whose `format` is 1 or 2.
-    #[error("the state's format is neither 1 nor 2")]
+    #[error("the state's format is missing, or is not 1 or 2")]
     Format,
     /// A member is missing, unknown, or of another kind than its name says.
     #[error("a member is missing or unknown, or its value is of another kind")]
@@ -42,7 +42,7 @@ pub enum StateFault {
     #[error("the state was saved under another table")]
     TableDiffers,
     /// Its numbers or its groups are such as no state has.
-    #[error("no state has such numbers or groups")]
+    #[error("the state's counts or groups are inconsistent")]
     Invalid,
     /// A growth was refused.
     #[error("out of memory")]

@@ -27,7 +27,8 @@
 //!   where they answer a fault.
 //! - `Options` say how the data of lines are packed, and whether absent fields are printed.
 //! - `Blocks` lends the lines of a log from a block of 4,096 bytes. A run holds no more of its log, and writes what
-//!   its lines gave before it reads on: so a live pipe shows each message when its line came.
+//!   its lines gave before it reads on: so a live pipe shows each message when its line came. The text of a block has
+//!   32 KiB of room on the stack; a run needs less than 128 KiB of stack.
 //! - `Source` and `Sink` are devices: `StdSource` and `StdSink` over the standard library's, `MemorySource` and
 //!   `MemorySink` for tests, whose calls can be short and can fail.
 //! - `read_bytes` reads a source whole, up to a limit; `write_all` writes a text whole. `bad_text` and `broken_text`

@@ -1,4 +1,5 @@
 pub mod Asking
+pub mod Begins
 pub mod Behind
 pub mod Decimals
 pub mod Digits

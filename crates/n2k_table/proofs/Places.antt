@@ -1,5 +1,5 @@
 -- Where the definitions of a PGN stand.
-use Rattle.std.proofs.Common.{◌≡◌, ℕ, zero, suc, ◌+◌, ◌<◌, ltb, Bool, true, false, ◌&&◌, nat_eq, cond, List, [], ◌∷◌, ◌++◌, length, get_or, drop, slice_get, Option, Some, None, is_some, option_map, IfSome, refl, ap, ◌∙◌, append_assoc, inl, inr, arith, All, if◌then◌else◌}
+use Rattle.std.proofs.Common.{◌≡◌, ℕ, zero, suc, ◌+◌, ◌<◌, ltb, Bool, true, false, ◌&&◌, nat_eq, cond, List, [], ◌∷◌, ◌++◌, length, get_or, drop, slice_get, Option, Some, None, is_some, option_and_then, option_map, filter, IfSome, refl, ap, ◌∙◌, append_assoc, inl, inr, arith, All, if◌then◌else◌}
 use Rattle.std.specs.List.{find}
 use Rattle.std.specs.Option.{option_map_or}
 use Rattle.std.proofs.lemmas.Option.{slice_get-get_or, slice_get_past, slice_get_cases}
@@ -132,3 +132,13 @@ passed q rest o fails = grind arith
 pub passed_over : (q : DefinitionParts → Bool) (ds : List DefinitionParts) (cs : List Candidate) (k : ℕ) (c e : Candidate) → k < length cs → c ≡ get_or cs k e
     → ((d : DefinitionParts) → slice_get ds c.place ≡ Some d → q d ≡ false) → first_at q ds (drop k (places_of cs)) ≡ first_at q ds (drop (k + 1) (places_of cs))
 passed_over q ds cs k c e lt is fails = grind (arith, get_or-map (λ (x : Candidate). x.place) cs k e 0 lt, drop_more (places_of cs) k 0 (omega (arith, lt, (length-map cs (λ (x : Candidate). x.place)))))
+
+-- a definition of a PGN at its place among those of the PGN
+filter_from : (pgn : ℕ) (front ds : List DefinitionParts) (k : ℕ)
+    → slice_get (filter (is_of pgn) ds) k ≡ option_and_then (slice_get (front ++ ds)) (slice_get (places_from (length front) pgn (pgns ds)) k)
+filter_from pgn front [] k = refl
+filter_from pgn front (d ∷ ds) zero = grind (arith, filter_from pgn (front ++ d ∷ []) ds zero, length-append, append_assoc, there)
+filter_from pgn front (d ∷ ds) (suc k) = grind (arith, filter_from pgn (front ++ d ∷ []) ds k, filter_from pgn (front ++ d ∷ []) ds (suc k), length-append, append_assoc, there)
+
+pub filter_places : (pgn : ℕ) (ds : List DefinitionParts) (k : ℕ) → slice_get (filter (is_of pgn) ds) k ≡ option_and_then (slice_get ds) (slice_get (places pgn (pgns ds)) k)
+filter_places pgn ds k = filter_from pgn [] ds k

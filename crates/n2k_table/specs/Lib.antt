@@ -1,4 +1,5 @@
 pub mod Bits
+pub mod Coding
 pub mod Decimal
 pub mod Definition
 pub mod Duplicate

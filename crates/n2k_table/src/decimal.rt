@@ -1,19 +1,26 @@
 //! The decimal text of a whole number over a power of ten.
+#![tactic(auto, using(crate::proofs::Begins::begins_steps))]
+
 ghost use Rattle.std.specs.Prelude.{◌≡◌, ◌∷◌, [], ◌++◌, ◌+◌, ◌≤◌, ◌&&◌, nat_lt, ℕ, List, if◌then◌else◌, length, OnOk, OnErr};
 ghost use Rattle.n2k_table.specs.Decimal.{IsDecimal, dec, dotted, minus, padded_digits};
 ghost use Rattle.n2k_table.specs.Inner.Digits.{zero_filled};
 ghost use Rattle.n2k_table.specs.Inner.Number.{value_of};
+ghost use Rattle.n2k_table.specs.Inner.LineBuffer.{AddsText};
 
 use crate::decimal_fast::{MOST_DECIMALS, write_short};
-use crate::line_buffer::{LineBuffer, VALUE_ROOM};
+use crate::line_buffer::{LINE_ALONE, TextBuffer, VALUE_ROOM};
 use crate::number::Number;
 use itoa::Buffer;
 use std::alloc::{AllocError, Global};
 
 /// Appends digits with the dot before the last `decimals` of them.
-fn push_dotted(digits: &[u8], decimals: usize, line: &mut LineBuffer) -> Result<(), AllocError>
+fn push_dotted<const SIZE: usize>(
+    digits: &[u8],
+    decimals: usize,
+    line: &mut TextBuffer<SIZE>,
+) -> Result<(), AllocError>
     requires { decimals ≤ length digits.now }
-    ensures { OnOk result (line.new.items ≡ line.old.items ++ dotted decimals digits.now) }
+    ensures { AddsText result line.old.items line.new.items (dotted decimals digits.now) }
 {
     let (whole, fraction) = digits.split_at(digits.len() - decimals);
     line.extend_from_slice(whole)?;
@@ -25,9 +32,13 @@ fn push_dotted(digits: &[u8], decimals: usize, line: &mut LineBuffer) -> Result<
 }
 
 /// Appends digits that all stand after the dot, behind a zero before it and zeros to fill the decimals.
-fn push_filled(digits: &[u8], decimals: usize, line: &mut LineBuffer) -> Result<(), AllocError>
+fn push_filled<const SIZE: usize>(
+    digits: &[u8],
+    decimals: usize,
+    line: &mut TextBuffer<SIZE>,
+) -> Result<(), AllocError>
     requires { length digits.now ≤ decimals }
-    ensures { OnOk result (line.new.items ≡ line.old.items ++ zero_filled decimals digits.now) }
+    ensures { AddsText result line.old.items line.new.items (zero_filled decimals digits.now) }
 {
     line.extend_from_slice(b"0.")?;
     for _ in 0..decimals - digits.len() {
@@ -39,8 +50,8 @@ fn push_filled(digits: &[u8], decimals: usize, line: &mut LineBuffer) -> Result<
 
 /// Appends the sign of a number of that size, or nothing, where there is room for a byte. Zero has none.
 #[inline(always)]
-fn write_sign(negative: bool, size: u128, line: &mut LineBuffer)
-    requires { line.old.held + 1 ≤ 32768 }
+fn write_sign<const SIZE: usize>(negative: bool, size: u128, line: &mut TextBuffer<SIZE>)
+    requires { line.old.held + 1 ≤ SIZE }
     ensures items { line.new.items ≡ line.old.items ++ (if negative && nat_lt 0 size then minus ∷ [] else []) }
     ensures held { line.new.held ≤ line.old.held + 1 }
 {
@@ -52,8 +63,12 @@ fn write_sign(negative: bool, size: u128, line: &mut LineBuffer)
 /// Appends the decimal text of `size / 10^decimals`, of any number of digits. It is not inlined: few have so many.
 #[cold]
 #[inline(never)]
-fn push_long(size: u128, decimals: usize, line: &mut LineBuffer) -> Result<(), AllocError>
-    ensures { OnOk result (line.new.items ≡ line.old.items ++ dotted decimals (padded_digits size decimals)) }
+fn push_long<const SIZE: usize>(
+    size: u128,
+    decimals: usize,
+    line: &mut TextBuffer<SIZE>,
+) -> Result<(), AllocError>
+    ensures { AddsText result line.old.items line.new.items (dotted decimals (padded_digits size decimals)) }
 {
     let mut buffer = Buffer::new();
     let digits = buffer.format(size).as_bytes();
@@ -66,9 +81,13 @@ fn push_long(size: u128, decimals: usize, line: &mut LineBuffer) -> Result<(), A
 
 /// Appends the decimal text of `size / 10^decimals`, where there is room for 48 bytes.
 #[inline(always)]
-fn push_size(size: u128, decimals: usize, line: &mut LineBuffer) -> Result<(), AllocError>
-    requires { line.old.held + 48 ≤ 32768 }
-    ensures { OnOk result (line.new.items ≡ line.old.items ++ dotted decimals (padded_digits size decimals)) }
+fn push_size<const SIZE: usize>(
+    size: u128,
+    decimals: usize,
+    line: &mut TextBuffer<SIZE>,
+) -> Result<(), AllocError>
+    requires { line.old.held + 48 ≤ SIZE }
+    ensures { AddsText result line.old.items line.new.items (dotted decimals (padded_digits size decimals)) }
 {
     match u64::try_from(size) {
         Ok(short) if decimals <= MOST_DECIMALS => {
@@ -81,9 +100,12 @@ fn push_size(size: u128, decimals: usize, line: &mut LineBuffer) -> Result<(), A
 
 /// Appends the decimal text of a number, where there is room for 64 bytes.
 #[inline(always)]
-pub(crate) fn push_number(number: Number, line: &mut LineBuffer) -> Result<(), AllocError>
-    requires { line.old.held + 64 ≤ 32768 }
-    ensures { OnOk result (line.new.items ≡ line.old.items ++ dec (value_of number) number.resolution.decimals) }
+pub(crate) fn push_number<const SIZE: usize>(
+    number: Number,
+    line: &mut TextBuffer<SIZE>,
+) -> Result<(), AllocError>
+    requires { line.old.held + 64 ≤ SIZE }
+    ensures { AddsText result line.old.items line.new.items (dec (value_of number) number.resolution.decimals) }
 {
     let size = u128::from(number.size) * u128::from(number.resolution.mantissa);
     write_sign(number.negative, size, line);
@@ -91,12 +113,12 @@ pub(crate) fn push_number(number: Number, line: &mut LineBuffer) -> Result<(), A
 }
 
 /// Appends the decimal text of `value / 10^decimals`.
-pub(crate) fn push_decimal(
+pub(crate) fn push_decimal<const SIZE: usize>(
     value: i128,
     decimals: u8,
-    line: &mut LineBuffer,
+    line: &mut TextBuffer<SIZE>,
 ) -> Result<(), AllocError>
-    ensures { OnOk result (line.new.items ≡ line.old.items ++ dec value decimals) }
+    ensures { AddsText result line.old.items line.new.items (dec value decimals) }
 {
     let size = value.unsigned_abs();
     line.reserve(VALUE_ROOM)?;
@@ -129,7 +151,7 @@ pub fn decimal_text(
     ensures decimal { IsDecimal value decimals (dec value decimals) }
     ensures only { (text : List ℕ) → IsDecimal value decimals text → text ≡ dec value decimals }
 {
-    let mut line = LineBuffer::new(alloc);
+    let mut line = TextBuffer::<LINE_ALONE>::new(alloc);
     push_decimal(value, decimals, &mut line)?;
     line.append_to(out)
 }

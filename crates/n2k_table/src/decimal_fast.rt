@@ -6,7 +6,7 @@ ghost use Rattle.n2k_table.specs.Decimal.{after_dot, dotted, padded_digits};
 ghost use Rattle.n2k_table.specs.Inner.Digits.{pairs_word, values_word};
 
 use crate::head::number_text;
-use crate::line_buffer::LineBuffer;
+use crate::line_buffer::TextBuffer;
 use itoa::write_digits;
 
 /// The most decimals of a resolution, and of a short number.
@@ -32,11 +32,16 @@ const NOUGHTS: u64 = 0x3030_3030_3030_3030;
 
 /// Appends bytes that stand in an array of digits, where there is room for 24.
 #[inline(always)]
-fn write_digits_of(digits: &[u8; ROOM], from: usize, to: usize, line: &mut LineBuffer)
+fn write_digits_of<const SIZE: usize>(
+    digits: &[u8; ROOM],
+    from: usize,
+    to: usize,
+    line: &mut TextBuffer<SIZE>,
+)
     requires order { from ≤ to }
     requires few { to ≤ from + 24 }
     requires start { from ≤ 40 }
-    requires room { line.old.held + 24 ≤ 32768 }
+    requires room { line.old.held + 24 ≤ SIZE }
     ensures items { line.new.items ≡ line.old.items ++ take (to - from) (take 24 (drop from digits.now)) }
     ensures held { line.new.held ≡ line.old.held + (to - from) }
 {
@@ -47,9 +52,9 @@ fn write_digits_of(digits: &[u8; ROOM], from: usize, to: usize, line: &mut LineB
 
 /// Appends the decimal text of `size / 10^decimals` by an array of its digits, where there is room for 48 bytes.
 #[inline(never)]
-fn write_long(size: u64, decimals: usize, line: &mut LineBuffer)
+fn write_long<const SIZE: usize>(size: u64, decimals: usize, line: &mut TextBuffer<SIZE>)
     requires decimals { decimals ≤ 18 }
-    requires room { line.old.held + 48 ≤ 32768 }
+    requires room { line.old.held + 48 ≤ SIZE }
     ensures { line.new.items ≡ line.old.items ++ dotted decimals (padded_digits size decimals) }
 {
     let mut digits = [b'0'; ROOM];
@@ -89,10 +94,16 @@ fn eight_values(number: u64) -> u64
 
 /// Appends the first bytes of some, and a dot and the first bytes of others unless they are none. There is room for 17.
 #[inline(always)]
-fn write_parts(front: [u8; 8], whole: usize, back: [u8; 8], decimals: usize, line: &mut LineBuffer)
+fn write_parts<const SIZE: usize>(
+    front: [u8; 8],
+    whole: usize,
+    back: [u8; 8],
+    decimals: usize,
+    line: &mut TextBuffer<SIZE>,
+)
     requires whole { whole ≤ 8 }
     requires decimals { decimals ≤ 8 }
-    requires room { line.old.held + 17 ≤ 32768 }
+    requires room { line.old.held + 17 ≤ SIZE }
     ensures { line.new.items ≡ line.old.items ++ (take whole front ++ after_dot (take decimals back)) }
 {
     line.write(&front, whole);
@@ -104,9 +115,13 @@ fn write_parts(front: [u8; 8], whole: usize, back: [u8; 8], decimals: usize, lin
 /// digits of a short number from a word costs less than to write them to an array and to copy more bytes of it at once,
 /// which waits for those that were just written.
 #[inline(always)]
-pub(crate) fn write_short(size: u64, decimals: usize, line: &mut LineBuffer)
+pub(crate) fn write_short<const SIZE: usize>(
+    size: u64,
+    decimals: usize,
+    line: &mut TextBuffer<SIZE>,
+)
     requires decimals { decimals ≤ 18 }
-    requires room { line.old.held + 48 ≤ 32768 }
+    requires room { line.old.held + 48 ≤ SIZE }
     ensures { line.new.items ≡ line.old.items ++ dotted decimals (padded_digits size decimals) }
 {
     if decimals == 0 && size < 256 {

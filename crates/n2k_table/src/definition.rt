@@ -145,6 +145,7 @@ impl<'a> Model for Definition<'a> {
 impl<'a> Definition<'a> {
     ghost use Rattle.n2k_table.specs.Shown.{all_shown};
     ghost use Rattle.n2k_table.specs.Repeat.{all_sets};
+    ghost use Rattle.n2k_table.specs.Table.{matches};
 
     /// The view of a definition that the table keeps.
     pub(crate) fn new(stored: &'a StoredDefinition) -> Definition<'a>
@@ -165,6 +166,41 @@ impl<'a> Definition<'a> {
         ensures { result.now ≡ self.now.description }
     {
         self.stored.description()
+    }
+
+    /// Its own fields in printing order. It takes no memory.
+    ///
+    /// ```rust
+    /// let table = sample_table(alloc)?;
+    /// let definition = table.choose(129026, &[]).ok_or("COG & SOG")?;
+    /// assert_eq!(rt; definition.own_fields().len(), 4);
+    /// ```
+    pub fn own_fields(&self) -> &'a [Field]
+        ensures { result.now ≡ self.now.fields }
+    {
+        self.stored.fields()
+    }
+
+    /// What repeats after its own fields, if something does. It takes no memory.
+    ///
+    /// ```rust
+    /// assert!(rt; definition.repeated().is_none());
+    /// ```
+    pub fn repeated(&self) -> Option<&'a Repeat>
+        ensures { option_map (λ r. r.now) result ≡ self.now.repeat }
+    {
+        self.stored.repeat()
+    }
+
+    /// Whether the data have what its fields ask for. It takes no memory.
+    ///
+    /// ```rust
+    /// assert!(rt; definition.matches(&[0xff]));
+    /// ```
+    pub fn matches(&self, data: &[u8]) -> bool
+        ensures { result ≡ matches «data».now self.now }
+    {
+        self.stored.matches(data)
     }
 
     /// As the table keeps it.

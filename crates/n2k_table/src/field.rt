@@ -1,10 +1,12 @@
 //! A field, and what it shows.
 ghost use Rattle.std.specs.Prelude.{◌≡◌, ◌≤◌, ◌+◌, ◌*◌, ◌/◌, drop, length, IfSome};
+ghost use Rattle.n2k_table.specs.Inner.LineBuffer.{AddsText};
 
 use crate::bits::{raw, raw_with_mask};
+use crate::coding::Coding;
 use crate::field_value::{FieldValue, digits_value, name_value, text_value};
 use crate::flags::flags_value;
-use crate::line_buffer::{LineBuffer, VALUE_ROOM};
+use crate::line_buffer::{TextBuffer, VALUE_ROOM};
 use crate::lookup::Lookup;
 use crate::number::{Scale, Shift};
 use crate::padded_text::{FRONT_ROOM, PaddedText};
@@ -39,7 +41,7 @@ pub(crate) enum Meaning {
 /// A field: its name, its first bit in the message or in its set, how many bits it has, whether it may be short, the
 /// strings behind which it stands, what its bits mean, and the raw value that it asks for, if it asks for one.
 #[derive(Drop)]
-pub(crate) struct Field {
+pub struct Field {
     pub(crate) name: String,
     /// What stands before the value in a line, with a comma, kept since each line needs it.
     pub(crate) key: PaddedText,
@@ -76,7 +78,9 @@ impl Model for Field {
 }
 
 impl Field {
-    ghost use Rattle.std.specs.Prelude.{◌++◌, is_some, OnOk};
+    ghost use Rattle.std.specs.Prelude.{◌++◌, is_some, option_map, OnOk};
+    ghost use Rattle.n2k_table.specs.Coding.{coded_meaning, HasWidth};
+    ghost use Rattle.n2k_table.specs.Tree.{message_bits};
     ghost use Rattle.n2k_table.specs.Inner.Line.{key_json};
     ghost use Rattle.n2k_table.specs.Inner.FieldValue.{value_parts, stands_inside};
     ghost use Rattle.n2k_table.specs.Shown.{lies_inside, field_bytes, begins_inside, shown_part, shown_from, shown, shown_parts};
@@ -85,8 +89,17 @@ impl Field {
     ghost use Rattle.n2k_table.specs.Repeat.{own_bytes};
     ghost use Rattle.n2k_table.specs.Table.{field_matches};
 
-    /// The name.
-    pub(crate) fn name(&self) -> &str
+    /// The name. It takes no memory.
+    ///
+    /// ```rust
+    /// let table = sample_table(alloc)?;
+    /// let definition = table.choose(127251, &[]).ok_or("Rate of Turn")?;
+    /// let [sid, rate] = definition.own_fields() else {
+    ///     return Err("two fields".into());
+    /// };
+    /// assert_eq!(rt; (sid.name(), rate.name()), ("SID", "Rate"));
+    /// ```
+    pub fn name(&self) -> &str
         ensures { result.now ≡ self.now.name }
     {
         self.name.as_str()
@@ -95,9 +108,14 @@ impl Field {
     /// Appends what stands before the value in a line, with a comma where a member stands before. Behind it there is room
     /// for `VALUE_ROOM` bytes.
     #[inline(always)]
-    pub(crate) fn push_key(&self, later: bool, line: &mut LineBuffer) -> Result<(), AllocError>
-        ensures items { OnOk result (line.new.items ≡ line.old.items ++ key_json later self.now.name) }
-        ensures room { OnOk result (line.new.held + 64 ≤ 32768) }
+    #[tactic(auto, using(crate::proofs::Begins::begins_steps))]
+    pub(crate) fn push_key<const SIZE: usize>(
+        &self,
+        later: bool,
+        line: &mut TextBuffer<SIZE>,
+    ) -> Result<(), AllocError>
+        ensures items { AddsText result line.old.items line.new.items (key_json later self.now.name) }
+        ensures room { OnOk result (line.new.held + 64 ≤ SIZE) }
     {
         let from = if later { 0 } else { 1 };
         line.reserve(FRONT_ROOM + VALUE_ROOM)?;
@@ -120,6 +138,88 @@ impl Field {
             Meaning::String(form) => taken_at(form, data_behind(&self.behind, set)?, self.at),
             _ => Some(0),
         }
+    }
+
+    /// Its first bit in the message or in its set. If it is after strings, the bit counts from the end of the last. It takes
+    /// no memory.
+    ///
+    /// ```rust
+    /// let rate_at = rate.at();
+    /// assert_eq!(rt; (sid.at(), rate_at), (0, 8));
+    /// ```
+    pub fn at(&self) -> u32
+        ensures value { result ≡ self.now.at }
+        ensures inside { result + self.now.bits ≤ message_bits }
+    {
+        self.at
+    }
+
+    /// How many bits it has, 0 for a string. It takes no memory.
+    ///
+    /// ```rust
+    /// let rate_bits = rate.bits();
+    /// assert_eq!(rt; (sid.bits(), rate_bits), (8, 32));
+    /// ```
+    pub fn bits(&self) -> u32
+        ensures value { result ≡ self.now.bits }
+        ensures inside { self.now.at + result ≤ message_bits }
+    {
+        self.bits
+    }
+
+    /// Whether it may end with the data. It takes no memory.
+    ///
+    /// ```rust
+    /// assert!(rt; !rate.is_short());
+    /// ```
+    pub fn is_short(&self) -> bool
+        ensures { result ≡ self.now.short }
+    {
+        self.short
+    }
+
+    /// The raw value that it asks for, if it asks for one. It takes no memory.
+    ///
+    /// ```rust
+    /// assert_eq!(rt; rate.match_value(), None);
+    /// ```
+    pub fn match_value(&self) -> Option<u64>
+        ensures { result ≡ self.now.match_value }
+    {
+        self.match_value
+    }
+
+    /// What its bits mean, for writing them. It takes no memory.
+    ///
+    /// ```rust
+    /// assert!(rt; matches!(sid.coding(), Coding::Number(false, _)));
+    /// assert!(rt; matches!(rate.coding(), Coding::Number(true, _)));
+    /// ```
+    pub fn coding(&self) -> Coding<'_>
+        ensures meaning { coded_meaning result ≡ self.now.meaning }
+        ensures width { HasWidth result self.now.bits }
+    {
+        match &self.meaning {
+            Meaning::Number(scale) => Coding::Number(scale.signed, scale.resolution),
+            Meaning::Shifted(shift) => Coding::Shifted(shift.offset, shift.resolution),
+            Meaning::Lookup(lookup) => Coding::Lookup(lookup),
+            Meaning::Flags(lookup) => Coding::Flags(lookup),
+            Meaning::Text => Coding::Text,
+            Meaning::Bytes => Coding::Bytes,
+            Meaning::Digits => Coding::Digits,
+            Meaning::String(form) => Coding::String(*form),
+        }
+    }
+
+    /// The data from where its place counts, if each string before it has an end. It takes no memory.
+    ///
+    /// ```rust
+    /// assert_eq!(rt; rate.rest(&[1, 2]), Some([1, 2].as_slice()));
+    /// ```
+    pub fn rest<'a>(&self, data: &'a [u8]) -> Option<&'a [u8]>
+        ensures { option_map (λ rest. rest.now) result ≡ data_behind self.now.behind «data».now }
+    {
+        data_behind(&self.behind, data)
     }
 
     /// Whether it has a match value.
@@ -251,10 +351,15 @@ impl Field {
         }
     }
 
-    /// What the field shows of the data of a message or of a set: nothing where a string before it has no end. It is not
-    /// inlined: a line asks for it where few fields show such.
+    /// What the field shows of the data of a message or of a set: nothing where a string before it has no end. It takes no
+    /// memory. It is not inlined: a line asks for it where few fields show such.
+    ///
+    /// ```rust
+    /// assert!(rt; matches!(sid.shown(&[5]), Shown::Number { value: 5, .. }));
+    /// assert_eq!(rt; rate.shown(&[5]), Shown::Absent);
+    /// ```
     #[inline(never)]
-    pub(crate) fn shown<'a>(&'a self, data: &'a [u8]) -> Shown<'a>
+    pub fn shown<'a>(&'a self, data: &'a [u8]) -> Shown<'a>
         ensures { shown_parts result ≡ shown self.now «data».now }
     {
         match data_behind(&self.behind, data) {

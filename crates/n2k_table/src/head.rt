@@ -1,10 +1,13 @@
 //! What stands in a line before the PGN: when a message was seen, and who sent it to whom.
+#![tactic(auto, using(crate::proofs::Begins::begins_steps))]
+
 ghost use Rattle.std.specs.Prelude.{◌≡◌, ◌++◌, ◌+◌, ◌≤◌, true, codes, decimal, take, OnOk};
 ghost use Rattle.std.specs.List.{list_all};
 ghost use Rattle.n2k_table.specs.Text.{text_json};
 ghost use Rattle.n2k_table.specs.Inner.Line.{is_plain, is_usual, sender_json, before_pgn_json};
+ghost use Rattle.n2k_table.specs.Inner.LineBuffer.{AddsText};
 
-use crate::line_buffer::LineBuffer;
+use crate::line_buffer::TextBuffer;
 use crate::text::push_text;
 use n2k_wire::{Id, Packet, UTC_LEN};
 use std::alloc::AllocError;
@@ -61,8 +64,12 @@ pub(crate) fn number_text(number: u8) -> ([u8; 4], usize)
 
 /// Appends a label, and the decimal text of a byte behind it.
 #[inline(always)]
-fn write_part<const N: usize>(label: &[u8; N], number: u8, line: &mut LineBuffer)
-    requires { line.old.held + N + 4 ≤ 32768 }
+fn write_part<const SIZE: usize, const N: usize>(
+    label: &[u8; N],
+    number: u8,
+    line: &mut TextBuffer<SIZE>,
+)
+    requires { line.old.held + N + 4 ≤ SIZE }
     ensures items { line.new.items ≡ line.old.items ++ (label.now ++ decimal number) }
     ensures held { line.new.held ≤ line.old.held + N + 3 }
 {
@@ -73,9 +80,9 @@ fn write_part<const N: usize>(label: &[u8; N], number: u8, line: &mut LineBuffer
 
 /// Appends who sent what to whom, up to the PGN, where there is room for 30 bytes. A priority has one digit.
 #[inline(always)]
-fn write_sender(id: Id, line: &mut LineBuffer)
+fn write_sender<const SIZE: usize>(id: Id, line: &mut TextBuffer<SIZE>)
     requires prio { id.prio ≤ 7 }
-    requires room { line.old.held + 30 ≤ 32768 }
+    requires room { line.old.held + 30 ≤ SIZE }
     ensures { line.new.items ≡ line.old.items ++ sender_json id }
 {
     let prio = b'0' + id.prio;
@@ -93,10 +100,13 @@ fn write_sender(id: Id, line: &mut LineBuffer)
 /// Appends a stamp as a text, where each byte of it stands for itself; that of a candump line at once. Behind it there
 /// is room for who sent the message.
 #[inline(always)]
-fn push_usual_stamp(stamp: &[u8], line: &mut LineBuffer) -> Result<(), AllocError>
+fn push_usual_stamp<const SIZE: usize>(
+    stamp: &[u8],
+    line: &mut TextBuffer<SIZE>,
+) -> Result<(), AllocError>
     requires { list_all is_plain stamp.now ≡ true }
-    ensures items { OnOk result (line.new.items ≡ line.old.items ++ (codes "{\"timestamp\":" ++ text_json stamp.now)) }
-    ensures room { OnOk result (line.new.held + 30 ≤ 32768) }
+    ensures items { AddsText result line.old.items line.new.items (codes "{\"timestamp\":" ++ text_json stamp.now) }
+    ensures room { OnOk result (line.new.held + 30 ≤ SIZE) }
 {
     line.reserve(HEAD_ROOM)?;
     line.write(b"{\"timestamp\":\"", 14);
@@ -149,9 +159,12 @@ fn is_usual_stamp(stamp: &[u8]) -> bool
 
 /// Appends any stamp as a text.
 #[inline(never)]
-fn push_other_stamp(stamp: &[u8], line: &mut LineBuffer) -> Result<(), AllocError>
-    ensures items { OnOk result (line.new.items ≡ line.old.items ++ (codes "{\"timestamp\":" ++ text_json stamp.now)) }
-    ensures room { OnOk result (line.new.held + 30 ≤ 32768) }
+fn push_other_stamp<const SIZE: usize>(
+    stamp: &[u8],
+    line: &mut TextBuffer<SIZE>,
+) -> Result<(), AllocError>
+    ensures items { AddsText result line.old.items line.new.items (codes "{\"timestamp\":" ++ text_json stamp.now) }
+    ensures room { OnOk result (line.new.held + 30 ≤ SIZE) }
 {
     line.extend_from_slice(b"{\"timestamp\":")?;
     push_text(stamp, line)?;
@@ -160,9 +173,9 @@ fn push_other_stamp(stamp: &[u8], line: &mut LineBuffer) -> Result<(), AllocErro
 
 /// Appends when a message was seen. Of most stamps a comparison takes sixteen bytes.
 #[inline(always)]
-fn push_time(stamp: &[u8], line: &mut LineBuffer) -> Result<(), AllocError>
-    ensures items { OnOk result (line.new.items ≡ line.old.items ++ (codes "{\"timestamp\":" ++ text_json stamp.now)) }
-    ensures room { OnOk result (line.new.held + 30 ≤ 32768) }
+fn push_time<const SIZE: usize>(stamp: &[u8], line: &mut TextBuffer<SIZE>) -> Result<(), AllocError>
+    ensures items { AddsText result line.old.items line.new.items (codes "{\"timestamp\":" ++ text_json stamp.now) }
+    ensures room { OnOk result (line.new.held + 30 ≤ SIZE) }
 {
     if is_usual_stamp(stamp) {
         push_usual_stamp(stamp, line)
@@ -173,9 +186,12 @@ fn push_time(stamp: &[u8], line: &mut LineBuffer) -> Result<(), AllocError>
 
 /// Appends what stands before the PGN. It is inlined: a call takes more.
 #[inline(always)]
-#[tactic(auto, using(std::proofs::Common::append_assoc), unfolding(crate::specs::Inner::Line::before_pgn_json))]
-pub(crate) fn push_head(packet: &Packet, line: &mut LineBuffer) -> Result<(), AllocError>
-    ensures { OnOk result (line.new.items ≡ line.old.items ++ before_pgn_json packet.now) }
+#[tactic(auto, using(std::proofs::Common::append_assoc, crate::proofs::Begins::begins_steps), unfolding(crate::specs::Inner::Line::before_pgn_json))]
+pub(crate) fn push_head<const SIZE: usize>(
+    packet: &Packet,
+    line: &mut TextBuffer<SIZE>,
+) -> Result<(), AllocError>
+    ensures { AddsText result line.old.items line.new.items (before_pgn_json packet.now) }
 {
     push_time(packet.stamp(), line)?;
     write_sender(packet.id(), line);

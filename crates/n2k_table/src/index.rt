@@ -1,9 +1,9 @@
 //! Where the definitions of a PGN stand, found without walking all of them.
-ghost use Rattle.std.specs.Prelude.{◌≡◌, ◌<◌, length, option_map, IfOk, OnOk};
+ghost use Rattle.std.specs.Prelude.{◌≡◌, ◌<◌, length, option_and_then, option_map, slice_get, IfOk, OnOk};
 ghost use Rattle.std.specs.List.{find};
 ghost use Rattle.n2k_table.specs.Duplicate.{has_duplicate};
 ghost use Rattle.n2k_table.specs.Table.{are_mixed, is_of};
-ghost use Rattle.n2k_table.specs.Inner.Index.{candidates_in, differs, GainsCandidate, IsIndex};
+ghost use Rattle.n2k_table.specs.Inner.Index.{candidates_in, differs, places_of, GainsCandidate, IsIndex};
 
 use crate::definition::StoredDefinition;
 use crate::glance::{Glance, glance_of};
@@ -146,6 +146,18 @@ fn first_of<'a>(
     ensures { option_map (λ d. d.now) result ≡ find (is_of pgn) definitions.now }
 {
     definitions.get(candidates_at(index, pgn).first()?.place)
+}
+
+/// The definition at the place that the candidate at a place names.
+pub(crate) fn nth_of<'a>(
+    candidates: &[Candidate],
+    definitions: &'a [StoredDefinition],
+    place: usize,
+) -> Option<&'a StoredDefinition>
+    ensures { option_map (λ d. d.now) result
+        ≡ option_and_then (slice_get definitions.now) (slice_get (places_of candidates.now) place) }
+{
+    definitions.get(candidates.get(place)?.place)
 }
 
 /// Whether a definition has another kind than the first of its PGN.

@@ -33,6 +33,9 @@ impl<'a> Model for KnownPgn<'a> {
 }
 
 impl<'a> KnownPgn<'a> {
+    ghost use Rattle.std.specs.Prelude.{slice_get, filter};
+    ghost use Rattle.n2k_table.specs.Table.{is_of};
+
     /// How its messages are sent, as `Table::kind` says. It takes no memory.
     ///
     /// ```rust
@@ -82,5 +85,20 @@ impl<'a> KnownPgn<'a> {
             return Some(Definition::new(definition));
         }
         Some(Definition::new(self.chosen(data)?))
+    }
+
+    /// The definition at this place among those of the PGN, in file order. It takes no memory.
+    ///
+    /// ```rust
+    /// let table = sample_table(alloc)?;
+    /// let known = table.find(130820).ok_or("Label")?;
+    /// let first = known.definition(0).ok_or("Label")?;
+    /// assert_eq!(rt; first.description(), "Sample: Label");
+    /// assert!(rt; known.definition(1).is_none());
+    /// ```
+    pub fn definition(&self, place: usize) -> Option<Definition<'a>>
+        ensures { result ≡ slice_get (filter (is_of self.now.pgn) self.now.table.definitions) place }
+    {
+        Some(Definition::new(self.table.nth(self.candidates, place)?))
     }
 }

@@ -33,6 +33,7 @@
 #![tactic(auto)]
 
 mod bits;
+mod coding;
 mod decimal;
 mod decimal_fast;
 mod definition;
@@ -64,13 +65,19 @@ mod text;
 mod tree;
 mod wide_text;
 
+pub use coding::Coding;
 pub use decimal::decimal_text;
 pub use definition::{Definition, Kind};
 pub use fault::TableFault;
+pub use field::Field;
 pub use flags::{Flag, Flags};
 pub use known_pgn::KnownPgn;
 pub use line::{json_line, json_line_in, json_line_of};
-pub use line_buffer::LineBuffer;
-pub use repeat::Sets;
+pub use line_buffer::{LineBuffer, TextBuffer};
+pub use lookup::Lookup;
+pub use repeat::{Repeat, Sets};
+pub use resolution::Resolution;
 pub use shown::{Fields, Shown};
+pub use string_place::Form;
 pub use table::Table;
+pub use wide_text::split_character;

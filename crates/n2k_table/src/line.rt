@@ -1,5 +1,7 @@
 //! The JSON line of a message.
-ghost use Rattle.std.specs.Prelude.{◌≡◌, [], ◌++◌, ◌||◌, true, is_some, codes, if◌then◌else◌};
+#![tactic(auto, using(crate::proofs::Begins::begins_steps))]
+
+ghost use Rattle.std.specs.Prelude.{◌≡◌, ◌+◌, ◌≤◌, ◌∷◌, [], ◌++◌, ◌||◌, true, is_some, codes, if◌then◌else◌};
 ghost use Rattle.std.specs.Prelude.{decimal, length, map, IfOk, IfSome, OnOk, OnErr, Some};
 ghost use Rattle.n2k_table.specs.Shown.{shown, shown_parts, all_shown, flags_left};
 ghost use Rattle.std.specs.List.{flat_map, join_with_byte};
@@ -10,6 +12,7 @@ ghost use Rattle.n2k_table.specs.Json.{comma, member_json, members, set_json, li
 ghost use Rattle.n2k_table.specs.Json.{unmatched_json, chosen_json, json};
 ghost use Rattle.n2k_table.specs.Inner.Line.{are_null, has_members, key_json, member_text};
 ghost use Rattle.n2k_table.specs.Text.{text_json, character, hex_pairs};
+ghost use Rattle.n2k_table.specs.Inner.LineBuffer.{AddsText, begins};
 
 use crate::decimal::{push_decimal, push_number};
 use crate::definition::{Definition, StoredDefinition};
@@ -18,7 +21,7 @@ use crate::field_value::FieldValue;
 use crate::flags::{Flags, NamedBit};
 use crate::head::push_head;
 use crate::known_pgn::KnownPgn;
-use crate::line_buffer::LineBuffer;
+use crate::line_buffer::{LINE_ALONE, LineBuffer, TextBuffer};
 use crate::padded_text::FRONT_ROOM;
 use crate::repeat::Repeat;
 use crate::shown::Shown;
@@ -52,8 +55,9 @@ impl AbsentFields {
 }
 
 /// Appends the PGN of a packet that no definition matches.
-fn push_pgn(pgn: u32, line: &mut LineBuffer) -> Result<(), AllocError>
-    ensures { OnOk result (line.new.items ≡ line.old.items ++ codes ",\"pgn\":" ++ decimal pgn) }
+#[tactic(auto, using(std::proofs::Common::append_assoc, crate::proofs::Begins::begins_steps))]
+fn push_pgn<const SIZE: usize>(pgn: u32, line: &mut TextBuffer<SIZE>) -> Result<(), AllocError>
+    ensures { AddsText result line.old.items line.new.items (codes ",\"pgn\":" ++ decimal pgn) }
 {
     let mut buffer = Buffer::new();
     line.extend_from_slice(b",\"pgn\":")?;
@@ -63,49 +67,64 @@ fn push_pgn(pgn: u32, line: &mut LineBuffer) -> Result<(), AllocError>
 /// Appends a member that is there, its key and its value: `null`, a text, or bytes. They are not inlined: most fields
 /// are numbers and names.
 #[inline(never)]
-fn push_null(field: &Field, later: bool, line: &mut LineBuffer) -> Result<(), AllocError>
-    ensures { OnOk result (line.new.items ≡ line.old.items ++ (key_json later field.now.name ++ codes "null")) }
+fn push_null<const SIZE: usize>(
+    field: &Field,
+    later: bool,
+    line: &mut TextBuffer<SIZE>,
+) -> Result<(), AllocError>
+    ensures { AddsText result line.old.items line.new.items (key_json later field.now.name ++ codes "null") }
 {
     field.push_key(later, line)?;
     line.extend_from_slice(b"null")
 }
 
 #[inline(never)]
-fn push_text(
+fn push_text<const SIZE: usize>(
     field: &Field,
     text: &[u8],
     later: bool,
-    line: &mut LineBuffer,
+    line: &mut TextBuffer<SIZE>,
 ) -> Result<(), AllocError>
-    ensures { OnOk result (line.new.items
-        ≡ line.old.items ++ (key_json later field.now.name ++ text_json (flat_map character text.now))) }
+    ensures { AddsText result line.old.items line.new.items (key_json later field.now.name ++ text_json (flat_map character text.now)) }
 {
     field.push_key(later, line)?;
     push_characters(text, line)
 }
 
 #[inline(never)]
-fn push_bytes(
+fn push_bytes<const SIZE: usize>(
     field: &Field,
     bytes: &[u8],
     later: bool,
-    line: &mut LineBuffer,
+    line: &mut TextBuffer<SIZE>,
 ) -> Result<(), AllocError>
-    ensures { OnOk result (line.new.items
-        ≡ line.old.items ++ (key_json later field.now.name ++ text_json (hex_pairs bytes.now))) }
+    ensures { AddsText result line.old.items line.new.items (key_json later field.now.name ++ text_json (hex_pairs bytes.now)) }
 {
     field.push_key(later, line)?;
     push_pairs(bytes, line)
 }
 
-/// Appends a bit by its name or its number, after a comma where one stands before.
-fn push_bit(bit: NamedBit<'_>, later: bool, line: &mut LineBuffer) -> Result<(), AllocError>
-    ensures { OnOk result (line.new.items ≡ line.old.items ++ member_text later (Some (flag_json (named_bit bit.entry)))) }
+/// Writes a comma where a member stands before, where there is room for a byte.
+fn write_comma<const SIZE: usize>(later: bool, line: &mut TextBuffer<SIZE>)
+    requires { line.old.held + 1 ≤ SIZE }
+    ensures items { line.new.items ≡ line.old.items ++ (if later then comma ∷ [] else []) }
+    ensures held { line.new.held ≤ line.old.held + 1 }
 {
-    line.reserve(1 + FRONT_ROOM)?;
     if later {
         line.write(b",", 1);
     }
+}
+
+/// Appends a bit by its name or its number, after a comma where one stands before.
+fn push_bit<const SIZE: usize>(
+    bit: NamedBit<'_>,
+    later: bool,
+    line: &mut TextBuffer<SIZE>,
+) -> Result<(), AllocError>
+    ensures { AddsText result line.old.items line.new.items (member_text later (Some (flag_json (named_bit bit.entry)))) }
+{
+    line.reserve(1 + FRONT_ROOM)?;
+    write_comma(later, line);
     match bit {
         NamedBit::Name(name) => name.push_json(line),
         NamedBit::Bit(number) => {
@@ -116,9 +135,11 @@ fn push_bit(bit: NamedBit<'_>, later: bool, line: &mut LineBuffer) -> Result<(),
 }
 
 /// Appends the bits that are left, a comma between each.
-fn push_bits(flags: Flags<'_>, line: &mut LineBuffer) -> Result<(), AllocError>
-    ensures { OnOk result (line.new.items
-        ≡ line.old.items ++ join_with_byte comma (map flag_json (flags_left flags.entry))) }
+fn push_bits<const SIZE: usize>(
+    flags: Flags<'_>,
+    line: &mut TextBuffer<SIZE>,
+) -> Result<(), AllocError>
+    ensures { AddsText result line.old.items line.new.items (join_with_byte comma (map flag_json (flags_left flags.entry))) }
 {
     let mut rest = flags;
     let mut later = false;
@@ -130,8 +151,11 @@ fn push_bits(flags: Flags<'_>, line: &mut LineBuffer) -> Result<(), AllocError>
 }
 
 /// Appends an array of the bits that are left.
-fn push_flags(flags: Flags<'_>, line: &mut LineBuffer) -> Result<(), AllocError>
-    ensures { OnOk result (line.new.items ≡ line.old.items ++ array (map flag_json (flags_left flags.entry))) }
+fn push_flags<const SIZE: usize>(
+    flags: Flags<'_>,
+    line: &mut TextBuffer<SIZE>,
+) -> Result<(), AllocError>
+    ensures { AddsText result line.old.items line.new.items (array (map flag_json (flags_left flags.entry))) }
 {
     line.push(b'[')?;
     push_bits(flags, line)?;
@@ -139,9 +163,13 @@ fn push_flags(flags: Flags<'_>, line: &mut LineBuffer) -> Result<(), AllocError>
 }
 
 /// Appends what a field of any kind shows as a value, which is `null` where that is nothing.
-fn push_shown(shown: Shown<'_>, line: &mut LineBuffer) -> Result<(), AllocError>
-    ensures { OnOk result (IfSome (value_json true (shown_parts shown.entry))
+fn push_shown<const SIZE: usize>(
+    shown: Shown<'_>,
+    line: &mut TextBuffer<SIZE>,
+) -> Result<(), AllocError>
+    ensures items { OnOk result (IfSome (value_json true (shown_parts shown.entry))
         (λ value. line.new.items ≡ line.old.items ++ value)) }
+    ensures front { OnErr result (begins line.old.items line.new.items ≡ true) }
 {
     match shown {
         Shown::Absent => line.extend_from_slice(b"null"),
@@ -158,16 +186,17 @@ fn push_shown(shown: Shown<'_>, line: &mut LineBuffer) -> Result<(), AllocError>
 /// Appends a field of any kind as a member, and answers whether one stands before the next. Few fields come here.
 #[cold]
 #[inline(never)]
-fn push_seldom(
+fn push_seldom<const SIZE: usize>(
     field: &Field,
     data: &[u8],
     absent: AbsentFields,
     later: bool,
-    line: &mut LineBuffer,
+    line: &mut TextBuffer<SIZE>,
 ) -> Result<bool, AllocError>
-    ensures { let member = member_json (are_null absent) (field.now.name, shown field.now «data».now) in
+    ensures items { let member = member_json (are_null absent) (field.now.name, shown field.now «data».now) in
         IfOk result (λ more. (line.new.items ≡ line.old.items ++ member_text later member)
         × (more ≡ (later || is_some member))) }
+    ensures front { OnErr result (begins line.old.items line.new.items ≡ true) }
 {
     let shown = field.shown(data);
     match (shown, absent) {
@@ -183,15 +212,15 @@ fn push_seldom(
 /// Appends a field as a member of an object, after a comma where a member stands before, and notes whether one stands
 /// before the next. What it shows goes from branch to branch, and is never put together in memory.
 #[inline(always)]
-fn push_member(
+fn push_member<const SIZE: usize>(
     field: &Field,
     data: &[u8],
     absent: AbsentFields,
     later: &mut bool,
-    line: &mut LineBuffer,
+    line: &mut TextBuffer<SIZE>,
 ) -> Result<(), AllocError>
     ensures items { let member = member_json (are_null absent) (field.now.name, shown field.now «data».now) in
-        OnOk result (line.new.items ≡ line.old.items ++ member_text later.old member) }
+        AddsText result line.old.items line.new.items (member_text later.old member) }
     ensures later { let member = member_json (are_null absent) (field.now.name, shown field.now «data».now) in
         OnOk result (later.new ≡ (later.old || is_some member)) }
 {
@@ -222,14 +251,15 @@ fn push_member(
 /// Appends the fields as the members of an object, of a message or of a set, and answers whether one stands
 /// before the next. It is inlined for the message and for sets, since a call for each line costs more.
 #[inline(always)]
-fn push_members(
+fn push_members<const SIZE: usize>(
     fields: &[Field],
     data: &[u8],
     absent: AbsentFields,
-    line: &mut LineBuffer,
+    line: &mut TextBuffer<SIZE>,
 ) -> Result<bool, AllocError>
-    ensures { let ms = members (are_null absent) (all_shown fields.now «data».now) in
+    ensures items { let ms = members (are_null absent) (all_shown fields.now «data».now) in
         IfOk result (λ later. (line.new.items ≡ line.old.items ++ join_with_byte comma ms) × (later ≡ has_members ms)) }
+    ensures front { OnErr result (begins line.old.items line.new.items ≡ true) }
 {
     let mut later = false;
     let mut rest = fields;
@@ -241,30 +271,32 @@ fn push_members(
 }
 
 /// Appends a set as an object, after a comma where a set stands before.
-fn push_set(
+fn push_set<const SIZE: usize>(
     fields: &[Field],
     set: &[u8],
     later: bool,
     absent: AbsentFields,
-    line: &mut LineBuffer,
+    line: &mut TextBuffer<SIZE>,
 ) -> Result<(), AllocError>
     ensures { let object = set_json (are_null absent) (all_shown fields.now set.now) in
-        OnOk result (line.new.items ≡ line.old.items ++ member_text later (Some object)) }
+        AddsText result line.old.items line.new.items (member_text later (Some object)) }
 {
-    line.extend_from_slice(if later { b",{" } else { b"{" })?;
+    line.reserve(2)?;
+    write_comma(later, line);
+    line.write(b"{", 1);
     push_members(fields, set, absent, line)?;
     line.push(b'}')
 }
 
 /// Appends the sets, a comma between each.
-fn push_sets(
+fn push_sets<const SIZE: usize>(
     repeat: &Repeat,
     data: &[u8],
     absent: AbsentFields,
-    line: &mut LineBuffer,
+    line: &mut TextBuffer<SIZE>,
 ) -> Result<(), AllocError>
     ensures { let sets = map (set_json (are_null absent)) (all_sets repeat.now «data».now) in
-        OnOk result (line.new.items ≡ line.old.items ++ join_with_byte comma sets) }
+        AddsText result line.old.items line.new.items (join_with_byte comma sets) }
 {
     let mut later = false;
     let mut rest = repeat.from_first(data);
@@ -285,15 +317,15 @@ fn list_key(later: bool) -> &'static [u8]
 
 /// Appends the sets as a member, after a comma where a member stands before. Most messages have none.
 #[inline(never)]
-fn push_list(
+fn push_list<const SIZE: usize>(
     repeat: &Repeat,
     data: &[u8],
     absent: AbsentFields,
     later: bool,
-    line: &mut LineBuffer,
+    line: &mut TextBuffer<SIZE>,
 ) -> Result<(), AllocError>
     ensures { let list = list_json (are_null absent) (all_sets repeat.now «data».now) in
-        OnOk result (line.new.items ≡ line.old.items ++ member_text later (Some list)) }
+        AddsText result line.old.items line.new.items (member_text later (Some list)) }
 {
     line.extend_from_slice(list_key(later))?;
     push_sets(repeat, data, absent, line)?;
@@ -301,14 +333,14 @@ fn push_list(
 }
 
 /// Appends the members of a message: the fields, and last what repeats behind them.
-fn push_fields(
+fn push_fields<const SIZE: usize>(
     definition: &StoredDefinition,
     data: &[u8],
     absent: AbsentFields,
-    line: &mut LineBuffer,
+    line: &mut TextBuffer<SIZE>,
 ) -> Result<(), AllocError>
     ensures { let ms = message_members (are_null absent) definition.now «data».now in
-        OnOk result (line.new.items ≡ line.old.items ++ join_with_byte comma ms) }
+        AddsText result line.old.items line.new.items (join_with_byte comma ms) }
 {
     let later = push_members(definition.fields(), data, absent, line)?;
     match definition.repeat() {
@@ -318,15 +350,14 @@ fn push_fields(
 }
 
 /// Appends the line of a message under a definition of its PGN.
-fn push_matched(
+fn push_matched<const SIZE: usize>(
     definition: &StoredDefinition,
     packet: &Packet,
     absent: AbsentFields,
-    line: &mut LineBuffer,
+    line: &mut TextBuffer<SIZE>,
 ) -> Result<(), AllocError>
     requires { definition.now.pgn ≡ packet.now.id.pgn }
-    ensures { OnOk result (line.new.items
-        ≡ line.old.items ++ chosen_json (Some definition.now) packet.now (are_null absent)) }
+    ensures { AddsText result line.old.items line.new.items (chosen_json (Some definition.now) packet.now (are_null absent)) }
 {
     push_head(packet, line)?;
     line.extend_from_slice(definition.label())?;
@@ -336,8 +367,11 @@ fn push_matched(
 
 /// Appends the line of a message that no definition matches: its data as they are. Few lines are such.
 #[inline(never)]
-fn push_unmatched(packet: &Packet, line: &mut LineBuffer) -> Result<(), AllocError>
-    ensures { OnOk result (line.new.items ≡ line.old.items ++ unmatched_json packet.now) }
+fn push_unmatched<const SIZE: usize>(
+    packet: &Packet,
+    line: &mut TextBuffer<SIZE>,
+) -> Result<(), AllocError>
+    ensures { AddsText result line.old.items line.new.items (unmatched_json packet.now) }
 {
     push_head(packet, line)?;
     push_pgn(packet.id().pgn, line)?;
@@ -346,15 +380,14 @@ fn push_unmatched(packet: &Packet, line: &mut LineBuffer) -> Result<(), AllocErr
     line.put(b"}}\n", 3)
 }
 
-fn push_line(
+fn push_line<const SIZE: usize>(
     definition: Option<Definition<'_>>,
     packet: &Packet,
     absent: AbsentFields,
-    line: &mut LineBuffer,
+    line: &mut TextBuffer<SIZE>,
 ) -> Result<(), AllocError>
     requires { IfSome definition (λ d. d.pgn ≡ packet.now.id.pgn) }
-    ensures { OnOk result (line.new.items
-        ≡ line.old.items ++ chosen_json definition.entry packet.now (are_null absent)) }
+    ensures { AddsText result line.old.items line.new.items (chosen_json definition.entry packet.now (are_null absent)) }
 {
     match definition {
         Some(definition) => push_matched(definition.stored(), packet, absent, line),
@@ -389,7 +422,7 @@ pub fn json_line(
     ensures appends { OnOk result (out.new.items ≡ out.old.items ++ json table.now packet.now empty) }
     ensures unchanged { OnErr result (out.new.items ≡ out.old.items) }
 {
-    let mut line = LineBuffer::new(alloc);
+    let mut line = TextBuffer::<LINE_ALONE>::new(alloc);
     json_line_in(alloc, table, packet, empty, &mut line, out)
 }
 
@@ -407,12 +440,12 @@ pub fn json_line(
 /// assert!(rt; text.ends_with(end.as_bytes()));
 /// ```
 #[tactic(auto, unfolding(crate::specs::Json::json))]
-pub fn json_line_in(
+pub fn json_line_in<const SIZE: usize>(
     _alloc: Global,
     table: &Table,
     packet: &Packet,
     empty: bool,
-    line: &mut LineBuffer,
+    line: &mut TextBuffer<SIZE>,
     out: &mut Vec<u8>,
 ) -> Result<(), AllocError>
     ensures appends { OnOk result (out.new.items ≡ out.old.items ++ json table.now packet.now empty) }
@@ -425,7 +458,7 @@ pub fn json_line_in(
 }
 
 /// Adds to the lines of a buffer what `json_line` appends, of a packet whose PGN has been looked up. A refused growth
-/// leaves no lines.
+/// leaves the lines as they were.
 ///
 /// ```rust
 /// let table = sample_table(alloc)?;
@@ -436,7 +469,7 @@ pub fn json_line_in(
 /// let end = "{\"SID\":5,\"COG Reference\":\"True\"}}\n";
 /// assert!(rt; lines.take_lines(alloc)?.ends_with(end.as_bytes()));
 /// ```
-#[tactic(auto, unfolding(crate::specs::Json::json))]
+#[tactic(auto, using(crate::proofs::Begins::begins_taken, crate::proofs::Begins::begins_length), unfolding(crate::specs::Json::json))]
 pub fn json_line_of(
     known: &KnownPgn<'_>,
     packet: &Packet,
@@ -445,12 +478,15 @@ pub fn json_line_of(
 ) -> Result<(), AllocError>
     requires { known.now.pgn ≡ packet.now.id.pgn }
     ensures adds { OnOk result (lines.new.items ≡ lines.old.items ++ json known.now.table packet.now empty) }
-    ensures emptied { OnErr result (lines.new.items ≡ []) }
+    ensures unchanged { OnErr result (lines.new.items ≡ lines.old.items) }
 {
     let definition = known.choose(packet.data());
-    let added = push_line(definition, packet, AbsentFields::new(empty), lines);
-    if added.is_err() {
-        lines.clear();
+    let before = lines.len();
+    match push_line(definition, packet, AbsentFields::new(empty), lines) {
+        Ok(()) => Ok(()),
+        Err(refused) => {
+            lines.truncate(before);
+            Err(refused)
+        }
     }
-    added
 }

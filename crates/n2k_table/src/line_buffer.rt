@@ -1,31 +1,41 @@
-//! The text that lines are put together in, one behind the other, where they stay until they are written. It is kept,
-//! since new room would be zeroed each time.
-ghost use Rattle.std.specs.Prelude.{◌≡◌, ◌∷◌, [], ◌++◌, ◌+◌, ◌≤◌, take, IfOk, OnOk, OnErr};
+//! The text that lines are put together in, one after the other, where they stay until they are written. A run keeps it,
+//! since new room is zeroed each time.
+#![tactic(auto, using(crate::proofs::Begins::begins_steps))]
+
+ghost use Rattle.std.specs.Prelude.{◌≡◌, ◌∷◌, [], ◌++◌, ◌+◌, ◌≤◌, take, length, IfOk, OnOk, OnErr};
 ghost use Rattle.n2k_wire.specs.Texts.{plain_text};
+ghost use Rattle.n2k_table.specs.Inner.LineBuffer.{AddsText};
 
 use n2k_wire::{LINE_ROOM, Packet, write_line};
 use std::alloc::{AllocError, Global};
 use std::marker::Model;
 use std::mem;
 
-/// How many bytes of lines have room before they go to a vector: mostly those of all lines of a block of a log.
-const ROOM: usize = 32768;
+/// The room of a run, for mostly all lines of a block of a log.
+const RUN_ROOM: usize = 32768;
+
+/// The least room, which is that of a line that is written alone.
+pub(crate) const LINE_ALONE: usize = 1024;
 
 /// Room for a value: for a number of 64 bits and its sign, or for the front of a name.
 pub(crate) const VALUE_ROOM: usize = 64;
 
-/// Lines, one behind the other. What is called `write` needs room; the others ask for it. They are appended to in parts, which are put together in an array: copying a few bytes
-/// at a constant length into one costs a third of appending them to a vector.
+/// The lines of a run, one after the other: 32 KiB of room lie in the value itself.
+pub type LineBuffer = TextBuffer<RUN_ROOM>;
+
+/// Lines, one after the other. What is called `write` needs room; the other calls ask for it. Lines are appended to in
+/// parts, which are put together in an array: copying a few bytes at a constant length into one costs a third of
+/// appending them to a vector.
 #[derive(Drop)]
-pub struct LineBuffer {
-    /// The front of lines that are longer than the room. Mostly there is none.
+pub struct TextBuffer<const SIZE: usize> {
+    /// The first bytes of lines that are longer than the room. Mostly there are none.
     front: Vec<u8>,
-    room: [u8; ROOM],
-    /// How many bytes of the room count. They stand behind the front.
+    room: [u8; SIZE],
+    /// How many bytes of the room count. They come after the front.
     at: usize,
 }
 
-impl Model for LineBuffer {
+impl<const SIZE: usize> Model for TextBuffer<SIZE> {
     ghost use Rattle.std.specs.Prelude.{◌≤◌, ◌++◌, take};
     ghost use Rattle.n2k_table.specs.Inner.LineBuffer.{LineBufferParts};
 
@@ -33,44 +43,46 @@ impl Model for LineBuffer {
 
     ghost view = { λ l. record { items = l.front.items ++ take l.at l.room; held = l.at } };
 
-    ghost invariant = { λ l. l.at ≤ 32768 };
+    ghost invariant = { λ l. (l.at ≤ SIZE) × (1024 ≤ SIZE) };
 }
 
-/// Appends what the room holds. It is not inlined: few lines do so.
+/// Appends bytes to the front. It is not inlined: few lines do so.
 #[inline(never)]
-fn empty_room(front: &mut Vec<u8>, room: &[u8; ROOM], at: usize) -> Result<(), AllocError>
-    requires { at ≤ 32768 }
-    ensures ok { OnOk result (front.new.items ≡ front.old.items ++ take at room.now) }
+fn append(front: &mut Vec<u8>, bytes: &[u8]) -> Result<(), AllocError>
+    ensures ok { OnOk result (front.new.items ≡ front.old.items ++ bytes.now) }
+    ensures unchanged { OnErr result (front.new.items ≡ front.old.items) }
 {
-    front.extend_from_slice(&room[..at])
+    front.extend_from_slice(bytes)
 }
 
 /// Writes bytes to a place of the room. They are given by value: of two references the copy would test whether they
 /// overlap.
 #[inline(always)]
-fn write_at<const N: usize>(room: &mut [u8; ROOM], at: usize, bytes: [u8; N])
-    requires { at + N ≤ 32768 }
-    ensures { take (at + N) room.new ≡ take at room.old ++ bytes.entry }
+fn write_at<const N: usize>(room: &mut [u8], at: usize, bytes: [u8; N])
+    requires { at + N ≤ length room.old }
+    ensures bytes { take (at + N) room.new ≡ take at room.old ++ bytes.entry }
+    ensures size { length room.new ≡ length room.old }
 {
     room[at..at + N].copy_from_slice(&bytes);
 }
 
-impl LineBuffer {
-    /// No lines.
+impl<const SIZE: usize> TextBuffer<SIZE> {
+    /// No lines. A line that is longer than the room takes memory; the least room is 1,024 bytes.
     ///
     /// ```rust
     /// let table = sample_table(alloc)?;
     /// let packet = frame_in("(1.0) can0 09F8027F#0500")?;
-    /// let mut line = LineBuffer::new(alloc);
+    /// let mut short: TextBuffer<4096> = TextBuffer::new(alloc);
     /// let mut text = Vec::new(alloc);
-    /// json_line_in(alloc, &table, &packet, false, &mut line, &mut text)?;
+    /// json_line_in(alloc, &table, &packet, false, &mut short, &mut text)?;
     /// ```
-    pub fn new(alloc: Global) -> LineBuffer
+    pub fn new(alloc: Global) -> TextBuffer<SIZE>
+        requires { 1024 ≤ SIZE }
         ensures { result.items ≡ [] }
     {
-        LineBuffer {
+        TextBuffer {
             front: Vec::new(alloc),
-            room: [0; ROOM],
+            room: [0; SIZE],
             at: 0,
         }
     }
@@ -101,22 +113,45 @@ impl LineBuffer {
     pub fn parts(&self) -> (&[u8], &[u8])
         ensures { result.0.now ++ result.1.now ≡ self.now.items }
     {
-        (self.front.as_slice(), &self.room[..self.at])
+        let room = &self.room[..];
+        (self.front.as_slice(), &room[..self.at])
+    }
+
+    /// How many bytes the lines have.
+    #[inline(always)]
+    pub(crate) fn len(&self) -> usize
+        ensures { result ≡ length self.now.items }
+    {
+        self.front.len() + self.at
+    }
+
+    /// Drops what comes after so many bytes.
+    #[cold]
+    #[inline(never)]
+    pub(crate) fn truncate(&mut self, count: usize)
+        requires { count ≤ length self.old.items }
+        ensures { self.new.items ≡ take count self.old.items }
+    {
+        self.front.truncate(count);
+        self.at = count - self.front.len();
     }
 
     /// Moves all lines to the front.
     #[inline(always)]
     fn settle(&mut self) -> Result<(), AllocError>
-        ensures { OnOk result (self.new ≡ record { items = self.old.items; held = 0 }) }
+        ensures ok { OnOk result (self.new ≡ record { items = self.old.items; held = 0 }) }
+        ensures unchanged { OnErr result (self.new.items ≡ self.old.items) }
     {
         if self.at > 0 {
-            empty_room(&mut self.front, &self.room, self.at)?;
+            let room = &self.room[..];
+            append(&mut self.front, &room[..self.at])?;
             self.at = 0;
         }
         Ok(())
     }
 
-    /// Takes the lines out as a vector, to which other text can be appended. `put_back` gives them back.
+    /// Takes the lines out as a vector, to which other text can be appended. `put_back` gives them back. A refused growth
+    /// leaves the lines as they were.
     ///
     /// ```rust
     /// let mut lines = LineBuffer::new(alloc);
@@ -127,7 +162,8 @@ impl LineBuffer {
     /// ```
     #[inline(always)]
     pub fn take_lines(&mut self, alloc: Global) -> Result<Vec<u8>, AllocError>
-        ensures { IfOk result (λ lines. lines.items ≡ self.old.items) }
+        ensures taken { IfOk result (λ lines. lines.items ≡ self.old.items) }
+        ensures unchanged { OnErr result (self.new.items ≡ self.old.items) }
     {
         self.settle()?;
         Ok(mem::replace(&mut self.front, Vec::new(alloc)))
@@ -159,11 +195,12 @@ impl LineBuffer {
     /// Makes room for so many bytes. What is appended part by part has one such test.
     #[inline(always)]
     pub(crate) fn reserve(&mut self, count: usize) -> Result<(), AllocError>
-        requires { count ≤ 32768 }
+        requires { count ≤ 1024 }
         ensures items { OnOk result (self.new.items ≡ self.old.items) }
-        ensures room { OnOk result (self.new.held + count ≤ 32768) }
+        ensures room { OnOk result (self.new.held + count ≤ SIZE) }
+        ensures unchanged { OnErr result (self.new.items ≡ self.old.items) }
     {
-        if self.at > ROOM - count {
+        if self.at > SIZE - count {
             self.settle()?;
         }
         Ok(())
@@ -173,7 +210,7 @@ impl LineBuffer {
     #[inline(always)]
     pub(crate) fn write<const N: usize>(&mut self, bytes: &[u8; N], count: usize)
         requires few { count ≤ N }
-        requires room { self.old.held + N ≤ 32768 }
+        requires room { self.old.held + N ≤ SIZE }
         ensures items { self.new.items ≡ self.old.items ++ take count bytes.now }
         ensures held { self.new.held ≡ self.old.held + count }
     {
@@ -191,8 +228,8 @@ impl LineBuffer {
         count: usize,
     ) -> Result<(), AllocError>
         requires few { count ≤ N }
-        requires room { N ≤ 32768 }
-        ensures { OnOk result (self.new.items ≡ self.old.items ++ take count bytes.now) }
+        requires room { N ≤ 1024 }
+        ensures { AddsText result self.old.items self.new.items (take count bytes.now) }
     {
         self.reserve(N)?;
         self.write(bytes, count);
@@ -202,7 +239,7 @@ impl LineBuffer {
     /// Appends a byte.
     #[inline(always)]
     pub(crate) fn push(&mut self, byte: u8) -> Result<(), AllocError>
-        ensures { OnOk result (self.new.items ≡ self.old.items ++ byte ∷ []) }
+        ensures { AddsText result self.old.items self.new.items (byte ∷ []) }
     {
         self.put(&[byte], 1)
     }
@@ -210,11 +247,12 @@ impl LineBuffer {
     /// Appends bytes.
     #[inline(always)]
     pub(crate) fn extend_from_slice(&mut self, bytes: &[u8]) -> Result<(), AllocError>
-        ensures { OnOk result (self.new.items ≡ self.old.items ++ bytes.now) }
+        ensures { AddsText result self.old.items self.new.items bytes.now }
     {
-        if bytes.len() <= ROOM - self.at {
+        if bytes.len() <= SIZE - self.at {
             let end = self.at + bytes.len();
-            self.room[self.at..end].copy_from_slice(bytes);
+            let room = &mut self.room[..];
+            room[self.at..end].copy_from_slice(bytes);
             self.at = end;
             return Ok(());
         }
@@ -224,13 +262,13 @@ impl LineBuffer {
     /// Appends bytes that the room has no place for.
     #[inline(never)]
     fn extend_past(&mut self, bytes: &[u8]) -> Result<(), AllocError>
-        ensures { OnOk result (self.new.items ≡ self.old.items ++ bytes.now) }
+        ensures { AddsText result self.old.items self.new.items bytes.now }
     {
         self.settle()?;
-        self.front.extend_from_slice(bytes)
+        append(&mut self.front, bytes)
     }
 
-    /// Appends the plain line of a packet.
+    /// Appends the plain line of a packet. A refused growth leaves the lines as they were.
     ///
     /// ```rust
     /// let mut lines = LineBuffer::new(alloc);
@@ -240,11 +278,21 @@ impl LineBuffer {
     /// ```
     #[inline(always)]
     pub fn push_plain(&mut self, packet: &Packet) -> Result<(), AllocError>
-        ensures { OnOk result (self.new.items ≡ self.old.items ++ plain_text packet.now) }
+        ensures adds { OnOk result (self.new.items ≡ self.old.items ++ plain_text packet.now) }
+        ensures unchanged { OnErr result (self.new.items ≡ self.old.items) }
+    {
+        self.reserve(LINE_ROOM)?;
+        self.write_plain(packet);
+        Ok(())
+    }
+
+    /// Appends the plain line of a packet, where there is room for any.
+    #[inline(always)]
+    fn write_plain(&mut self, packet: &Packet)
+        requires { self.old.held + 736 ≤ SIZE }
+        ensures { self.new.items ≡ self.old.items ++ plain_text packet.now }
     {
         let _data = packet.data();
-        self.reserve(LINE_ROOM)?;
         self.at = write_line(&mut self.room, self.at, packet);
-        Ok(())
     }
 }

@@ -1,9 +1,10 @@
 //! Names of values.
-ghost use Rattle.std.specs.Prelude.{◌≡◌, nat_eq, option_map, IfOk, find};
+ghost use Rattle.std.specs.Prelude.{◌≡◌, nat_eq, option_map, Some, IfOk, IfSome, find};
 ghost use Rattle.std.specs.Map.{lookup as value_at};
 ghost use Rattle.std.specs.Str.{bytes_eq};
+ghost use Rattle.n2k_table.specs.Inner.LineBuffer.{AddsText};
 
-use crate::line_buffer::LineBuffer;
+use crate::line_buffer::TextBuffer;
 use crate::padded_text::PaddedText;
 use crate::text::push_json;
 use indexmap::IndexMap;
@@ -55,9 +56,12 @@ impl Name {
 
     /// Appends the text as JSON, where there is room for 32 bytes.
     #[inline(always)]
-    pub(crate) fn push_json(&self, line: &mut LineBuffer) -> Result<(), AllocError>
-        requires { line.old.held + 32 ≤ 32768 }
-        ensures { OnOk result (line.new.items ≡ line.old.items ++ text_json self.now) }
+    pub(crate) fn push_json<const SIZE: usize>(
+        &self,
+        line: &mut TextBuffer<SIZE>,
+    ) -> Result<(), AllocError>
+        requires { line.old.held + 32 ≤ SIZE }
+        ensures { AddsText result line.old.items line.new.items (text_json self.now) }
     {
         self.json.push_from(0, 0, line)
     }
@@ -65,7 +69,7 @@ impl Name {
 
 /// The names of some values, found by the value.
 #[derive(Drop)]
-pub(crate) struct Lookup {
+pub struct Lookup {
     pub(crate) name: String,
     /// In file order.
     pub(crate) names: IndexMap<u64, Name>,
@@ -125,6 +129,44 @@ impl Lookup {
             _ if value > self.greatest => None,
             _ => name_by_hash(&self.names, value),
         }
+    }
+
+    /// The name of a value as text, if it has one. It takes no memory.
+    ///
+    /// ```rust
+    /// let table = sample_table(alloc)?;
+    /// let definition = table.choose(129026, &[]).ok_or("COG & SOG")?;
+    /// let [_, reference, ..] = definition.own_fields() else {
+    ///     return Err("four fields".into());
+    /// };
+    /// let Coding::Lookup(names) = reference.coding() else {
+    ///     return Err("a lookup".into());
+    /// };
+    /// assert_eq!(rt; names.text_of(1), Some("Magnetic"));
+    /// assert_eq!(rt; names.text_of(3), None);
+    /// ```
+    pub fn text_of(&self, value: u64) -> Option<&str>
+        ensures { option_map (λ text. text.now) result ≡ name_of_value self.now.entries value }
+    {
+        Some(self.name_of(value)?.text())
+    }
+
+    /// The first value in file order that has this name. It takes no memory.
+    ///
+    /// ```rust
+    /// assert_eq!(rt; names.value_of("Error"), Some(2));
+    /// assert_eq!(rt; names.value_of("Grid"), None);
+    /// ```
+    pub fn value_of(&self, name: &str) -> Option<u64>
+        ensures { IfSome result (λ value. name_of_value self.now.entries value ≡ Some name.now) }
+    {
+        for place in 0..self.names.len() {
+            let (value, _) = self.names.get_index(place)?;
+            if self.text_of(*value) == Some(name) {
+                return Some(*value);
+            }
+        }
+        None
     }
 }
 

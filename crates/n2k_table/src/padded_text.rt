@@ -1,8 +1,11 @@
 //! A fast path: a text that many lines hold, with its front at a constant length as well. A copy of a constant length
 //! is a few instructions; one of a length that varies is a call. `LineBuffer::extend_from_slice` appends any bytes.
-ghost use Rattle.std.specs.Prelude.{◌≡◌};
+#![tactic(auto, using(crate::proofs::Begins::begins_steps))]
 
-use crate::line_buffer::LineBuffer;
+ghost use Rattle.std.specs.Prelude.{◌≡◌};
+ghost use Rattle.n2k_table.specs.Inner.LineBuffer.{AddsText};
+
+use crate::line_buffer::TextBuffer;
 use std::alloc::{AllocError, Global};
 use std::marker::Model;
 
@@ -60,17 +63,18 @@ impl PaddedText {
     /// Appends the text from its first byte on, or from its second, where there is room for 32 bytes and so many more.
     /// Behind the text there is room for those.
     #[inline(always)]
-    pub(crate) fn push_from(
+    pub(crate) fn push_from<const SIZE: usize>(
         &self,
         from: usize,
         more: usize,
-        line: &mut LineBuffer,
+        line: &mut TextBuffer<SIZE>,
     ) -> Result<(), AllocError>
         requires few { from < 2 }
         requires inside { from ≤ length self.now }
-        requires room { line.old.held + 32 + more ≤ 32768 }
-        ensures items { OnOk result (line.new.items ≡ line.old.items ++ drop from self.now) }
-        ensures room { OnOk result (line.new.held + more ≤ 32768) }
+        requires little { more ≤ 1024 }
+        requires room { line.old.held + 32 + more ≤ SIZE }
+        ensures items { AddsText result line.old.items line.new.items (drop from self.now) }
+        ensures room { OnOk result (line.new.held + more ≤ SIZE) }
     {
         let count = self.len - from;
         if count > FRONT_ROOM {

@@ -21,7 +21,7 @@ use toml::Value;
 
 /// A set of fields that stands again and again, from a byte of the data on.
 #[derive(Drop)]
-pub(crate) struct Repeat {
+pub struct Repeat {
     /// The first byte of the first set.
     first: u32,
     /// The bytes of a set beside those of its strings.
@@ -66,15 +66,27 @@ fn left_beside_strings(fields: &[Field], set: &[u8], room: usize) -> Option<usiz
 }
 
 impl Repeat {
-    /// The fields of a set in printing order.
-    pub(crate) fn fields(&self) -> &[Field]
+    /// The fields of a set in printing order. It takes no memory.
+    ///
+    /// ```rust
+    /// let table = pairs_table(alloc)?;
+    /// let definition = table.choose(130822, &[]).ok_or("Pairs")?;
+    /// let repeat = definition.repeated().ok_or("sets")?;
+    /// assert_eq!(rt; repeat.fields().len(), 2);
+    /// ```
+    pub fn fields(&self) -> &[Field]
         ensures { result.now ≡ self.now.fields }
     {
         self.fields.as_slice()
     }
 
-    /// The data from the first set on: none where a string before it has no end.
-    pub(crate) fn from_first<'a>(&self, data: &'a [u8]) -> &'a [u8]
+    /// The data from the first set on: none where a string before it has no end. It takes no memory.
+    ///
+    /// ```rust
+    /// let sets = repeat.from_first(&[1, 10, 100, 0, 11]);
+    /// assert_eq!(rt; sets, [10, 100, 0, 11].as_slice());
+    /// ```
+    pub fn from_first<'a>(&self, data: &'a [u8]) -> &'a [u8]
         ensures { result.now ≡ from_first self.now «data».now }
     {
         let rest = data_behind(&self.behind, data).unwrap_or(&[]);
@@ -92,8 +104,15 @@ impl Repeat {
         }
     }
 
-    /// The set that begins with the first of these bytes, if it lies wholly in them, and what stands behind it.
-    pub(crate) fn split_set<'a>(&self, bytes: &'a [u8]) -> Option<(&'a [u8], &'a [u8])>
+    /// The set that begins with the first of these bytes, if it lies wholly in them, and the bytes after it. It takes no
+    /// memory.
+    ///
+    /// ```rust
+    /// let (first, rest) = repeat.split_set(sets).ok_or("a set")?;
+    /// assert_eq!(rt; (first, rest), ([10, 100, 0].as_slice(), [11].as_slice()));
+    /// assert!(rt; repeat.split_set(rest).is_none());
+    /// ```
+    pub fn split_set<'a>(&self, bytes: &'a [u8]) -> Option<(&'a [u8], &'a [u8])>
         ensures { unwrap_or (option_map (λ parts. parts.0.now ∷ sets_in self.now parts.1.now) result) []
             ≡ sets_in self.now bytes.now }
     {

@@ -16,11 +16,11 @@ use toml::Table;
 
 /// What the raw value of a number field is multiplied with: `mantissa / 10^decimals`.
 #[derive(Clone, Copy)]
-pub(crate) struct Resolution {
+pub struct Resolution {
     /// The number that all digits make, 1 to 4294967295.
-    pub(crate) mantissa: u32,
+    pub mantissa: u32,
     /// How many digits stand after the dot, 0 to 18.
-    pub(crate) decimals: u8,
+    pub decimals: u8,
 }
 
 /// The resolution of what has none.

@@ -6,7 +6,7 @@ ghost use Rattle.n2k_table.specs.Inner.Kept.{bytes_needed};
 
 /// How a string says how long it is.
 #[derive(Clone, Copy)]
-pub(crate) enum Form {
+pub enum Form {
     /// By a byte that counts itself, one that names the encoding, and the characters.
     Lau,
     /// By a byte that counts the characters alone.

@@ -13,7 +13,7 @@ ghost use Rattle.n2k_table.specs.Inner.Index.{IsIndex};
 use crate::definition::{Definition, Kind, StoredDefinition};
 use crate::definition_reader::read_definition;
 use crate::fault::TableFault;
-use crate::index::{Candidate, Index, candidates_at, has_mixed, index_of};
+use crate::index::{Candidate, Index, candidates_at, has_mixed, index_of, nth_of};
 use crate::known_pgn::KnownPgn;
 use crate::lookup::Lookups;
 use crate::lookup_reader::read_lookups;
@@ -129,7 +129,7 @@ fn document(alloc: Global, bytes: &[u8]) -> Result<toml::Table, TableFault>
 }
 
 impl Table {
-    ghost use Rattle.std.specs.Prelude.{◌<◌, ℕ, length, option_map};
+    ghost use Rattle.std.specs.Prelude.{◌<◌, ℕ, length, option_and_then, option_map, slice_get};
     ghost use Rattle.n2k_table.specs.Table.{read_table, faults, table, kind, choice};
     ghost use Rattle.n2k_table.specs.Inner.Index.{places, pgns, places_of, IsOfPlace};
 
@@ -215,6 +215,14 @@ impl Table {
             }
         }
         None
+    }
+
+    /// The definition that the candidate at a place names.
+    pub(crate) fn nth(&self, candidates: &[Candidate], place: usize) -> Option<&StoredDefinition>
+        ensures { option_map (λ d. d.now) result
+            ≡ option_and_then (slice_get self.now.definitions) (slice_get (places_of candidates.now) place) }
+    {
+        nth_of(candidates, &self.definitions, place)
     }
 
     /// Looks a PGN up once for all that is asked of it; `None` where the table has no definition of it. It takes no

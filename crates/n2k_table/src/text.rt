@@ -1,4 +1,6 @@
 //! Texts in JSON.
+#![tactic(auto, using(crate::proofs::Begins::begins_steps))]
+
 ghost use Rattle.std.specs.Char.{digit_char};
 ghost use Rattle.std.specs.Prelude.{◌≡◌, ◌++◌, ◌<◌, ◌%◌, IfOk, OnOk, unwrap_or};
 ghost use Rattle.std.specs.List.{list_all, flat_map};
@@ -6,8 +8,9 @@ ghost use Rattle.std.specs.Option.{IfSome};
 ghost use Rattle.json.specs.Print.{escape_letter, escape_byte};
 ghost use Rattle.n2k_table.specs.Text.{text_json, hex_pair, hex_pairs, two_digits, character};
 ghost use Rattle.n2k_table.specs.Inner.Line.{is_plain, is_plain_character};
+ghost use Rattle.n2k_table.specs.Inner.LineBuffer.{AddsText};
 
-use crate::line_buffer::LineBuffer;
+use crate::line_buffer::TextBuffer;
 use serde_json::Value;
 use std::alloc::{AllocError, Global};
 
@@ -89,8 +92,8 @@ fn escape_digit(byte: u8) -> u8
 
 /// Appends what stands in a text for a byte.
 #[tactic(auto, unfolding(json::specs::Print::escape_byte))]
-fn push_escaped(byte: u8, line: &mut LineBuffer) -> Result<(), AllocError>
-    ensures { OnOk result (line.new.items ≡ line.old.items ++ escape_byte byte) }
+fn push_escaped<const SIZE: usize>(byte: u8, line: &mut TextBuffer<SIZE>) -> Result<(), AllocError>
+    ensures { AddsText result line.old.items line.new.items (escape_byte byte) }
 {
     match escape_letter(byte) {
         Some(letter) => line.extend_from_slice(&[b'\\', letter]),
@@ -102,8 +105,11 @@ fn push_escaped(byte: u8, line: &mut LineBuffer) -> Result<(), AllocError>
     }
 }
 
-pub(crate) fn push_each(text: &[u8], line: &mut LineBuffer) -> Result<(), AllocError>
-    ensures { OnOk result (line.new.items ≡ line.old.items ++ flat_map escape_byte text.now) }
+pub(crate) fn push_each<const SIZE: usize>(
+    text: &[u8],
+    line: &mut TextBuffer<SIZE>,
+) -> Result<(), AllocError>
+    ensures { AddsText result line.old.items line.new.items (flat_map escape_byte text.now) }
 {
     for byte in text {
         push_escaped(*byte, line)?;
@@ -112,8 +118,8 @@ pub(crate) fn push_each(text: &[u8], line: &mut LineBuffer) -> Result<(), AllocE
 }
 
 /// Appends what stands between the quotes of a text.
-fn push_inner(text: &[u8], line: &mut LineBuffer) -> Result<(), AllocError>
-    ensures { OnOk result (line.new.items ≡ line.old.items ++ flat_map escape_byte text.now) }
+fn push_inner<const SIZE: usize>(text: &[u8], line: &mut TextBuffer<SIZE>) -> Result<(), AllocError>
+    ensures { AddsText result line.old.items line.new.items (flat_map escape_byte text.now) }
 {
     if are_plain(text) {
         line.extend_from_slice(text)
@@ -123,9 +129,12 @@ fn push_inner(text: &[u8], line: &mut LineBuffer) -> Result<(), AllocError>
 }
 
 /// Appends a text.
-#[tactic(auto, using(std::proofs::Common::append_assoc), unfolding(crate::specs::Text::text_json))]
-pub(crate) fn push_text(text: &[u8], line: &mut LineBuffer) -> Result<(), AllocError>
-    ensures { OnOk result (line.new.items ≡ line.old.items ++ text_json text.now) }
+#[tactic(auto, using(std::proofs::Common::append_assoc, crate::proofs::Begins::begins_steps), unfolding(crate::specs::Text::text_json))]
+pub(crate) fn push_text<const SIZE: usize>(
+    text: &[u8],
+    line: &mut TextBuffer<SIZE>,
+) -> Result<(), AllocError>
+    ensures { AddsText result line.old.items line.new.items (text_json text.now) }
 {
     line.push(b'"')?;
     push_inner(text, line)?;
@@ -133,8 +142,11 @@ pub(crate) fn push_text(text: &[u8], line: &mut LineBuffer) -> Result<(), AllocE
 }
 
 /// Appends what stands in a text for the character of a number.
-fn push_character(byte: u8, line: &mut LineBuffer) -> Result<(), AllocError>
-    ensures { OnOk result (line.new.items ≡ line.old.items ++ flat_map escape_byte (character byte)) }
+fn push_character<const SIZE: usize>(
+    byte: u8,
+    line: &mut TextBuffer<SIZE>,
+) -> Result<(), AllocError>
+    ensures { AddsText result line.old.items line.new.items (flat_map escape_byte (character byte)) }
 {
     if byte < 0x80 {
         push_escaped(byte, line)
@@ -161,8 +173,11 @@ fn are_plain_characters(numbers: &[u8]) -> bool
     all
 }
 
-fn push_each_character(numbers: &[u8], line: &mut LineBuffer) -> Result<(), AllocError>
-    ensures { OnOk result (line.new.items ≡ line.old.items ++ flat_map escape_byte (flat_map character numbers.now)) }
+fn push_each_character<const SIZE: usize>(
+    numbers: &[u8],
+    line: &mut TextBuffer<SIZE>,
+) -> Result<(), AllocError>
+    ensures { AddsText result line.old.items line.new.items (flat_map escape_byte (flat_map character numbers.now)) }
 {
     for number in numbers {
         push_character(*number, line)?;
@@ -172,8 +187,11 @@ fn push_each_character(numbers: &[u8], line: &mut LineBuffer) -> Result<(), Allo
 
 /// Appends what stands between the quotes of a text of characters. Most have plain ones alone, which are copied at
 /// once.
-fn push_inner_characters(numbers: &[u8], line: &mut LineBuffer) -> Result<(), AllocError>
-    ensures { OnOk result (line.new.items ≡ line.old.items ++ flat_map escape_byte (flat_map character numbers.now)) }
+fn push_inner_characters<const SIZE: usize>(
+    numbers: &[u8],
+    line: &mut TextBuffer<SIZE>,
+) -> Result<(), AllocError>
+    ensures { AddsText result line.old.items line.new.items (flat_map escape_byte (flat_map character numbers.now)) }
 {
     if are_plain_characters(numbers) {
         line.extend_from_slice(numbers)
@@ -183,9 +201,12 @@ fn push_inner_characters(numbers: &[u8], line: &mut LineBuffer) -> Result<(), Al
 }
 
 /// Appends the text of the characters that have these numbers.
-#[tactic(auto, using(std::proofs::Common::append_assoc), unfolding(crate::specs::Text::text_json))]
-pub(crate) fn push_characters(numbers: &[u8], line: &mut LineBuffer) -> Result<(), AllocError>
-    ensures { OnOk result (line.new.items ≡ line.old.items ++ text_json (flat_map character numbers.now)) }
+#[tactic(auto, using(std::proofs::Common::append_assoc, crate::proofs::Begins::begins_steps), unfolding(crate::specs::Text::text_json))]
+pub(crate) fn push_characters<const SIZE: usize>(
+    numbers: &[u8],
+    line: &mut TextBuffer<SIZE>,
+) -> Result<(), AllocError>
+    ensures { AddsText result line.old.items line.new.items (text_json (flat_map character numbers.now)) }
 {
     line.push(b'"')?;
     push_inner_characters(numbers, line)?;
@@ -202,8 +223,11 @@ fn pair(byte: u8) -> [u8; 2]
     [high, low]
 }
 
-fn push_inner_pairs(bytes: &[u8], line: &mut LineBuffer) -> Result<(), AllocError>
-    ensures { OnOk result (line.new.items ≡ line.old.items ++ hex_pairs bytes.now) }
+fn push_inner_pairs<const SIZE: usize>(
+    bytes: &[u8],
+    line: &mut TextBuffer<SIZE>,
+) -> Result<(), AllocError>
+    ensures { AddsText result line.old.items line.new.items (hex_pairs bytes.now) }
 {
     let Some((first, rest)) = bytes.split_first() else {
         return Ok(());
@@ -217,17 +241,23 @@ fn push_inner_pairs(bytes: &[u8], line: &mut LineBuffer) -> Result<(), AllocErro
 }
 
 /// Appends the text of bytes: two digits each, and a space between.
-#[tactic(auto, using(std::proofs::Common::append_assoc))]
-pub(crate) fn push_pairs(bytes: &[u8], line: &mut LineBuffer) -> Result<(), AllocError>
-    ensures { OnOk result (line.new.items ≡ line.old.items ++ text_json (hex_pairs bytes.now)) }
+#[tactic(auto, using(std::proofs::Common::append_assoc, crate::proofs::Begins::begins_steps))]
+pub(crate) fn push_pairs<const SIZE: usize>(
+    bytes: &[u8],
+    line: &mut TextBuffer<SIZE>,
+) -> Result<(), AllocError>
+    ensures { AddsText result line.old.items line.new.items (text_json (hex_pairs bytes.now)) }
 {
     line.push(b'"')?;
     push_inner_pairs(bytes, line)?;
     line.push(b'"')
 }
 
-fn push_inner_digits(bytes: &[u8], line: &mut LineBuffer) -> Result<(), AllocError>
-    ensures { OnOk result (line.new.items ≡ line.old.items ++ flat_map two_digits bytes.now) }
+fn push_inner_digits<const SIZE: usize>(
+    bytes: &[u8],
+    line: &mut TextBuffer<SIZE>,
+) -> Result<(), AllocError>
+    ensures { AddsText result line.old.items line.new.items (flat_map two_digits bytes.now) }
 {
     for byte in bytes {
         line.extend_from_slice(&[b'0' + *byte / 10, b'0' + *byte % 10])?;
@@ -236,9 +266,12 @@ fn push_inner_digits(bytes: &[u8], line: &mut LineBuffer) -> Result<(), AllocErr
 }
 
 /// Appends the text of bytes that are two decimal digits each.
-#[tactic(auto, using(std::proofs::Common::append_assoc))]
-pub(crate) fn push_digits(bytes: &[u8], line: &mut LineBuffer) -> Result<(), AllocError>
-    ensures { OnOk result (line.new.items ≡ line.old.items ++ text_json (flat_map two_digits bytes.now)) }
+#[tactic(auto, using(std::proofs::Common::append_assoc, crate::proofs::Begins::begins_steps))]
+pub(crate) fn push_digits<const SIZE: usize>(
+    bytes: &[u8],
+    line: &mut TextBuffer<SIZE>,
+) -> Result<(), AllocError>
+    ensures { AddsText result line.old.items line.new.items (text_json (flat_map two_digits bytes.now)) }
 {
     line.push(b'"')?;
     push_inner_digits(bytes, line)?;

@@ -1,11 +1,14 @@
 //! Texts of UTF-16 in JSON.
+#![tactic(auto, using(crate::proofs::Begins::begins_steps))]
+
 ghost use Rattle.std.specs.Prelude.{◌≡◌, ◌<◌, ◌+◌, ◌++◌, ◌∷◌, [], ◌&&◌, true, false, length, flat_map, unwrap_or, MatchOption, OnOk};
 ghost use Rattle.std.specs.Char.Utf16.{is_high_surrogate, is_low_surrogate, surrogate_pair_char, lone_unit_char, utf16_lossy_chars};
 ghost use Rattle.json.specs.Print.{escape_byte};
 ghost use Rattle.n2k_table.specs.Strings.{units, wide_text};
 ghost use Rattle.n2k_table.specs.Text.{text_json, character};
+ghost use Rattle.n2k_table.specs.Inner.LineBuffer.{AddsText};
 
-use crate::line_buffer::LineBuffer;
+use crate::line_buffer::TextBuffer;
 use crate::text::push_each;
 use std::alloc::AllocError;
 
@@ -37,8 +40,15 @@ fn lone_character(unit: u16) -> char
     char::from_u32(u32::from(unit)).unwrap_or(char::REPLACEMENT_CHARACTER)
 }
 
-/// The first character, and the bytes behind it.
-fn split_character(bytes: &[u8]) -> Option<(char, &[u8])>
+/// The first character of a text of UTF-16, low byte first, and the bytes after it. A lone surrogate is U+FFFD. It takes no
+/// memory.
+///
+/// ```rust
+/// let (letter, rest) = split_character(&[0x3d, 0xd8, 0x00, 0xde, 0x41]).ok_or("a character")?;
+/// assert_eq!(rt; (letter, rest), ('\u{1f600}', [0x41].as_slice()));
+/// assert!(rt; split_character(rest).is_none());
+/// ```
+pub fn split_character(bytes: &[u8]) -> Option<(char, &[u8])>
     ensures { MatchOption result (units bytes.now ≡ [])
         (λ p. (utf16_lossy_chars (units bytes.now) ≡ p.0 ∷ utf16_lossy_chars (units p.1.now))
         × (length p.1.now < length bytes.now)) }
@@ -53,16 +63,19 @@ fn split_character(bytes: &[u8]) -> Option<(char, &[u8])>
 }
 
 /// Appends what stands in a text for a character.
-fn push_char(letter: char, line: &mut LineBuffer) -> Result<(), AllocError>
-    ensures { OnOk result (line.new.items ≡ line.old.items ++ flat_map escape_byte (character letter)) }
+fn push_char<const SIZE: usize>(letter: char, line: &mut TextBuffer<SIZE>) -> Result<(), AllocError>
+    ensures { AddsText result line.old.items line.new.items (flat_map escape_byte (character letter)) }
 {
     let mut room = [0; 4];
     push_each(letter.encode_utf8(&mut room).as_bytes(), line)
 }
 
 /// Appends what stands between the quotes of a text.
-fn push_inner_wide(bytes: &[u8], line: &mut LineBuffer) -> Result<(), AllocError>
-    ensures { OnOk result (line.new.items ≡ line.old.items ++ flat_map escape_byte (wide_text bytes.now)) }
+fn push_inner_wide<const SIZE: usize>(
+    bytes: &[u8],
+    line: &mut TextBuffer<SIZE>,
+) -> Result<(), AllocError>
+    ensures { AddsText result line.old.items line.new.items (flat_map escape_byte (wide_text bytes.now)) }
 {
     let mut rest = bytes;
     while let Some((letter, behind)) = split_character(rest) {
@@ -73,9 +86,12 @@ fn push_inner_wide(bytes: &[u8], line: &mut LineBuffer) -> Result<(), AllocError
 }
 
 /// Appends the text of UTF-16, low byte first.
-#[tactic(auto, using(std::proofs::Common::append_assoc), unfolding(crate::specs::Text::text_json))]
-pub(crate) fn push_wide(bytes: &[u8], line: &mut LineBuffer) -> Result<(), AllocError>
-    ensures { OnOk result (line.new.items ≡ line.old.items ++ text_json (wide_text bytes.now)) }
+#[tactic(auto, using(std::proofs::Common::append_assoc, crate::proofs::Begins::begins_steps), unfolding(crate::specs::Text::text_json))]
+pub(crate) fn push_wide<const SIZE: usize>(
+    bytes: &[u8],
+    line: &mut TextBuffer<SIZE>,
+) -> Result<(), AllocError>
+    ensures { AddsText result line.old.items line.new.items (text_json (wide_text bytes.now)) }
 {
     line.push(b'"')?;
     push_inner_wide(bytes, line)?;

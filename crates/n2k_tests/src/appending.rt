@@ -1,8 +1,8 @@
-//! Calls that append leave their vector byte for byte as it was where a growth is refused. `tests/faults/refused-growth`
-//! lets each growth fail in turn.
+//! Calls that append leave their vector, or their buffer of lines, byte for byte as it was if a growth is refused.
+//! `tests/faults/refused-growth` refuses each growth in turn.
 use n2k_join::{Broken, Counts};
 use n2k_run::{bad_text, broken_text, summary_text};
-use n2k_table::{Table, decimal_text, json_line};
+use n2k_table::{LineBuffer, Table, decimal_text, json_line, json_line_of};
 use n2k_table_tests::samples::sample;
 use n2k_wire::{
     BadCause, Entry, Packet, Packing, candump_text, is_interface, plain_text, read_line,
@@ -79,4 +79,65 @@ fn refused_growth_leaves_each_vector(rt: HostRuntime) {
     for (call, text) in APPENDED.iter().enumerate() {
         appends_or_leaves(&rt, call, text, &table, &packet);
     }
+}
+
+const JSON_LINE: &str =
+    "{\"timestamp\":\"1970-01-01T00:00:01.000Z\",\"prio\":2,\"src\":127,\"dst\":255,\"pgn\":129026,\"description\":\"COG & SOG, Rapid Update\",\"fields\":{\"SID\":5,\"COG Reference\":\"True\"}}\n";
+
+const PLAIN_LINE: &str = "1970-01-01T00:00:01.000Z,2,129026,127,255,2,05,00\n";
+
+// Whether the call of this number has added its line.
+fn adds(call: usize, table: &Table, packet: &Packet, lines: &mut LineBuffer) -> bool {
+    match table.find(packet.id().pgn) {
+        Some(known) if call == 0 => json_line_of(&known, packet, false, lines).is_ok(),
+        _ => lines.push_plain(packet).is_ok(),
+    }
+}
+
+// The buffer has this line so many times. If memory for the comparison is refused, nothing is compared.
+fn has_lines<R: Abort + AllocGlobal>(rt: &R, lines: &LineBuffer, line: &str, count: usize) {
+    let mut wanted = Vec::new(rt.alloc());
+    for _ in 0..count {
+        if wanted.extend_from_slice(line.as_bytes()).is_err() {
+            return;
+        }
+    }
+    let (front, rest) = lines.parts();
+    assert_eq!(rt; wanted.strip_prefix(front), Some(rest));
+}
+
+// Adds lines past the room, and takes them out.
+fn adds_or_leaves<R: Abort + AllocGlobal>(
+    rt: &R,
+    call: usize,
+    line: &str,
+    table: &Table,
+    packet: &Packet,
+) {
+    let mut lines = LineBuffer::new(rt.alloc());
+    let mut count = 0usize;
+    for _ in 0..700 {
+        if adds(call, table, packet, &mut lines) {
+            count = count.saturating_add(1);
+        }
+    }
+    has_lines(rt, &lines, line, count);
+    if let Ok(taken) = lines.take_lines(rt.alloc()) {
+        lines.put_back(taken);
+    }
+    has_lines(rt, &lines, line, count);
+}
+
+#[test]
+fn refused_growth_leaves_the_lines_before(rt: HostRuntime) {
+    let Ok(table) = sample(rt.alloc()) else {
+        return;
+    };
+    let line = "(1.0) can0 09F8027F#0500";
+    let Entry::Frame(packet) = read_line(line.as_bytes(), Packing::Frames) else {
+        assert!(rt; false, "no frame");
+        return;
+    };
+    adds_or_leaves(&rt, 0, JSON_LINE, &table, &packet);
+    adds_or_leaves(&rt, 1, PLAIN_LINE, &table, &packet);
 }

@@ -124,5 +124,5 @@ reported w words request before done result fault said errors status does is rep
 
 -- a command that came to its end, of which is said what there is to say
 pub ended : (w : World) (words : SystemWords) (request : Request) (before done : Outside) (result : Result Ending Fault) (ending : Ending) (said : Result (Unit {0}) AllocError) (errors : Place) (status : ℕ)
-    → DoesAsked w request before done result → result ≡ Ok ending → Hints w ending.has_other_form done.errors errors → status ≡ ending.status → RunsRequest w words request before (record done { errors = errors }) status said
-ended w words request before done result ending said errors status does is hints answered = grind arith
+    → DoesAsked w request before done result → result ≡ Ok ending → Hints w ending.has_other_form done.errors errors → status ≡ ending.status → said ≡ Ok tt → RunsRequest w words request before (record done { errors = errors }) status said
+ended w words request before done result ending said errors status does is hints answered none = grind arith

@@ -4,9 +4,9 @@ use Rattle.std.specs.declared.fs.OpenOptions.{OpenOptions}
 use Rattle.std.specs.declared.io.Error.{Error}
 use Rattle.clap.specs.Words.{Text}
 use Rattle.n2kdec.specs.Destination.{folder_of}
-use Rattle.n2kdec.specs.Disk.{Act, Acts, Answers, Call, acted, failure, kind_of, noted, open_at, remove, rename, set_mode, sync_folder}
+use Rattle.n2kdec.specs.Disk.{Act, Acts, Answers, Call, acted, closed, failure, kind_of, noted, open_at, remove, rename, set_mode, sync_folder}
 use Rattle.n2kdec.specs.Folder.{Name, Target, Temp, act_at, behind, is_taken, path_of}
-use Rattle.n2kdec.specs.Replacement.{By, Doing, IsAppended, IsFoundFor, IsKept, IsKeptAs, IsMade, IsModed, IsNamed, IsOne, IsOver, IsPlaced, IsWritten, KeepsText, Makes, Then, failed, judged, make}
+use Rattle.n2kdec.specs.Replacement.{By, Closes, Doing, IsAppended, IsFoundFor, IsKept, IsKeptAs, IsMade, IsModed, IsNamed, IsOne, IsOver, IsPlaced, IsWritten, KeepsText, Makes, Then, failed, judged, make}
 use Rattle.n2kdec.specs.declared.destination.Destination.{Destination}
 use Rattle.n2kdec.specs.declared.destination.Kind.{Kind}
 use Rattle.n2kdec.specs.declared.destination.Kind.TheVariants.{Alone, Shared, Special}
@@ -46,6 +46,10 @@ module _ (d : Destination) where
   pub by : (a b : Acts) (answers : Result (Unit {0}) Error → Result (Unit {0}) Unplaced) (Does : Doing Error) (answer : Result (Unit {0}) Error) (result : Result (Unit {0}) Unplaced)
       → Makes d a b Does answer → result ≡ answers answer → Makes d a b (By answers Does) result
   by a b answers Does answer result (made, from, is) same = (made, from, (answer, is, same))
+
+  pub closing : {E : Type 0} (Does : Doing E) (a b c : Acts) (answer result : Result (Unit {0}) E) → Makes d a b Does answer → c ≡ noted closed b → result ≡ answer → Makes d a c (Closes Does) result
+  closing Does a b c answer result (made, from, is) last same =
+      subst (λ r. Makes d a c (Closes Does) r) (sym same) (closed ∷ made, last ∙ ap (noted closed) from, (made, is, refl))
 
   -- a new file is made
   pub made_at_once : (a b : Acts) (answer : Result (Unit {0}) Error) (result : Result (Unit {0}) Unplaced) → Makes d a b (IsOne make) answer → is_taken (option_map kind_of (failure answer)) ≡ false → result ≡ judged answer → Makes d a b IsMade result
@@ -103,7 +107,7 @@ module _ (d : Destination) where
     kept_special a b kind result is makes = subst (λ k. Makes d a b (IsKeptAs k d text) result) (sym is) makes
 
 -- for each of these functions
-pub ruleset steps = (one, opened, removed, renamed, folder_synced, after, ended, by, made_at_once, made_anew, moded, not_moded, named, not_named, over, not_over, synced, given_up, written_over, kept_alone, kept_shared, kept_special)
+pub ruleset steps = (one, opened, removed, renamed, folder_synced, after, ended, by, closing, made_at_once, made_anew, moded, not_moded, named, not_named, over, not_over, synced, given_up, written_over, kept_alone, kept_shared, kept_special)
 
 -- ---- where a name leads
 

@@ -2,7 +2,7 @@
 use Rattle.std.proofs.Common.{arith, ◌≡◌, ◌⊎◌, List, ℕ, Bool, true, false, [], ◌∷◌, ◌++◌, Option, None, Some, OnOk, Result, Ok, Err, refl, inl, inr, subst, sym, if◌then◌else◌}
 use Rattle.std.specs.declared.io.Error.{Error}
 use Rattle.n2kdec.specs.Destination.{is_missing}
-use Rattle.n2kdec.specs.Disk.{Act, Call, Why, failure, kind_of, open_at, set_mode, write, sync, rename, remove, sync_folder}
+use Rattle.n2kdec.specs.Disk.{Act, Call, Why, closed, failure, kind_of, open_at, set_mode, write, sync, rename, remove, sync_folder}
 use Rattle.n2kdec.specs.Folder.{Content, FileMayBeLeft, HasAfter, MayBeLeft, MayHave, Name, Target, Temp, Unsure, Nothing, Whole, Where, cut_failure, extent_of, is_refusal, opened}
 use Rattle.n2kdec.specs.Replacement.{AtEachMoment, Doing, EndsWith, HasOldOrNew, IsAlone, IsAsBefore, IsFilled, IsGivenUp, IsNamed, IsPlaced, IsSynced, IsWritten, LeavesOne, LeavesWritten, empty, failed}
 use Rattle.n2kdec.specs.declared.destination.Destination.{Destination}
@@ -61,13 +61,10 @@ Stays {E} own P Does Q = (result : Result (Unit {0}) E) (made before : List (Act
 abbrev Any : Option Name → Type 0
 Any current = Unit {0}
 
-abbrev Is : Name → Option Name → Type 0
-Is own current = current ≡ Some own
-
-stays_filled : (d : Destination) (text : List ℕ) → Stays Temp Any (IsFilled d text) (Is Temp)
+stays_filled : (d : Destination) (text : List ℕ) → Stays Temp Any (IsFilled d text) Any
 stays_filled d text result made before current does = grind arith
 
-stays_written : (d : Destination) (text : List ℕ) → Stays Target Any (IsWritten d text) (Is Target)
+stays_written : (d : Destination) (text : List ℕ) → Stays Target Any (IsWritten d text) Any
 stays_written d text result made before current does = grind arith
 
 -- ---- all of it is done
@@ -77,7 +74,7 @@ moded None = []
 moded (Some mode) = done (set_mode mode) ∷ []
 
 abbrev poured : Option ℕ → List ℕ → List (Act Name)
-poured mode text = done sync ∷ done (write text) ∷ moded mode
+poured mode text = closed ∷ done sync ∷ done (write text) ∷ moded mode
 
 written_is : (d : Destination) (text : List ℕ) (made : List (Act Name)) → IsWritten d text (Ok tt) made → made ≡ poured None text ++ done (empty d) ∷ []
 written_is d text made h = grind arith

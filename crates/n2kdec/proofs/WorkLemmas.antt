@@ -26,11 +26,10 @@ use Rattle.n2kdec.specs.Asked.{save_name}
 use Rattle.n2kdec.specs.Commands.{Decodes, Effect, Ends, EndsByTable, EndsUnlessRefused, IsRefusal, IsSaved, IsStopped, IsUntouched, IsWrittenUnlessFailed, Kept, Performs, Place, PrintsRest, Replaces, Shelf, SumsUpPart, decode_to, entries_for, frames_effect, no_saving, place, shelf}
 use Rattle.n2kdec.specs.Fault.{fault_of_run}
 use Rattle.n2kdec.specs.Inner.Closing.{Closes, ClosesPart}
-use Rattle.n2kdec.specs.Told.{Tells}
+use Rattle.n2kdec.specs.Told.{Tells, Told}
 use Rattle.n2kdec.specs.Work.{AnswersWhole, DoesFrames, Works, answer_of_part}
 use Rattle.n2kdec.specs.declared.asked.Task.{Task}
 use Rattle.n2kdec.specs.declared.asked.Task.TheVariants.{Plain, Decode, Frames}
-use Rattle.n2kdec.specs.declared.difference.Difference.{Difference}
 use Rattle.n2kdec.specs.declared.ending.Ending.{Ending}
 use Rattle.n2kdec.specs.declared.fault.Fault.{Fault}
 use Rattle.n2kdec.specs.declared.fault.Fault.TheVariants.{Memory, Read}
@@ -124,7 +123,7 @@ module _ (before after : Devices) (errors : Place) where
     unless : (r : Result Ending Fault) → Ends c before after r → EndsUnlessRefused c before after r
     unless r done = grind arith
 
-    closed : (of : Option Difference) (ended : Result Part PartFault) (r : Result Ending Fault) → IsOfKind ended → RefusedByMemory ended
+    closed : (of : Told) (ended : Result Part PartFault) (r : Result Ending Fault) → IsOfKind ended → RefusedByMemory ended
         → TellsRun o (λ es. HasPart t options ended (stands_at es)) before mid ended → ClosesPart keeper kept errors summed (answer_of_part of ended) r → EndsUnlessRefused c before after r
     closed of (Ok part) r kind memory told closes =
         unless r (ended_by_closing c _ tt part.state.items part.counts (told_ok o before mid _ part told) (grind arith) r closes)
@@ -142,11 +141,11 @@ module _ (before after : Devices) (errors : Place) where
     abbrev t : TableParts
     t = table_of bytes
 
-    rest_of : (front : List ℕ) (of : Option Difference) (ended : Result Part PartFault) (r : Result Ending Fault) → Continues t o front before mid ended → ClosesPart keeper kept errors summed (answer_of_part of ended) r
+    rest_of : (front : List ℕ) (of : Told) (ended : Result Part PartFault) (r : Result Ending Fault) → Continues t o front before mid ended → ClosesPart keeper kept errors summed (answer_of_part of ended) r
         → IfOk r (λ ending. IfSome before.left (λ log. PrintsRest t o front log before after keeper kept ending.status))
     rest_of front of ended r goes closes = grind (arith, known_more, Appends-trans)
 
-    decoded : (of : Option Difference) (ended : Result Part PartFault) (r : Result Ending Fault) → faults bytes ≡ [] → RunsFrom t o handed before mid ended → ClosesPart keeper kept errors summed (answer_of_part of ended) r
+    decoded : (of : Told) (ended : Result Part PartFault) (r : Result Ending Fault) → faults bytes ≡ [] → RunsFrom t o handed before mid ended → ClosesPart keeper kept errors summed (answer_of_part of ended) r
         → Decodes bytes o handed before after keeper kept r
     decoded of ended r none runs closes = record {
       judged = grind arith;

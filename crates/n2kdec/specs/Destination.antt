@@ -6,7 +6,7 @@ use Rattle.std.specs.List.{starts_with}
 use Rattle.std.specs.Str.{bytes_eq}
 use Rattle.std.specs.Path.{cur_dir, path_file_name, path_join, path_parent, path_with_file_name}
 use Rattle.std.specs.declared.io.ErrorKind.{ErrorKind}
-use Rattle.std.specs.declared.io.ErrorKind.TheVariants.{NotFound, InvalidInput, InvalidFilename, FilesystemLoop}
+use Rattle.std.specs.declared.io.ErrorKind.TheVariants.{NotFound, InvalidInput, InvalidFilename, IsADirectory, FilesystemLoop}
 use Rattle.clap.specs.Words.{Text}
 use Rattle.n2k_wire.specs.Steps.{◌>>=◌, or_cause}
 use Rattle.n2kdec.specs.Disk.{Answers, OfKind, Why, kind_of}
@@ -61,11 +61,12 @@ abbrev pub if_there : {T : Type 0} → Result T Why → Result (Option T) Why
 if_there (Ok answer) = Ok (Some answer)
 if_there (Err why) = if is_missing (kind_of why) then Ok None else Err why
 
--- whether a path stands for an open file: its folder is one of `/proc`, as that of `/dev/fd/3` is
+-- Whether a path stands for an open file: its folder is one of `/proc`, as that of `/dev/fd/3` is. Its folder has to be
+-- there.
 unfoldable pub is_open_file : Answers → Text → Result Bool Why
 is_open_file a path = do
-  folder ← if_there (a.real (folder_of path))
-  Ok (unwrap_or (option_map is_of_proc folder) false)
+  folder ← a.real (folder_of path)
+  Ok (is_of_proc folder)
 
 -- the path to which the link at a path leads, by what is answered of that; none where it is no link
 abbrev pub linked : Text → Result Text Why → Result (Option Text) Why
@@ -95,6 +96,11 @@ abbrev pub is_file : Option Found → Bool
 is_file None = true
 is_file (Some found) = found.is_file
 
+-- a folder
+abbrev pub is_folder : Option Found → Bool
+is_folder None = false
+is_folder (Some found) = found.is_folder
+
 -- it has other names too
 abbrev pub is_shared : Option Found → Bool
 is_shared None = false
@@ -107,15 +113,16 @@ placed_at name was (Some path) = (path, if is_shared was then Shared else Alone)
 
 unfoldable pub target_of : Answers → Text → Option Found → Result (Text × Kind) Why
 target_of a name was =
-    if is_file was then (behind (suc most_links) a name >>= λ path. Ok (placed_at name was path))
+    if is_folder was then Err (OfKind IsADirectory)
+    else if is_file was then (behind (suc most_links) a name >>= λ path. Ok (placed_at name was path))
     else Ok (name, Special)
 
 -- those bits of a mode that say who may read, write and run a file
 abbrev pub permissions : Found → ℕ
 permissions found = bit_and found.mode 0o777
 
--- A state under this name goes there; or it can't be found out where, by the error of the first call that failed, or
--- since the name ends with no name of a file.
+-- A state under this name goes there; or it can't be found out where, by the error of the first call that failed, since
+-- the name is that of a folder, or since it ends with no name of a file.
 unfoldable pub destination : Answers → Text → Result Destination Why
 destination a name = do
   was ← if_there (a.found name)
@@ -125,15 +132,27 @@ destination a name = do
 
 -- ---- two paths
 
--- both lead to one regular file
+-- both are one, whatever they are
 abbrev pub are_one : Found → Found → Bool
-are_one one other = one.is_file && other.is_file && one.device == other.device && one.number == other.number
+are_one one other = one.device == other.device && one.number == other.number
+
+-- both are one regular file
+abbrev pub are_one_file : Found → Found → Bool
+are_one_file one other = one.is_file && other.is_file && are_one one other
+
+-- or one pipe, from which comes what is written to it
+abbrev pub are_one_input : Found → Found → Bool
+are_one_input one other = are_one_file one other || (one.is_pipe && other.is_pipe && are_one one other)
 
 -- by what both lead to; where one of them can't be looked at the paths themselves are compared
-abbrev pub are_same : Result Found Why → Result Found Why → Bool → Bool
-are_same (Ok one) (Ok other) spelled = are_one one other
-are_same _ _ spelled = spelled
+abbrev pub are_same : (Found → Found → Bool) → Result Found Why → Result Found Why → Bool → Bool
+are_same are (Ok one) (Ok other) spelled = are one other
+are_same are _ _ spelled = spelled
 
 -- whether both paths lead to one regular file
 unfoldable pub leads : Answers → Text → Text → Bool
-leads a own path = are_same (a.found own) (a.found path) (bytes_eq own path)
+leads a own path = are_same are_one_file (a.found own) (a.found path) (bytes_eq own path)
+
+-- or to one pipe
+unfoldable pub feeds : Answers → Text → Text → Bool
+feeds a own path = are_same are_one_input (a.found own) (a.found path) (bytes_eq own path)

@@ -55,6 +55,8 @@ pub data Call (P : Type 0) : Type 0 where
   -- a text is written to the open file, whole
   write : List ℕ → Call P
   sync : Call P
+  -- the open file is closed, and none is open then
+  close : Call P
   -- what is at the first gets the second, in the place of what is there
   rename : P → P → Call P
   remove : P → Call P
@@ -74,6 +76,10 @@ failure (Err error) = Some (This error)
 
 abbrev pub acted : {P T : Type 0} → Call P → Result T Error → Act P
 acted call result = record { call = call; failed = failure result }
+
+-- the open file is closed, which does not fail
+abbrev pub closed : {P : Type 0} → Act P
+closed = record { call = close; failed = None }
 
 -- The acts, where they are known, the last one first; and one more.
 abbrev pub Acts : Type 0

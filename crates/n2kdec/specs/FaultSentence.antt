@@ -1,5 +1,5 @@
 -- What is said of a fault on a terminal, in a line: the file or the stream that it is of, what is wrong, what to do.
-use Rattle.std.specs.Prelude.{◌≡◌, ◌==◌, ◌++◌, ◌∷◌, ℕ, false, List, [], Option, Some, None}
+use Rattle.std.specs.Prelude.{◌≡◌, ◌==◌, ◌++◌, ◌∷◌, ℕ, false, List, [], Ok, Option, Some, None}
 use Rattle.std.specs.Prelude.{codes, decimal, if◌then◌else◌, IfSome, option_and_then, option_map}
 use Rattle.std.specs.Option.{unwrap_or}
 use Rattle.std.specs.declared.io.Error.{Error}
@@ -93,8 +93,8 @@ abbrev pub lines_text : ℕ → Text
 lines_text lines = if lines == 0 then [] else some_lines_text lines
 
 abbrev pub cause_text : Option Command → Fault → Text
-cause_text command (State fault (Some (Tables saved id))) = tables_text saved (unwrap_or (table_of command) []) id
-cause_text command (State fault (Some (Windows saved window))) = windows_text saved window
+cause_text command (State fault (Ok (Some (Tables saved id)))) = tables_text saved (unwrap_or (table_of command) []) id
+cause_text command (State fault (Ok (Some (Windows saved window)))) = windows_text saved window
 cause_text command (Read lines why unkept) = lines_text lines
 cause_text command _ = []
 

@@ -10,8 +10,8 @@ use Rattle.std.specs.declared.io.ErrorKind.TheVariants.{AlreadyExists, Permissio
 use Rattle.std.specs.declared.io.ErrorKind.TheVariants.{InvalidFilename, ResourceBusy, IsADirectory, Other}
 use Rattle.clap.specs.Words.{Text}
 use Rattle.n2kdec.specs.Destination.{folder_of, is_missing}
-use Rattle.n2kdec.specs.Disk.{Act, Acts, Call, OfKind, Why, kind_of, noted, open_at, set_mode, write, sync, rename}
-use Rattle.n2kdec.specs.Disk.{remove, sync_folder}
+use Rattle.n2kdec.specs.Disk.{Act, Acts, Call, OfKind, Why, close, kind_of, noted, open_at, set_mode, write, sync}
+use Rattle.n2kdec.specs.Disk.{rename, remove, sync_folder}
 use Rattle.n2kdec.specs.declared.destination.Destination.{Destination}
 
 -- the name that gets a text, and that of the new file beside it, until the text is whole
@@ -35,6 +35,7 @@ call_at d (open_at name how) = open_at (path_of d name) how
 call_at d (set_mode mode) = set_mode mode
 call_at d (write text) = write text
 call_at d sync = sync
+call_at d close = close
 call_at d (rename from to) = rename (path_of d from) (path_of d to)
 call_at d (remove name) = remove (path_of d name)
 call_at d (sync_folder name) = sync_folder (folder_of (path_of d name))
@@ -104,6 +105,7 @@ cut_short act = record { call = act.call; failed = cut_failure (extent_of act.ca
 -- the name at which the open file was opened, if one is
 abbrev pub opened_by : Call Name → Option Why → Option Name → Option Name
 opened_by (open_at name how) None current = Some name
+opened_by close failed current = None
 opened_by _ _ current = current
 
 abbrev pub opened : List (Act Name) → Option Name
@@ -113,6 +115,7 @@ opened (act ∷ acts) = opened_by act.call act.failed (opened acts)
 -- whose file a call makes, changes or takes away
 abbrev pub changed_by : Call Name → Option Name → Option Name
 changed_by (open_at name how) current = if asks_create_new how || asks_truncate how then Some name else None
+changed_by close current = None
 changed_by (rename from to) current = None
 changed_by (remove name) current = Some name
 changed_by (sync_folder name) current = None

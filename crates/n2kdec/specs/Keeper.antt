@@ -3,7 +3,7 @@ use Rattle.std.specs.Prelude.{◌≡◌, ◌⊎◌, ◌&&◌, ◌||◌, List, �
 use Rattle.std.specs.Prelude.{Result, Ok, Err}
 use Rattle.clap.specs.Words.{Text}
 use Rattle.n2k_wire.specs.Steps.{◌>>=◌}
-use Rattle.n2kdec.specs.Destination.{destination, leads}
+use Rattle.n2kdec.specs.Destination.{destination, feeds, leads}
 use Rattle.n2kdec.specs.Disk.{Acts, Answers, IsError, IsOfMemory, Why}
 use Rattle.n2kdec.specs.Replacement.{KeepsText}
 use Rattle.n2kdec.specs.declared.asked.Files.{Files}
@@ -15,10 +15,10 @@ use Rattle.n2kdec.specs.declared.keeper.Unkept.TheVariants.{Harm, Unfound, Faile
 
 -- ---- what would be harmed
 
--- this path, where one is given, leads to the file
+-- the file and what this path leads to, if one is given, are one regular file or one pipe
 abbrev pub meets : Answers → Text → Option Text → Bool
 meets a own None = false
-meets a own (Some path) = leads a own path
+meets a own (Some path) = feeds a own path
 
 -- the path of the log: without one that of standard input
 abbrev pub read_log : Option Text → Text
@@ -28,7 +28,7 @@ read_log (Some path) = path
 -- a file is the table, the log or standard error, to which the summary goes later
 abbrev pub meets_files : Answers → Text → Files → Bool
 meets_files a own files =
-    meets a own files.table || leads a own (read_log files.log) || leads a own (codes "/dev/stderr")
+    meets a own files.table || feeds a own (read_log files.log) || leads a own (codes "/dev/stderr")
 
 -- a text that is kept there takes the place of what the file has: what is special is written to behind that
 abbrev pub replaces : Kind → Bool

@@ -296,11 +296,11 @@ abbrev pub Hints : World → Bool → Place → Place → Type 0
 Hints w true before after = (is_terminal : Bool) × IsTerminal w is_terminal × HintsOn is_terminal before after
 Hints w false before after = after ≡ before
 
--- the status of a result, and what is said of it
+-- the status of a result, and what is said of it; memory may be refused for what is said of a fault alone
 abbrev pub Concludes : World → SystemWords → Request → Result Ending Fault → Outside → Outside → ℕ
     → Result (Unit {0}) AllocError → Type 0
 Concludes w words request (Ok ending) before after status said =
-    (status ≡ ending.status) × Hints w ending.has_other_form before.errors after.errors
+    (status ≡ ending.status) × (said ≡ Ok tt) × Hints w ending.has_other_form before.errors after.errors
     × (after ≡ record before { errors = after.errors })
 Concludes w words request (Err fault) before after status said =
     (status ≡ status_of fault) × ReportsFault w words request fault said before.errors after.errors

@@ -7,7 +7,7 @@ use Rattle.std.specs.IoError.{error_kind}
 use Rattle.std.specs.declared.io.Error.{Error}
 use Rattle.clap.specs.Words.{Text}
 use Rattle.n2kdec.specs.Destination.{destination, is_missing}
-use Rattle.n2kdec.specs.Disk.{Act, Acts, Answers, Call, IsAnswerUnlessMemory, Why, acted, failure, kind_of, open_at}
+use Rattle.n2kdec.specs.Disk.{Act, Acts, Answers, Call, IsAnswerUnlessMemory, Why, acted, closed, failure, kind_of, open_at}
 use Rattle.n2kdec.specs.Disk.{set_mode, write, sync, rename, remove, sync_folder}
 use Rattle.n2kdec.specs.Folder.{Content, FileMayBeLeft, MayBeLeft, MayHave, Name, Target, Temp, behind, cut_short}
 use Rattle.n2kdec.specs.Folder.{is_refusal, is_taken, makes_new, writes_behind, writes_over}
@@ -37,6 +37,10 @@ Then One Other result made =
     ((first later : List (Act Name)) × One (Ok tt) first × Other result later × (made ≡ later ++ first))
     ⊎ IsErrAnd result (λ why. One (Err why) made)
 
+-- one with a file that is open, which is closed then, also after an error
+abbrev pub Closes : {E : Type 0} → Doing E → Doing E
+Closes Does result made = (with_it : List (Act Name)) × Does result with_it × (made ≡ closed ∷ with_it)
+
 -- one of which this comes of the answer
 abbrev pub By : (Result (Unit {0}) Error → Result (Unit {0}) Unplaced) → Doing Error → Doing Unplaced
 By answers Does result made = (answer : Result (Unit {0}) Error) × Does answer made × (result ≡ answers answer)
@@ -62,7 +66,7 @@ IsMade result made = (answer : Result (Unit {0}) Error)
     × Then (By judged (IsOne (remove Temp))) (By failed (IsOne make)) result later
     × (made ≡ later ++ acted make answer ∷ [])))
 
--- it gets the permissions of the file in whose place it comes, if one is there, and the text, and is synced
+-- It gets the permissions of the file in whose place it comes, if one is there, and the text, and is synced and closed.
 abbrev pub IsModed : Option ℕ → Doing Error
 IsModed None result made = (result ≡ Ok tt) × (made ≡ [])
 IsModed (Some mode) result made = IsOne (set_mode mode) result made
@@ -71,7 +75,7 @@ abbrev pub IsPoured : Option ℕ → List ℕ → Doing Error
 IsPoured mode text result made = Then (Then (IsModed mode) (IsOne (write text))) (IsOne sync) result made
 
 abbrev pub IsFilled : Destination → List ℕ → Doing Unplaced
-IsFilled d text result made = Then IsMade (By failed (IsPoured d.mode text)) result made
+IsFilled d text result made = Then IsMade (By failed (Closes (IsPoured d.mode text))) result made
 
 -- Then it gets the name, if that is its file's one name. Where the file has others, the new one only shows that there
 -- is room.
@@ -92,13 +96,13 @@ IsGivenUp d text result made =
     (error : Error) × (tried : List (Act Name)) × (gone : Option Why) × (result ≡ Err error)
     × IsPlaced d text (Err (Failed error)) tried × (made ≡ record { call = remove Temp; failed = gone } ∷ tried)
 
--- The text is written over what the file of the name has, and synced; where none is there, it is made. The new file is
--- taken away once that is done, and not before.
+-- The text is written over what the file of the name has, which is synced and closed; where none is there, it is made.
+-- The new file is taken away once that is done, and not before.
 abbrev pub empty : Destination → Call Name
 empty d = open_at Target (writes_over (is_none d.mode))
 
 abbrev pub IsWritten : Destination → List ℕ → Doing Error
-IsWritten d text result made = Then (IsOne (empty d)) (IsPoured None text) result made
+IsWritten d text result made = Then (IsOne (empty d)) (Closes (IsPoured None text)) result made
 
 abbrev pub EndsWith : Result (Unit {0}) Error → List (Act Name) → List (Act Name) → Type 0
 EndsWith (Ok done) written made =
@@ -108,9 +112,9 @@ EndsWith (Err error) written made = made ≡ written
 abbrev pub IsOver : Destination → List ℕ → Doing Error
 IsOver d text result made = (written : List (Act Name)) × IsWritten d text result written × EndsWith result written made
 
--- what is no regular file is written to behind what it has
+-- what is no regular file is written to behind what it has, and closed
 abbrev pub IsAppended : List ℕ → Doing Error
-IsAppended text result made = Then (IsOne (open_at Target writes_behind)) (IsOne (write text)) result made
+IsAppended text result made = Then (IsOne (open_at Target writes_behind)) (Closes (IsOne (write text))) result made
 
 -- ---- what they leave
 

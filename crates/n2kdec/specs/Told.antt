@@ -1,7 +1,9 @@
 -- What is told of a fault besides its name: what a state is of that is refused, how far a log was read, and what was
 -- read when memory was refused.
-use Rattle.std.specs.Prelude.{◌≡◌, ℕ, List, Option, Some, None, Ok, codes, option_and_then, option_map}
+use Rattle.std.specs.Prelude.{◌≡◌, ◌==◌, ℕ, List, Option, Some, None, Result, Ok, IfOk, codes, if◌then◌else◌, length}
+use Rattle.std.specs.Prelude.{option_and_then, option_map}
 use Rattle.std.specs.Io.KnownBytes.{Consumes}
+use Rattle.std.specs.declared.alloc.AllocError.{AllocError}
 use Rattle.hex.specs.Hex.{encode_lower}
 use Rattle.serde_json.specs.Data.{Data}
 use Rattle.serde_json.specs.Find.{get, as_str}
@@ -18,7 +20,7 @@ use Rattle.n2kdec.specs.Commands.{Effect, decode_from, entries_for, frames_effec
 use Rattle.n2kdec.specs.declared.asked.Task.{Task}
 use Rattle.n2kdec.specs.declared.asked.Task.TheVariants.{Plain, Decode, Frames}
 use Rattle.n2kdec.specs.declared.difference.Difference.{Difference}
-use Rattle.n2kdec.specs.declared.difference.Difference.TheVariants.{Tables, Windows, Unknown}
+use Rattle.n2kdec.specs.declared.difference.Difference.TheVariants.{Tables, Windows}
 use Rattle.n2kdec.specs.declared.fault.Fault.{Fault}
 use Rattle.n2kdec.specs.declared.fault.Fault.TheVariants.{Read, State, Memory}
 use Rattle.n2kdec.specs.declared.fault.Reading.TheVariants as reading
@@ -32,27 +34,35 @@ text_in name d = option_and_then as_str (get name d)
 abbrev pub number_in : Text → Data → Option ℕ
 number_in name d = option_and_then as_int (get name d)
 
--- the table that it was saved under, as it stands there, and the one of this SHA-256 that it is handed in with
+-- a text that has as many digits as a SHA-256
+abbrev pub digits_in : Text → Option Text
+digits_in text = if length text == 64 then Some text else None
+
+-- The table that the state of a value was saved under, as it stands there, and the one of this SHA-256 that it is handed
+-- in with.
+abbrev pub tables_in : List ℕ → Data → Option Difference
+tables_in id d =
+    option_map (λ saved. Tables saved (encode_lower id)) (option_and_then digits_in (text_in (codes "table") d))
+
 abbrev pub tables : List ℕ → List ℕ → Option Difference
-tables id state =
-    option_map (λ saved. Tables saved (encode_lower id)) (option_and_then (text_in (codes "table")) (parsed state))
+tables id state = option_and_then (tables_in id) (parsed state)
 
 -- the lines of the window that it was saved under, and these
+abbrev pub windows_in : ℕ → Data → Option Difference
+windows_in lines d = option_map (λ saved. Windows saved lines) (number_in (codes "window") d)
+
 abbrev pub windows : ℕ → List ℕ → Option Difference
-windows lines state =
-    option_map (λ saved. Windows saved lines) (option_and_then (number_in (codes "window")) (parsed state))
+windows lines state = option_and_then (windows_in lines) (parsed state)
 
--- this is told, or memory for it was refused
-abbrev pub IsUnlessUnknown : Option Difference → Option Difference → Type 0
-IsUnlessUnknown known None = ⊥
-IsUnlessUnknown known (Some Unknown) = Unit {0}
-IsUnlessUnknown known (Some told) = known ≡ Some told
+-- what is told of a refused state, if anything, or that memory for it was refused
+abbrev pub Told : Type 0
+Told = Result (Option Difference) AllocError
 
--- what a state is of that is refused for it; no other fault tells anything
-abbrev pub Differs : List ℕ → Options → Option (List ℕ) → StateFault → Option Difference → Type 0
-Differs id o (Some state) TableDiffers told = IsUnlessUnknown (tables id state) told
-Differs id o (Some state) WindowDiffers told = IsUnlessUnknown (windows o.window.lines state) told
-Differs id o handed _ told = told ≡ None
+-- What a state is of that is refused for it, unless memory for that was refused; no other fault tells anything.
+abbrev pub Differs : List ℕ → Options → Option (List ℕ) → StateFault → Told → Type 0
+Differs id o (Some state) TableDiffers told = IfOk told (λ known. known ≡ tables id state)
+Differs id o (Some state) WindowDiffers told = IfOk told (λ known. known ≡ windows o.window.lines state)
+Differs id o handed _ told = told ≡ Ok None
 
 -- ---- a log of which a read failed
 
@@ -73,9 +83,9 @@ CountsLines (Decode o save) table handed before after lines =
 -- ---- what is told
 
 -- what a state is of that `decode` refuses for it; no other command has one
-abbrev pub TellsState : Task → List ℕ → Option (List ℕ) → StateFault → Option Difference → Type 0
+abbrev pub TellsState : Task → List ℕ → Option (List ℕ) → StateFault → Told → Type 0
 TellsState (Decode o save) table handed fault told = Differs (table_of table).id o handed fault told
-TellsState _ table handed fault told = told ≡ None
+TellsState _ table handed fault told = told ≡ Ok None
 
 -- By what a command was handed: the lines that were counted, and what the state is of. A command reads its log.
 abbrev pub Tells : Task → List ℕ → Option (List ℕ) → Option (List ℕ) → Option (List ℕ) → Fault → Type 0

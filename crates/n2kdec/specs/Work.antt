@@ -16,8 +16,7 @@ use Rattle.n2k_run.specs.declared.part.PartFault.TheVariants as part_faults
 use Rattle.n2kdec.specs.Fault.{fault_of_run}
 use Rattle.n2kdec.specs.declared.asked.Task.{Task}
 use Rattle.n2kdec.specs.declared.asked.Task.TheVariants.{Plain, Decode, Frames}
-use Rattle.n2kdec.specs.Told.{Differs}
-use Rattle.n2kdec.specs.declared.difference.Difference.{Difference}
+use Rattle.n2kdec.specs.Told.{Differs, Told}
 use Rattle.n2kdec.specs.declared.fault.Fault.{Fault}
 use Rattle.n2kdec.specs.declared.fault.Reading.TheVariants as reading
 use Rattle.n2kdec.specs.declared.fault.Fault.TheVariants.{Table, State, Memory}
@@ -36,25 +35,25 @@ AnswersWhole counts (Ok ended) (Err stop) = ⊥
 AnswersWhole counts (Err fault) result = result ≡ Err (stop_of (fault_of_run fault counts.lines))
 
 -- after that of a part: its Part; or its fault, with the Part that it has, and with what a refused state is of
-abbrev pub stop_of_part : Option Difference → PartFault → Stop
+abbrev pub stop_of_part : Told → PartFault → Stop
 stop_of_part of (part_faults.State fault) = stop_of (State fault of)
 stop_of_part of (part_faults.Stopped fault part) =
     record { fault = fault_of_run fault part.counts.lines; part = Some part }
 stop_of_part of (part_faults.Run fault) = stop_of (fault_of_run fault 0)
 stop_of_part of part_faults.Memory = stop_of (Memory (Some reading.Log))
 
-abbrev pub answer_of_part : Option Difference → Result Part PartFault → Result Part Stop
+abbrev pub answer_of_part : Told → Result Part PartFault → Result Part Stop
 answer_of_part of (Ok part) = Ok part
 answer_of_part of (Err fault) = Err (stop_of_part of fault)
 
 -- what a refused state is of, which no other fault has
-abbrev pub IsOfFault : List ℕ → Options → Option (List ℕ) → Result Part PartFault → Option Difference → Type 0
+abbrev pub IsOfFault : List ℕ → Options → Option (List ℕ) → Result Part PartFault → Told → Type 0
 IsOfFault id o handed (Err (part_faults.State fault)) of = Differs id o handed fault of
-IsOfFault id o handed ended of = of ≡ None
+IsOfFault id o handed ended of = of ≡ Ok None
 
 abbrev pub AnswersPart : List ℕ → Options → Option (List ℕ) → Result Part PartFault → Result Part Stop → Type 0
 AnswersPart id o handed ended result =
-    (of : Option Difference) × IsOfFault id o handed ended of × (result ≡ answer_of_part of ended)
+    (of : Told) × IsOfFault id o handed ended of × (result ≡ answer_of_part of ended)
 
 -- ---- what each command does
 

@@ -2,7 +2,8 @@
 ghost use Rattle.std.specs.Prelude.{◌≡◌, suc, IfSome, IfOk, string_bytes};
 ghost use Rattle.std.specs.declared.io.ErrorKind.TheVariants.{InvalidFilename as Nameless};
 ghost use Rattle.n2k_wire.specs.Steps.{or_cause};
-ghost use Rattle.n2kdec.specs.Destination.{are_one, behind, destination, folder_of, is_file, is_missing, is_no_link};
+ghost use Rattle.n2kdec.specs.Destination.{are_one, are_one_file, are_one_input, behind, destination, feeds, folder_of};
+ghost use Rattle.n2kdec.specs.Destination.{is_file, is_folder, is_missing, is_no_link};
 ghost use Rattle.n2kdec.specs.Destination.{is_of_proc, is_open_file, is_shared, leads, linked, linked_path, new_path};
 ghost use Rattle.n2kdec.specs.Destination.{if_there, target_of};
 ghost use Rattle.n2kdec.specs.Disk.{IsAnswer, IsAnswerUnlessMemory, OfKind};
@@ -96,16 +97,14 @@ fn is_of_proc(folder: &str) -> bool
     folder == "/proc" || folder.as_bytes().starts_with(b"/proc/")
 }
 
-/// Whether a path stands for an open file: its folder is one of `/proc`, as that of `/dev/fd/3` is.
+/// Whether a path names an open file: its folder is one of `/proc`, as the folder of `/dev/fd/3` is. An error if the folder
+/// is missing.
 #[tactic(auto, unfolding(crate::specs::Destination::is_open_file))]
 fn is_open_file<D: Disk>(disk: &D, path: &str) -> io::Result<bool>
     ensures { IfSome (D.answers disk.now) (λ a. IsAnswerUnlessMemory (λ is_open. is_open) (is_open_file a path.now) result) }
 {
-    match disk.canonicalize(folder_of(path)) {
-        Ok(folder) => Ok(is_of_proc(folder.as_str())),
-        Err(error) if is_missing(error.kind()) => Ok(false),
-        Err(error) => Err(error),
-    }
+    let folder = disk.canonicalize(folder_of(path))?;
+    Ok(is_of_proc(folder.as_str()))
 }
 
 /// The path to which the link of this path leads; none where it is no link.
@@ -159,6 +158,16 @@ fn is_file(was: &Option<Found>) -> bool
     }
 }
 
+/// Whether a name is that of a folder.
+fn is_folder(was: &Option<Found>) -> bool
+    ensures { result ≡ is_folder was.now }
+{
+    match was {
+        Some(found) => found.is_folder,
+        None => false,
+    }
+}
+
 /// Whether it has other names too.
 fn is_shared(was: &Option<Found>) -> bool
     ensures { result ≡ is_shared was.now }
@@ -169,7 +178,7 @@ fn is_shared(was: &Option<Found>) -> bool
     }
 }
 
-/// The path behind the links at a name, which had this, and what that is.
+/// The path behind the links at a name, which had this, and its kind. An error if it is a folder.
 #[tactic(auto, unfolding(crate::specs::Destination::target_of))]
 fn target_of<D: Disk>(
     alloc: Global,
@@ -179,6 +188,9 @@ fn target_of<D: Disk>(
 ) -> io::Result<(Word, Kind)>
     ensures { IfSome (D.answers disk.now) (λ a. IsAnswerUnlessMemory (λ to. to) (target_of a name.now was.now) result) }
 {
+    if is_folder(was) {
+        return Err(Error::from(ErrorKind::IsADirectory));
+    }
     if is_file(was)
         && let Some(target) = behind(alloc, disk, name, MOST_LINKS + 1)?
     {
@@ -211,20 +223,45 @@ pub fn find<D: Disk>(alloc: Global, disk: &D, name: &str) -> io::Result<Destinat
     })
 }
 
-/// Whether both are one regular file.
+/// Whether both have one device and number, and so are one file of any kind.
 fn are_one(one: &Found, other: &Found) -> bool
     ensures { result ≡ are_one one.now other.now }
 {
-    one.is_file && other.is_file && one.device == other.device && one.number == other.number
+    one.device == other.device && one.number == other.number
 }
 
-/// Whether both paths lead to one regular file. Where one of them can't be looked at, the paths are compared.
+/// Whether both are one regular file.
+fn are_one_file(one: &Found, other: &Found) -> bool
+    ensures { result ≡ are_one_file one.now other.now }
+{
+    one.is_file && other.is_file && are_one(one, other)
+}
+
+/// Whether both are one regular file or one pipe, so that what is written to the one is read from the other.
+fn are_one_input(one: &Found, other: &Found) -> bool
+    ensures { result ≡ are_one_input one.now other.now }
+{
+    are_one_file(one, other) || one.is_pipe && other.is_pipe && are_one(one, other)
+}
+
+/// Whether both paths lead to one regular file or one pipe. If one of them can't be looked at, the paths are compared.
+#[tactic(auto, unfolding(crate::specs::Destination::feeds))]
+pub fn feeds<D: Disk>(disk: &D, own: &str, path: &str) -> bool
+    ensures { IfSome (D.answers disk.now) (λ a. result ≡ feeds a own.now path.now) }
+{
+    match (disk.metadata(own), disk.metadata(path)) {
+        (Ok(one), Ok(other)) => are_one_input(&one, &other),
+        _ => path == own,
+    }
+}
+
+/// Whether both paths lead to one regular file. If one of them can't be looked at, the paths are compared.
 #[tactic(auto, unfolding(crate::specs::Destination::leads))]
 pub fn leads<D: Disk>(disk: &D, own: &str, path: &str) -> bool
     ensures { IfSome (D.answers disk.now) (λ a. result ≡ leads a own.now path.now) }
 {
     match (disk.metadata(own), disk.metadata(path)) {
-        (Ok(one), Ok(other)) => are_one(&one, &other),
+        (Ok(one), Ok(other)) => are_one_file(&one, &other),
         _ => own == path,
     }
 }

@@ -1,16 +1,15 @@
 //! What a state is of that is refused for it.
-ghost use Rattle.std.specs.Prelude.{◌≡◌, IfSome, Some, option_map, unwrap_or};
+ghost use Rattle.std.specs.Prelude.{◌≡◌, IfOk, option_map};
 ghost use Rattle.hex.specs.Hex.{encode_lower};
 ghost use Rattle.serde_json.specs.View.{view};
 ghost use Rattle.n2k_join.specs.Resumed.{parsed};
-ghost use Rattle.n2kdec.specs.Told.{Differs, number_in, tables, text_in, windows};
-ghost use Rattle.n2kdec.specs.declared.difference.Difference.TheVariants.{Unknown};
+ghost use Rattle.n2kdec.specs.Told.{Differs, digits_in, number_in, tables, tables_in, text_in, windows, windows_in};
 
 use n2k_join::StateFault;
 use n2k_run::Options;
 use n2k_table::Table;
 use serde_json::Value;
-use std::alloc::Global;
+use std::alloc::{AllocError, Global};
 
 /// What a state is of that is refused for it.
 #[derive(Clone, Copy, Debug, PartialEq, Eq)]
@@ -19,17 +18,16 @@ pub enum Difference {
     Tables([u8; 64], [u8; 64]),
     /// The lines of the window that it was saved under, and those of the window that was asked for.
     Windows(u64, u64),
-    /// Memory for it is refused.
-    Unknown,
 }
 
-/// The value of a state. None where memory is refused.
-fn parsed(alloc: Global, state: &[u8]) -> Option<Value>
-    ensures { IfSome result (λ value. parsed state.now ≡ Some (view value)) }
+/// The value of a state, if it is JSON.
+fn parsed(alloc: Global, state: &[u8]) -> Result<Option<Value>, AllocError>
+    ensures { IfOk result (λ value. option_map (λ v. view v) value ≡ parsed state.now) }
 {
     match Value::from_slice(alloc, state) {
-        Ok(value) => Some(value),
-        Err(_) => None,
+        Ok(value) => Ok(Some(value)),
+        Err(error) if error.is_memory() => Err(AllocError),
+        Err(_) => Ok(None),
     }
 }
 
@@ -47,9 +45,9 @@ fn number_in(name: &str, value: &Value) -> Option<u64>
     value.get(name)?.as_u64()
 }
 
-/// The digits of the SHA-256 that a state was saved under.
+/// The digits of a SHA-256, if they are as many.
 fn digits_of(text: &str) -> Option<[u8; 64]>
-    ensures { IfSome result (λ digits. digits ≡ text.now) }
+    ensures { option_map (λ digits. digits) result ≡ digits_in text.now }
 {
     let mut digits = [0; 64];
     if text.len() != digits.len() {
@@ -59,53 +57,68 @@ fn digits_of(text: &str) -> Option<[u8; 64]>
     Some(digits)
 }
 
-/// Those of a table.
-fn id_of(table: &Table) -> Option<[u8; 64]>
-    ensures { IfSome result (λ id. id ≡ encode_lower table.now.id) }
+/// The digits of a table's SHA-256.
+fn id_of(table: &Table) -> [u8; 64]
+    ensures { result ≡ encode_lower table.now.id }
 {
     let mut digits = [0; 64];
-    hex::encode_to_slice(table.id(), &mut digits).ok()?;
-    Some(digits)
+    let _ = hex::encode_to_slice(table.id(), &mut digits);
+    digits
 }
 
-/// The table that a state was saved under, and the table. None where memory is refused.
-fn tables(alloc: Global, table: &Table, state: &[u8]) -> Option<Difference>
-    ensures { IfSome result (λ is. tables table.now.id state.now ≡ Some is) }
+/// The table that the state of this value was saved under, and the table.
+fn tables_in(table: &Table, value: &Value) -> Option<Difference>
+    ensures { result ≡ tables_in table.now.id (view value.now) }
 {
-    let value = parsed(alloc, state)?;
-    let saved = digits_of(text_in("table", &value)?)?;
-    Some(Difference::Tables(saved, id_of(table)?))
+    let saved = digits_of(text_in("table", value)?)?;
+    Some(Difference::Tables(saved, id_of(table)))
 }
 
-/// The window that a state was saved under, and this one. None where memory is refused.
-fn windows(alloc: Global, options: &Options, state: &[u8]) -> Option<Difference>
-    ensures { IfSome result (λ is. windows options.now.window.lines state.now ≡ Some is) }
+/// The window that the state of this value was saved under, and this one.
+fn windows_in(options: &Options, value: &Value) -> Option<Difference>
+    ensures { result ≡ windows_in options.now.window.lines (view value.now) }
 {
-    let value = parsed(alloc, state)?;
-    let saved = number_in("window", &value)?;
+    let saved = number_in("window", value)?;
     Some(Difference::Windows(saved, u64::from(options.window.get())))
 }
 
-/// What was found out, if anything.
-fn or_unknown(found: Option<Difference>) -> Difference
-    ensures { result ≡ unwrap_or found Unknown }
+/// The table that a state was saved under, and the table.
+fn tables(alloc: Global, table: &Table, state: &[u8]) -> Result<Option<Difference>, AllocError>
+    ensures { IfOk result (λ is. is ≡ tables table.now.id state.now) }
 {
-    found.unwrap_or(Difference::Unknown)
+    match parsed(alloc, state)? {
+        Some(value) => Ok(tables_in(table, &value)),
+        None => Ok(None),
+    }
 }
 
-/// What a state is of that is refused by this fault. None where it is refused for another cause.
+/// The window that a state was saved under, and this one.
+fn windows(alloc: Global, options: &Options, state: &[u8]) -> Result<Option<Difference>, AllocError>
+    ensures { IfOk result (λ is. is ≡ windows options.now.window.lines state.now) }
+{
+    match parsed(alloc, state)? {
+        Some(value) => Ok(windows_in(options, &value)),
+        None => Ok(None),
+    }
+}
+
+/// What a state that is refused by this fault was saved under, and what this run has. None if it is refused for another
+/// cause. An error if memory to find it out is refused.
 pub fn difference_of(
     alloc: Global,
     table: &Table,
     options: &Options,
     state: Option<&[u8]>,
     fault: StateFault,
-) -> Option<Difference>
+) -> Result<Option<Difference>, AllocError>
     ensures { Differs table.now.id options.now (option_map (λ bytes. bytes.now) state.entry) fault result }
 {
+    let Some(state) = state else {
+        return Ok(None);
+    };
     match fault {
-        StateFault::TableDiffers => Some(or_unknown(tables(alloc, table, state?))),
-        StateFault::WindowDiffers => Some(or_unknown(windows(alloc, options, state?))),
-        _ => None,
+        StateFault::TableDiffers => tables(alloc, table, state),
+        StateFault::WindowDiffers => windows(alloc, options, state),
+        _ => Ok(None),
     }
 }

@@ -1,6 +1,6 @@
 //! The system's files: the calls by which a state is kept.
 ghost use Rattle.std.specs.Prelude.{◌≡◌, Option, IfSome, string_bytes};
-ghost use Rattle.n2kdec.specs.Disk.{Acts, Answers, IsAnswer, IsAnswerUnlessMemory, acted, noted, open_at, remove, rename};
+ghost use Rattle.n2kdec.specs.Disk.{Acts, Answers, IsAnswer, IsAnswerUnlessMemory, acted, closed, noted, open_at, remove, rename};
 ghost use Rattle.n2kdec.specs.Disk.{set_mode, sync, sync_folder, write};
 
 use std::fs::OpenOptions;
@@ -11,6 +11,10 @@ use std::io;
 pub struct Found {
     /// Whether it is a regular file.
     pub is_file: bool,
+    /// Whether it is a folder.
+    pub is_folder: bool,
+    /// Whether it is a pipe (FIFO).
+    pub is_pipe: bool,
     /// How many names it has.
     pub links: u64,
     /// Its type, and who may read, write and run it.
@@ -21,7 +25,7 @@ pub struct Found {
     pub number: u64,
 }
 
-/// The system's files. One of them is open at a time. Each call is one of the system, and answers what that does: an
+/// The system's files. At most one of them is open at a time. Each call is one of the system, and answers what that does: an
 /// error is the system's own, so that what went wrong can be told. Its ghost members say what a path leads to, and which
 /// calls were made that may change that, where it is known.
 pub trait Disk {
@@ -45,7 +49,7 @@ pub trait Disk {
     fn canonicalize(&self, path: &str) -> io::Result<String>
         ensures { IfSome (answers self.now) (λ a. IsAnswerUnlessMemory string_bytes (a.real path.now) result) };
 
-    /// Opens a file in this way, and closes the one that is open.
+    /// Opens a file in this way.
     fn open(&mut self, path: &str, how: &OpenOptions) -> io::Result<()>
         ensures { acts self.new ≡ noted (acted (open_at path.now how.now) result) (acts self.old) };
 
@@ -60,6 +64,10 @@ pub trait Disk {
     /// Brings what the open file has to where a cut of the power leaves it.
     fn sync(&mut self) -> io::Result<()>
         ensures { acts self.new ≡ noted (acted sync result) (acts self.old) };
+
+    /// Closes the open file.
+    fn close(&mut self)
+        ensures { acts self.new ≡ noted closed (acts self.old) };
 
     /// Gives what has a path another, in the place of what has that.
     fn rename(&mut self, from: &str, to: &str) -> io::Result<()>

@@ -22,36 +22,52 @@ pub enum Reading {
 }
 
 /// Why the program ends without its answer. Each fault has a line of its own, which `fault_text` gives.
-#[derive(Clone, Copy, Debug)]
+/// On a terminal its words say what is wrong, if the system has no words for it.
+#[derive(Clone, Copy, Debug, thiserror::Error)]
 pub enum Fault {
     /// The words of the command line are not those of a command.
+    #[error("the words are refused")]
     Words,
     /// The interface of the frames that were asked for isn't one.
+    #[error("an interface has a name of 1 to 15 of the characters from ! to ~")]
     Interface,
     /// The file of the table has more bytes than a table may have.
+    #[error("it has more than the 16777216 bytes of the longest table")]
     TableSize,
     /// The file of the state has more bytes than a state may have.
+    #[error("it has more than the 16777216 bytes of the longest state")]
     StateSize,
     /// The table is refused.
+    #[error("{0}")]
     Table(TableFault),
-    /// The state is refused, and of what it is, where it is another table's or window's.
-    State(StateFault, Option<Difference>),
+    /// The state is refused, and what it was saved under, if that is another table or window; an error if memory to find that
+    /// out is refused.
+    #[error("{0}")]
+    State(StateFault, Result<Option<Difference>, AllocError>),
     /// The file of the table can't be opened or read, by this error.
+    #[error("it can't be read")]
     TableFile(Option<Error>),
     /// The file of the state can't, by this error.
+    #[error("it can't be read")]
     StateFile(Option<Error>),
     /// The log can't be opened or read, by this error, or its end was not found: so many lines were taken of it, those
     /// before a state too. Why the state after them could not be kept, where it could not.
+    #[error("it can't be read")]
     Read(u64, Option<Error>, Option<Unkept>),
     /// The output can't be written, by this error.
+    #[error("it can't be written")]
     Write(Option<Error>),
     /// A report or the summary can't be written.
+    #[error("it can't be written")]
     Report,
     /// Memory is refused where this is read, or the command line.
+    #[error("there is no memory for it")]
     Memory(Option<Reading>),
     /// The log has more lines than are counted.
+    #[error("it has more lines than are counted")]
     Lines,
     /// The state can't be kept, for this.
+    #[error("{0}")]
     Save(Unkept),
 }
 

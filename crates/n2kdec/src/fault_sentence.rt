@@ -17,57 +17,6 @@ use n2k_table::TableFault;
 use std::alloc::{AllocError, Global};
 use std::io::Error;
 
-/// What a fault of a table means.
-fn table_words(fault: TableFault) -> &'static str {
-    match fault {
-        TableFault::NotToml => "it is no TOML, and so no table",
-        TableFault::Format => "its format is missing, or none of 1, 2 and 3",
-        TableFault::Key =>
-            "a key is missing, unknown or may not stand there, or its value is of another kind",
-        TableFault::Range => "a number is out of range, or a field stands where it can't",
-        TableFault::Text => "a text is empty, too long, or none of those that its key takes",
-        TableFault::Twice =>
-            "a name or a value stands twice, or a field beside a repeat is named list",
-        TableFault::Lookup => "a field names a lookup or a string that is not there",
-        TableFault::Mixed => "two definitions of one PGN have different kinds",
-        TableFault::TooMany => "it has too many definitions, fields, lookups or entries",
-        TableFault::Memory => "there is no memory for it",
-    }
-}
-
-/// What a fault of a state means.
-fn state_words(fault: StateFault) -> &'static str {
-    match fault {
-        StateFault::NotJson => "it is no JSON, and so no state",
-        StateFault::Format => "it is no state that this program saved",
-        StateFault::Shape => "a member is missing or unknown, or its value is of another kind",
-        StateFault::TableDiffers => "it was saved under another table",
-        StateFault::Invalid => "no state has such numbers or groups",
-        StateFault::Memory => "there is no memory for it",
-        StateFault::WindowDiffers => "it was saved under another --window",
-    }
-}
-
-/// What a fault means, where the system has no words for it.
-fn fault_words(fault: Fault) -> &'static str {
-    match fault {
-        Fault::Words => "the words are refused",
-        Fault::Interface => "an interface has a name of 1 to 15 of the characters from ! to ~",
-        Fault::TableSize => "it has more than the 16777216 bytes of the longest table",
-        Fault::StateSize => "it has more than the 16777216 bytes of the longest state",
-        Fault::Table(fault) => table_words(fault),
-        Fault::State(fault, _) => state_words(fault),
-        Fault::TableFile(_) | Fault::StateFile(_) | Fault::Read(..) => "it can't be read",
-        Fault::Write(_) | Fault::Report => "it can't be written",
-        Fault::Memory(_) => "there is no memory for it",
-        Fault::Lines => "it has more lines than are counted",
-        Fault::Save(Unkept::Harm) => {
-            "this run reads it or prints to it, or to the new file beside it"
-        }
-        Fault::Save(_) => "the state can't be saved",
-    }
-}
-
 /// The error that a fault has, of the call that failed.
 fn error_of(fault: Fault) -> Option<Error>
     ensures { result ≡ error_of fault }
@@ -88,7 +37,7 @@ fn words_of<M: Machine>(alloc: Global, machine: &M, fault: Fault) -> Result<Word
 {
     match error_of(fault) {
         Some(error) => machine.words(alloc, &error),
-        None => Word::new(alloc, fault_words(fault)),
+        None => Ok(Word::of(fault.to_string(alloc)?)),
     }
 }
 
@@ -150,10 +99,10 @@ fn push_cause(command: Option<&Command>, fault: Fault, text: &mut Vec<u8>) -> Re
         ++ cause_text (option_map (λ c. c.now) command.entry) fault) }
 {
     match fault {
-        Fault::State(_, Some(Difference::Tables(saved, id))) => {
+        Fault::State(_, Ok(Some(Difference::Tables(saved, id)))) => {
             push_tables(&saved, table_of(command).unwrap_or(""), &id, text)
         }
-        Fault::State(_, Some(Difference::Windows(saved, window))) => {
+        Fault::State(_, Ok(Some(Difference::Windows(saved, window)))) => {
             push_windows(saved, window, text)
         }
         Fault::Read(lines, ..) => push_lines(lines, text),

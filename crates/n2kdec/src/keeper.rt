@@ -9,7 +9,7 @@ ghost use Rattle.n2kdec.specs.declared.asked.Files.{Files};
 ghost use Rattle.n2kdec.specs.declared.keeper.Unkept.{Unkept};
 
 use crate::asked::Files;
-use crate::destination::{Destination, Kind, find, leads};
+use crate::destination::{Destination, Kind, feeds, find, leads};
 use crate::disk::Disk;
 use crate::replacement::keep_text;
 use crate::words::Word;
@@ -19,13 +19,16 @@ use std::io;
 use std::io::Error;
 
 /// Why a state is not kept.
-#[derive(Clone, Copy, Debug)]
+#[derive(Clone, Copy, Debug, thiserror::Error)]
 pub enum Unkept {
     /// It would harm a file that the run reads or prints to. The log is not read then.
+    #[error("this run reads it or prints to it, or to the new file beside it")]
     Harm,
     /// Where it goes can't be found out. The log is not read then.
+    #[error("the state can't be saved")]
     Unfound(Error),
     /// A call failed by which it is kept.
+    #[error("the state can't be saved")]
     Failed(Error),
 }
 
@@ -59,12 +62,12 @@ const STANDARD_OUTPUT: &str = "/dev/stdout";
 /// The file that standard error is.
 const STANDARD_ERROR: &str = "/dev/stderr";
 
-/// Whether this path, where one is given, leads to the file.
+/// Whether the file and what this path leads to, if one is given, are one regular file or one pipe.
 fn meets<D: Disk>(disk: &D, own: &str, path: &Option<Word>) -> bool
     ensures { IfSome (D.answers disk.now) (λ a. result ≡ meets a own.now path.now) }
 {
     match path {
-        Some(path) => leads(disk, own, path.as_str()),
+        Some(path) => feeds(disk, own, path.as_str()),
         None => false,
     }
 }
@@ -84,7 +87,7 @@ fn meets_files<D: Disk>(disk: &D, own: &str, files: &Files) -> bool
     ensures { IfSome (D.answers disk.now) (λ a. result ≡ meets_files a own.now files.now) }
 {
     meets(disk, own, &files.table)
-        || leads(disk, own, read_log(&files.log))
+        || feeds(disk, own, read_log(&files.log))
         || leads(disk, own, STANDARD_ERROR)
 }
 

@@ -149,8 +149,7 @@ impl<D: Sink> Sink for Telling<D> {
     }
 }
 
-/// A machine with these words typed, these files, of two of one name the first, and these bytes to its input. Its
-/// errors are no terminal.
+/// A machine with these words typed, these files, of two of one name the first, and these bytes to its input.
 #[derive(Drop)]
 pub struct MemoryMachine<'a> {
     alloc: Global,
@@ -160,6 +159,8 @@ pub struct MemoryMachine<'a> {
     pub files: &'a [(&'a str, &'a str)],
     /// What the input has.
     pub input: &'a str,
+    /// Whether its errors are a terminal.
+    pub terminal: bool,
     /// The number of the call of each file that fails; 0 is none.
     pub fails_at: u64,
     /// The calls of files, unless memory for them was refused.
@@ -169,7 +170,7 @@ pub struct MemoryMachine<'a> {
 impl<'a> MemoryMachine<'a> {
     ghost use Rattle.std.specs.Prelude.{[], Some};
 
-    /// One of which no file was opened, with no input, and no file of which fails.
+    /// One of which no file was opened, with no input and no terminal, and no file of which fails.
     pub fn new(
         alloc: Global,
         words: &'a [&'a str],
@@ -182,6 +183,7 @@ impl<'a> MemoryMachine<'a> {
             words,
             files,
             input: "",
+            terminal: false,
             fails_at: 0,
             calls: Some(Vec::new(alloc)),
         }
@@ -189,7 +191,7 @@ impl<'a> MemoryMachine<'a> {
 }
 
 impl<'a> Machine for MemoryMachine<'a> {
-    ghost use Rattle.std.specs.Prelude.{Some, None, false};
+    ghost use Rattle.std.specs.Prelude.{Some, None};
     ghost use Rattle.std.specs.IoError.{error_kind};
 
     type File = Telling<MemorySource<'a>>;
@@ -202,7 +204,7 @@ impl<'a> Machine for MemoryMachine<'a> {
       typed = Some (texts m.words.now);
       file = λ name. bytes_under name m.files.now;
       input = Some m.input.now;
-      terminal = Some false;
+      terminal = Some m.terminal;
     } };
 
     ghost calls = { λ m. option_map (λ all. all.items) m.calls };
@@ -239,7 +241,7 @@ impl<'a> Machine for MemoryMachine<'a> {
     }
 
     fn is_terminal(&self) -> bool {
-        false
+        self.terminal
     }
 
     fn failure(&self, output: &Self::Output) -> Option<Error> {

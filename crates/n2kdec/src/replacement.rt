@@ -2,9 +2,9 @@
 #![tactic(auto, using(crate::proofs::Making::steps, crate::proofs::Making::keeps))]
 
 ghost use Rattle.std.specs.Prelude.{◌≡◌, option_map};
-ghost use Rattle.n2kdec.specs.Disk.{failure, kind_of, open_at, remove, rename, sync_folder};
+ghost use Rattle.n2kdec.specs.Disk.{closed, failure, kind_of, noted, open_at, remove, rename, sync_folder, write};
 ghost use Rattle.n2kdec.specs.Folder.{Target, Temp, is_refusal, is_taken, writes_behind};
-ghost use Rattle.n2kdec.specs.Replacement.{IsAppended, IsFilled, IsKept, IsKeptAs, IsMade, IsModed, IsNamed, IsOne};
+ghost use Rattle.n2kdec.specs.Replacement.{Closes, IsAppended, IsFilled, IsKept, IsKeptAs, IsMade, IsModed, IsNamed, IsOne};
 ghost use Rattle.n2kdec.specs.Replacement.{IsOver, IsPlaced, IsPoured, IsWritten, KeepsText, Makes, empty, failed, judged, make};
 
 #[cfg(test)]
@@ -133,12 +133,34 @@ fn pour<D: Disk>(disk: &mut D, to: &Destination, mode: Option<u32>, text: &[u8])
     disk.sync()
 }
 
+/// Closes the open file, and returns the answer of the calls before.
+fn close<D: Disk>(disk: &mut D, answer: io::Result<()>) -> io::Result<()>
+    ensures acts { D.acts disk.new ≡ noted closed (D.acts disk.old) }
+    ensures same { result ≡ answer }
+{
+    disk.close();
+    answer
+}
+
+/// The same as `pour`, and closes the file, also after an error.
+fn pour_and_close<D: Disk>(
+    disk: &mut D,
+    to: &Destination,
+    mode: Option<u32>,
+    text: &[u8],
+) -> io::Result<()>
+    ensures { Makes to.now (D.acts disk.old) (D.acts disk.new) (Closes (IsPoured mode text.now)) result }
+{
+    let poured = pour(disk, to, mode, text);
+    close(disk, poured)
+}
+
 /// Makes the new file and fills it, with the permissions of the file in whose place it comes.
 fn fill<D: Disk>(disk: &mut D, to: &Destination, text: &[u8]) -> Result<(), Unplaced>
     ensures { Makes to.now (D.acts disk.old) (D.acts disk.new) (IsFilled to.now text.now) result }
 {
     make(disk, to)?;
-    failed(pour(disk, to, to.mode, text))
+    failed(pour_and_close(disk, to, to.mode, text))
 }
 
 /// Gives the new file the name, if that is its file's one name.
@@ -168,7 +190,7 @@ fn write_whole<D: Disk>(disk: &mut D, to: &Destination, text: &[u8]) -> io::Resu
     ensures { Makes to.now (D.acts disk.old) (D.acts disk.new) (IsWritten to.now text.now) result }
 {
     empty(disk, to)?;
-    pour(disk, to, None, text)
+    pour_and_close(disk, to, None, text)
 }
 
 /// The same, and takes the new file away once that is done.
@@ -199,12 +221,20 @@ pub fn replace<D: Disk>(disk: &mut D, to: &Destination, text: &[u8]) -> io::Resu
     }
 }
 
+/// Writes a text to the open file and closes it, also after an error.
+fn write_and_close<D: Disk>(disk: &mut D, to: &Destination, text: &[u8]) -> io::Result<()>
+    ensures { Makes to.now (D.acts disk.old) (D.acts disk.new) (Closes (IsOne (write text.now))) result }
+{
+    let written = disk.write(text);
+    close(disk, written)
+}
+
 /// Writes a text behind what is at the name.
 fn append<D: Disk>(disk: &mut D, to: &Destination, text: &[u8]) -> io::Result<()>
     ensures { Makes to.now (D.acts disk.old) (D.acts disk.new) (IsAppended text.now) result }
 {
     disk.open(to.target.as_str(), OpenOptions::new().append(true))?;
-    disk.write(text)
+    write_and_close(disk, to, text)
 }
 
 /// Keeps a text where it goes: what is no regular file, or stands for an open one, is written to behind what it has.

@@ -11,7 +11,32 @@ use n2k_run::{StdSink, StdSource};
 use std::alloc::{AllocError, Global};
 use std::fs::File;
 use std::io::{Error, ErrorKind, IsTerminal, Stderr, Stdin, Stdout};
+use std::os::fd::{AsFd, IntoRawFd};
 use std::{env, fs, io};
+
+/// The system's error number for a descriptor that is not open (EBADF).
+const NOT_OPEN: i32 = 9;
+
+/// If a standard stream is closed, opens the root folder as its descriptor and leaves the folder open. The descriptors
+/// below it have to be open: the system gives a file the lowest free one. Each read or write of the stream still fails,
+/// also through a path such as `/dev/stdout`.
+fn hold<S: AsFd>(rt: &HostRuntime, stream: &S) -> io::Result<()> {
+    match stream.as_fd().try_clone_to_owned() {
+        Err(error) if error.raw_os_error() == Some(NOT_OPEN) => {
+            let _ = fs::open(rt, "/")?.into_raw_fd();
+            Ok(())
+        }
+        _ => Ok(()),
+    }
+}
+
+/// Holds the descriptors of standard input, output and error, so that no file that is opened later gets one of them. An
+/// error if a closed one can't be held.
+pub fn hold_standard_streams(rt: &HostRuntime) -> Result<(), Fault> {
+    hold(rt, &rt.stdin()).map_err(|why| Fault::Read(0, Some(why), None))?;
+    hold(rt, &rt.stdout()).map_err(|why| Fault::Write(Some(why)))?;
+    hold(rt, &rt.stderr()).map_err(|_| Fault::Report)
+}
 
 /// The running process.
 #[derive(Drop)]

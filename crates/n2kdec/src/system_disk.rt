@@ -5,7 +5,7 @@
 use crate::disk::{Disk, Found};
 use std::fs::{File, OpenOptions, Permissions};
 use std::io::{Error, ErrorKind, Write};
-use std::os::unix::fs::{MetadataExt, PermissionsExt};
+use std::os::unix::fs::{FileTypeExt, MetadataExt, PermissionsExt};
 use std::{fs, io};
 
 /// The files of the system, and the one that is open.
@@ -38,6 +38,8 @@ impl Disk for SystemDisk {
         let found = fs::metadata(&self.rt, path)?;
         Ok(Found {
             is_file: found.is_file(),
+            is_folder: found.is_dir(),
+            is_pipe: found.file_type().is_fifo(),
             links: found.nlink(),
             mode: found.permissions().mode(),
             device: found.dev(),
@@ -69,6 +71,10 @@ impl Disk for SystemDisk {
 
     fn sync(&mut self) -> io::Result<()> {
         self.open_file()?.sync_all()
+    }
+
+    fn close(&mut self) {
+        self.file = None;
     }
 
     fn rename(&mut self, from: &str, to: &str) -> io::Result<()> {

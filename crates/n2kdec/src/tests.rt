@@ -11,7 +11,8 @@ use crate::work::work;
 use n2k_join::{Counts, StateFault};
 use n2k_run::{MemorySink, MemorySource};
 use n2k_table::TableFault;
-use std::alloc::AllocGlobal;
+use std::alloc::{AllocError, AllocGlobal, Global};
+use std::error::Error;
 use std::process::{Abort, ExitCode};
 use std::test::Fail;
 
@@ -60,37 +61,37 @@ const FAULTS: [(Fault, &str, u8); 29] = [
     ),
     (Fault::Table(TableFault::Memory), "n2kdec: memory\n", 3),
     (
-        Fault::State(StateFault::NotJson, None),
+        Fault::State(StateFault::NotJson, Ok(None)),
         "n2kdec: state 1 NotJson\n",
         2,
     ),
     (
-        Fault::State(StateFault::Format, None),
+        Fault::State(StateFault::Format, Ok(None)),
         "n2kdec: state 2 Format\n",
         2,
     ),
     (
-        Fault::State(StateFault::Shape, None),
+        Fault::State(StateFault::Shape, Ok(None)),
         "n2kdec: state 3 Shape\n",
         2,
     ),
     (
-        Fault::State(StateFault::TableDiffers, None),
+        Fault::State(StateFault::TableDiffers, Ok(None)),
         "n2kdec: state 4 TableDiffers\n",
         2,
     ),
     (
-        Fault::State(StateFault::Invalid, None),
+        Fault::State(StateFault::Invalid, Ok(None)),
         "n2kdec: state 5 Invalid\n",
         2,
     ),
     (
-        Fault::State(StateFault::WindowDiffers, None),
+        Fault::State(StateFault::WindowDiffers, Ok(None)),
         "n2kdec: state 7 WindowDiffers\n",
         2,
     ),
     (
-        Fault::State(StateFault::Memory, None),
+        Fault::State(StateFault::Memory, Ok(None)),
         "n2kdec: memory\n",
         3,
     ),
@@ -529,5 +530,109 @@ fn what_was_typed_is_run(rt: HostRuntime) -> Result<(), Fail> {
     );
     let kept = format!(in alloc; "{:?}", outlets.keeper.kept)?;
     assert_eq!(rt; kept.as_str(), expected.as_str());
+    Ok(())
+}
+
+/// Words, the number of the call of each file that fails, and what the terminal then shows.
+const SAID: [(&[&str], u64, &str); 5] = [
+    (
+        &["n2kdec", "xyzzy"],
+        0,
+        "error: unrecognized subcommand 'xyzzy'\n\nUsage: n2kdec <COMMAND>\n\n\
+            For more information, try '--help'.\nn2kdec: words\n",
+    ),
+    (
+        &["n2kdec", "plain", "missing"],
+        0,
+        "n2kdec: missing: there is none\nn2kdec: read\n",
+    ),
+    // The table takes two calls, the log more: the third fails, behind three lines.
+    (
+        &["n2kdec", "decode", "--table", "none", "--save", "s", "five"],
+        3,
+        "lines 3 messages 0 bad 0 unknown 3 broken 0 open 0\nn2kdec: five: it failed (after line 3)\nn2kdec: read\n",
+    ),
+    (
+        &["n2kdec", "decode", "--table", "t", "--resume", "zeros", "l"],
+        0,
+        "n2kdec: zeros: the state was saved under another table (SHA-256 \
+            0000000000000000000000000000000000000000000000000000000000000000; that of t is \
+            6b85e2b24165c1cf1b657bbddd71b3850cd65dafaf42319db5372fef7b615284); decode with that one, or begin \
+            without --resume\nn2kdec: state 4 TableDiffers\n",
+    ),
+    (
+        &[
+            "n2kdec", "decode", "--table", "t", "--resume", "s", "--save", "s", "--window",
+            "10000", "--empty", "--whole", "l",
+        ],
+        0,
+        "lines 2 messages 2 bad 0 unknown 0 broken 0 open 0\n",
+    ),
+];
+
+const FIVE: &str = "(1502979132.106111) can0 09F8027F#00FCFFFF0000FFFF
+(1502979132.106111) can0 09F8027F#00FCFFFF0000FFFF
+(1502979132.106111) can0 09F8027F#00FCFFFF0000FFFF
+(1502979132.106111) can0 09F8027F#00FCFFFF0000FFFF
+(1502979132.106111) can0 09F8027F#00FCFFFF0000FFFF
+";
+
+const ZEROS: &str = "{\"bad\":0,\"broken\":0,\"format\":1,\"groups\":[],\"lines\":0,\"messages\":0,\
+    \"table\":\"0000000000000000000000000000000000000000000000000000000000000000\",\"unknown\":0}";
+
+const READ: [(&str, &str); 6] = [
+    ("l", COG_AND_SOG),
+    ("t", TABLE),
+    ("none", "format = 1"),
+    ("five", FIVE),
+    ("s", ONE_MESSAGE),
+    ("zeros", ZEROS),
+];
+
+/// With ample memory no call reports that memory is refused: each fault has its sentence.
+#[test]
+fn with_memory_all_is_said(rt: HostRuntime) -> Result<(), Fail> {
+    let alloc = rt.alloc();
+    for (words, fails_at, said) in &SAID {
+        let mut machine = MemoryMachine::new(alloc, words, &READ);
+        machine.terminal = true;
+        machine.fails_at = *fails_at;
+        let mut outlets = Outlets {
+            output: Telling::new(MemorySink::new(alloc, 100, 0)),
+            errors: MemorySink::new(alloc, 100, 0),
+            keeper: MemoryKeeper::new(alloc),
+        };
+        let (_, memory) = run(alloc, &ClapParser, &mut machine, &mut outlets);
+        assert!(rt; memory.is_ok());
+        assert_eq!(rt; outlets.errors.bytes(), said.as_bytes(), "{words:?}");
+    }
+    Ok(())
+}
+
+/// A fault is an error with words, which say on a terminal what is wrong.
+fn words_of<E: Error>(alloc: Global, fault: &E) -> Result<String, AllocError> {
+    fault.to_string(alloc)
+}
+
+#[test]
+fn each_fault_has_words(rt: HostRuntime) -> Result<(), Fail> {
+    for (fault, words) in [
+        (Fault::Lines, "it has more lines than are counted"),
+        (
+            Fault::Table(TableFault::Mixed),
+            "two definitions of one PGN have different kinds",
+        ),
+        (
+            Fault::State(StateFault::Shape, Ok(None)),
+            "a member is missing or unknown, or its value is of another kind",
+        ),
+        (
+            Fault::Save(Unkept::Harm),
+            "this run reads it or prints to it, or to the new file beside it",
+        ),
+    ] {
+        let said = words_of(rt.alloc(), &fault)?;
+        assert_eq!(rt; said.as_str(), words);
+    }
     Ok(())
 }

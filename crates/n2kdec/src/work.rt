@@ -13,7 +13,7 @@ use n2k_run::{
     run_plain_counted,
 };
 use n2k_table::Table;
-use std::alloc::Global;
+use std::alloc::{AllocError, Global};
 
 /// Why the work stopped.
 #[derive(Drop)]
@@ -46,7 +46,7 @@ fn whole(alloc: Global, counts: Counts, ended: Result<(), RunFault>) -> Result<P
 }
 
 /// The stop for the fault of a part, with the Part that it has. A state that is refused may be of this.
-fn stop_of_part(fault: PartFault, of: Option<Difference>) -> Stop
+fn stop_of_part(fault: PartFault, of: Result<Option<Difference>, AllocError>) -> Stop
     ensures { result ≡ stop_of_part of fault }
 {
     match fault {
@@ -60,19 +60,20 @@ fn stop_of_part(fault: PartFault, of: Option<Difference>) -> Stop
     }
 }
 
-/// What the state is of that refuses a part; none where another fault ended it, or none did.
+/// What a refused state was saved under; none if another fault ended the part, or none did. An error if memory to find it
+/// out is refused.
 fn of_part(
     alloc: Global,
     table: &Table,
     options: &Options,
     state: Option<&[u8]>,
     ended: &Result<Part, PartFault>,
-) -> Option<Difference>
+) -> Result<Option<Difference>, AllocError>
     ensures { IsOfFault table.now.id options.now (option_map (λ bytes. bytes.now) state.entry) ended.now result }
 {
     match ended {
         Err(PartFault::State(fault)) => difference_of(alloc, table, options, state, *fault),
-        _ => None,
+        _ => Ok(None),
     }
 }
 

@@ -81,6 +81,28 @@ class Log:
         return lines
 
 
+class Lag:
+    """How far what is shown is behind what comes: by how much more than usual the last message that was taken is older than the clock.
+    Usual is what it is when nothing waits, whatever clock made the stamps."""
+
+    def __init__(self):
+        self.usual = self.last = None
+
+    def took(self, age):
+        """A message was taken of this age, by a clock that goes as the log does."""
+        self.last = age
+        if self.usual is None or age < self.usual:
+            self.usual = age
+
+    def rests(self):
+        """Nothing waits."""
+        self.usual = self.last
+
+    @property
+    def seconds(self):
+        return 0.0 if self.last is None else self.last - self.usual
+
+
 class Decoder:
     """The program that makes messages and reports of the lines."""
 

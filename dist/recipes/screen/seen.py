@@ -8,7 +8,7 @@ from screen.bits import Frames
 
 # Above these the oldest is dropped: lines, messages of other ships, alarms that are over, reports.
 MOST_LINES, MOST_SHIPS, MOST_ALARMS, MOST_REPORTS = 1000, 4000, 200, 1000
-# Above these what is new is left out: messages of own devices, PGNs, their senders, fields of a device with a set alarm.
+# Above these what is new is left out: messages of own devices, PGNs, their senders, set fields of a device.
 MOST_OWN, MOST_PGNS, MOST_SENDERS, MOST_SET = 4000, 2000, 4000, 100
 
 FORGOTTEN = 300  # seconds
@@ -162,9 +162,10 @@ class Stream(Often):
 class Message(Often):
     """The last message of a sender, PGN, description and thing."""
 
-    def __init__(self, key, units):
+    def __init__(self, key, units, born):
         super().__init__()
         self.sender, self.pgn, self.description, self.thing = key
+        self.born = born
         self.units = units.get(str(self.pgn), {}).get(self.description, {})
         # The fields that it has had, each with what it is now, or None, and since when.
         self.fields = {}
@@ -194,6 +195,14 @@ class Message(Often):
         return page.shown(name, value, unit if isinstance(unit, str) else None, page.KNOT, air)
 
 
+class Sender(Often):
+    """The messages of a PGN that one device sends; of an unknown PGN its frames. And the bytes of its last frame."""
+
+    def __init__(self):
+        super().__init__()
+        self.data = b""
+
+
 class Pgn(Stream):
     """What came of a PGN. `kind` is how the table says that it is sent: single or fast; unknown where it is not there, and None
     where that was not asked yet. `length` is that of the last frame, `total` what its frame 0 says where it is a fast packet:
@@ -202,12 +211,12 @@ class Pgn(Stream):
     def __init__(self):
         super().__init__()
         self.kind, self.length, self.total, self.sender, self.description = None, None, None, None, ""
-        # Its frames, as long as it may be one that is unknown, and who sent the last one; and the last bytes of each sender.
+        # Its frames, as long as it may be one that is unknown, and who sent the last one; and each sender.
         self.frames, self.of, self.senders = Stream(), None, {}
 
     def copy(self):
         it = super().copy()
-        it.frames, it.senders = self.frames.copy(), dict(self.senders)
+        it.frames, it.senders = self.frames.copy(), {sender: one.copy() for sender, one in self.senders.items()}
         return it
 
     @property
@@ -243,29 +252,37 @@ class Bus:
         self.units, self.is_whole = units, is_whole
         self.messages, self.devices, self.pgns = {}, {}, {}
         self.products, self.claims = {}, {}
-        # How many messages are of other ships, and of each own device; what was left out: "ships", "own".
-        self.ships, self.own, self.left_out = 0, collections.Counter(), set()
+        # How many messages are of other ships; those of own devices, by device and PGN in the order in which they came, how many of each
+        # device, and which has most, once that is sought; what was left out: "ships", "own", "alarms".
+        self.ships, self.own, self.counts, self.most, self.left_out = 0, {}, collections.Counter(), None, set()
         self.texts, self.installed = {}, {}  # of alerts by sender and name, of devices by sender
         self.senders = 0  # of all PGNs
         # Lines, the last of them, and what was reported of some; by number.
         self.lines, self.ring, self.reports = 0, collections.deque(maxlen=MOST_LINES), collections.OrderedDict()
         self.bad = self.broken = 0
-        # What is set now, with the time since when, in how many fields of each device; what was set: (from, to, flag, message's key, field).
-        self.set, self.alarmed, self.over = {}, collections.Counter(), collections.deque(maxlen=MOST_ALARMS)
+        self.broken_of = {}  # by device, how many and the stamp of the last
+        # What is set now, with the time since when; how many fields of a message are set; of each device the set fields by kind, each with
+        # the number of its message; what was set: (from, to, flag, message's key, field).
+        self.set, self.is_set, self.alarmed, self.over = {}, collections.Counter(), {}, collections.deque(maxlen=MOST_ALARMS)
+        self.born = 0  # messages that were new
         self.at = self.told = None  # the stamps of the last line and of the last message
+        self.count, self.behind = 0, 0.0  # messages; how many seconds what is shown is behind what comes
         self.frames, self.bits, self.each_second = Frames(), Meter(), Meter()
         self.identifiers, self.new = {}, []
         self.version = 0  # another one where a row is new or has another name
+        self.is_held = False
         self.summary = None
 
     def copy(self):
         """What is there now, for a picture that is held."""
         it = copy.copy(self)
+        it.is_held = True
         for name in ("messages", "devices", "pgns"):
             setattr(it, name, {key: one.copy() for key, one in getattr(self, name).items()})
         it.set = {where: dict(flags) for where, flags in self.set.items()}
+        it.alarmed = {sender: {kind: dict(places) for kind, places in kinds.items()} for sender, kinds in self.alarmed.items()}
         it.products, it.claims, it.reports, it.left_out = dict(self.products), dict(self.claims), dict(self.reports), set(self.left_out)
-        it.texts, it.installed = dict(self.texts), dict(self.installed)
+        it.texts, it.installed, it.broken_of = dict(self.texts), dict(self.installed), dict(self.broken_of)
         it.ring, it.over = list(self.ring), list(self.over)
         it.bits, it.each_second = copy.deepcopy(self.bits), copy.deepcopy(self.each_second)
         return it
@@ -360,13 +377,8 @@ class Bus:
 
     def frame(self, number, sender, at, data, is_whole=False):
         one = self.pgns.get(number) or self.pgn(number)
-        if sender in one.senders:
-            one.senders[sender] = data
-        elif self.senders < MOST_SENDERS and number in self.pgns:
-            self.senders += 1
-            one.senders[sender] = data
-        else:
-            self.left_out.add("own")
+        its = one.senders.get(sender) or self.sender(one, number, sender)
+        its.data = data
         if data and not is_whole:
             one.length = len(data)
             if not data[0] & 31 and len(data) > 1:
@@ -374,6 +386,17 @@ class Bus:
         if one.kind is None or one.kind == "unknown":
             one.of = sender
             one.frames.add(at)
+            if one.kind:
+                its.add(at)
+
+    def sender(self, one, number, sender):
+        """A new sender of a PGN."""
+        if self.senders < MOST_SENDERS and number in self.pgns:
+            self.senders += 1
+            one.senders[sender] = it = Sender()
+            return it
+        self.left_out.add("own")
+        return Sender()
 
     def known(self, kinds):
         """What the table says of new PGNs."""
@@ -396,7 +419,7 @@ class Bus:
             things = THINGS & fields.keys()
             if type(sender) is not int or type(pgn) is not int or type(description) is not str:
                 raise TypeError
-        except (ValueError, KeyError, TypeError, AttributeError):
+        except (ValueError, KeyError, TypeError, AttributeError, RecursionError):
             # Of a log of messages.
             self.bad += 1
             return
@@ -408,11 +431,11 @@ class Bus:
         else:
             thing = ", ".join(str(fields[name]) for name in page.THINGS if name in things and fields[name] is not None) if things else ""
         key = sender, pgn, description, thing
-        message = self.messages.get(key)
-        if message is None:
-            message = self.enter(Message(key, self.units), key)
-        message.add(at)
+        message = self.messages.get(key) or self.enter(key)
+        if message:
+            message.add(at)
         self.told = at
+        self.count += 1
         device = self.devices.get(sender)
         if device is None:
             device = self.devices[sender] = Stream()
@@ -420,22 +443,23 @@ class Bus:
         device.add(at)
         one = self.pgns.get(pgn) or self.pgn(pgn)
         one.add(at)
+        (one.senders.get(sender) or self.sender(one, pgn, sender)).add(at)
         one.sender, one.description = sender, description
         self.each_second.add(at, 1)
 
-        had, count = message.fields, 0
+        had, count, born = message.fields if message else {}, 0, message.born if message else self.born
         for name, value in fields.items():
             if name in NO_VALUES:
                 continue
             count += 1
             was = had.get(name)
             if was is None:
-                self.version += 1
+                self.version += message is not None
             elif was[0] == value:
                 continue
             had[name] = value, at
             if type(value) is list and not page.is_sets(value) and page.is_boat(pgn):
-                self.flags(at, key, name, value)
+                self.flags(at, key, name, value, born)
         if count < len(had):
             # What the last message lacks is not available now.
             for name in had.keys() - fields.keys():
@@ -443,7 +467,7 @@ class Bus:
                     had[name] = None, at
         if pgn in ALARMS:
             for name, flag, is_set in ALARMS[pgn](fields):
-                self.flags(at, key, name, [flag] if is_set else [])
+                self.flags(at, key, name, [flag] if is_set else [], born)
         elif pgn == 126985:
             page.keep_text(self.texts, sender, fields)
         elif pgn in (126996, 60928, 126998):
@@ -452,10 +476,12 @@ class Bus:
                 told[sender] = fields
                 self.version += 1
 
-    def enter(self, message, key):
-        """Keeps a new message, where there is a place. Other ships give way to newer ones. Of own devices none is forgotten, but
-        where made-up ones take all places, the device that has most of them gets no more: its newest without an alarm goes for another's."""
-        if message.part == 1:
+    def enter(self, key):
+        """A new message, if there is a place for it. Other ships give way to newer ones. Of own devices none is forgotten; but if invented
+        messages take all places, who has most of them gives one up for who has fewer."""
+        sender, pgn = key[:2]
+        self.born += 1
+        if pgn in page.AIS:
             self.ships += 1
             if self.ships > MOST_SHIPS:
                 self.left_out.add("ships")
@@ -466,40 +492,88 @@ class Bus:
         else:
             if len(self.messages) - self.ships >= MOST_OWN:
                 self.left_out.add("own")
-                most = max(self.own, key=self.own.get)
-                has_alarm = {at for at, _ in self.set}
-                # Two more, else places would go round among equals.
-                free = self.own[most] > self.own[key[0]] + 1 and next((at for at in reversed(self.messages) if at[0] == most and at not in has_alarm and
-                                                                       self.messages[at].part != 1), None)
-                if not free:
-                    return message
-                del self.messages[free]
-                self.own[most] -= 1
-            self.own[key[0]] += 1
-        self.messages[key] = message
+                if not self.give_up(sender, pgn):
+                    return None
+            self.own.setdefault(sender, {}).setdefault(pgn, {})[key] = None
+            self.counts[sender] += 1
+            self.most = None
+        self.messages[key] = message = Message(key, self.units, self.born)
         self.version += 1
         return message
 
-    def flags(self, at, key, name, now):
-        """Which flags of a field are set now. Each device has places of its own for them: one that makes up alarms hides no other's."""
-        where, sender, now = (key, name), key[0], [str(flag) for flag in now]
+    def give_up(self, sender, pgn):
+        """Takes the place of the newest message without a set field, of the device and the PGN that have most. False if this device and PGN
+        have as many."""
+        if self.most is None:
+            self.most = max(self.counts, key=self.counts.get)
+        most = self.most if self.counts[self.most] > self.counts[sender] + 1 else sender
+        pgns = self.own.get(most, {})
+        of = max(pgns, key=lambda it: len(pgns[it]), default=None)
+        if of is None or most == sender and len(pgns[of]) <= len(pgns.get(pgn, ())) + 1:
+            return False
+        free = next((it for it in reversed(pgns[of]) if not self.is_set[it]), None)
+        if free is None:
+            return False
+        del self.messages[free], pgns[of][free]
+        self.counts[most] -= 1
+        self.most = None
+        return True
+
+    def flags(self, at, key, name, now, born):
+        """Which flags of a field are set now, in the message of this number."""
+        where, now = (key, name), [str(flag) for flag in now]
         was = self.set.get(where, {})
         self.over.extend((was[flag], at, flag, key, name) for flag in was if flag not in now)
-        if now and not was:
-            if self.alarmed[sender] >= MOST_SET:
-                self.left_out.add("own")
-                return
-            self.alarmed[sender] += 1
-        if now:
+        if now and (was or self.has_place(where, born)):
             self.set[where] = {flag: was.get(flag, at) for flag in now}
         elif was:
-            del self.set[where]
-            self.alarmed[sender] -= 1
+            self.unset(where)
+
+    def has_place(self, where, born):
+        """Whether a field that is set has a place. Each device has some, so one that invents alarms hides no other's. Of one device the kind
+        with most of them gives up the newest message's. Of one kind the older messages keep theirs: the real ones were there before
+        alarms were invented."""
+        kinds, kind = self.alarmed.setdefault(where[0][0], {}), self.kind(where)
+        if sum(map(len, kinds.values())) >= MOST_SET:
+            self.left_out.add("alarms")
+            most = max(kinds, key=lambda it: len(kinds[it]))
+            if len(kinds[most]) <= len(kinds.get(kind, ())) + 1:
+                most = kind
+            if most == kind and born == self.born:
+                return False
+            newest = max(kinds.get(most, ()), key=lambda it: kinds[most][it], default=None)
+            if newest is None or most == kind and kinds[most][newest] <= born:
+                return False
+            self.unset(newest)
+        kinds.setdefault(kind, {})[where] = born
+        self.is_set[where[0]] += 1
+        return True
+
+    def unset(self, where):
+        """A field of which nothing is set any more, or that gives up its place."""
+        del self.set[where]
+        kinds, kind = self.alarmed[where[0][0]], self.kind(where)
+        del kinds[kind][where]
+        if not kinds[kind]:
+            del kinds[kind]
+        self.is_set[where[0]] -= 1
+        if not self.is_set[where[0]]:
+            del self.is_set[where[0]]
+
+    @staticmethod
+    def kind(where):
+        """The PGN, description and field of what is set. An alert has no field of its own, only its number, which may be any."""
+        (_, pgn, description, _), name = where
+        return pgn, description, "" if pgn in (126983, 65288) else name
 
     def device(self, sender):
         """What a device is called: maker, model and installation, as far as it has told them."""
-        told = self.claims.get(sender, {}).get("Manufacturer Code"), self.model(sender)
-        return " ".join(str(it) for it in told if it is not None)
+        return page.device(self.claims.get(sender, {}), self.products.get(sender, {}), self.installed.get(sender, {}))
+
+    def called(self, sender):
+        """A device by its name and address."""
+        told = self.device(sender)
+        return f"{told} ({sender})" if told else f"device {sender}"
 
     def model(self, sender):
         return page.model(self.products.get(sender, {}), self.installed.get(sender, {}))
@@ -513,6 +587,9 @@ class Bus:
                 self.bad += 1
             else:
                 self.broken += 1
+                if of := re.search(r" src (\d+) ", found[3]):
+                    count, _ = self.broken_of.get(int(of[1]), (0, None))
+                    self.broken_of[int(of[1])] = count + 1, self.told
             self.reports[int(found[1])] = f"{found[2]} {found[3]}"
             if len(self.reports) > MOST_REPORTS:
                 self.reports.popitem(last=False)

@@ -6,6 +6,7 @@ from screen import page
 from screen.terminal import cut
 
 NARROW = 60  # columns below which a row is two
+MOST_ALIKE = 3  # alarms of one device, message and field that are shown
 
 
 def seconds_of(value):
@@ -17,7 +18,7 @@ def age_of(often, now):
     """Of what is late how long, and once that lapsed since when, with a style; or None."""
     if late := often.late(now):
         return seconds_of(late), "alarm"
-    return (f"since {page.clock(often.last, '%H:%M')}", "dim") if often.silent(now) else None
+    return (f"last {page.clock(often.last, '%H:%M')}", "dim") if often.silent(now) else None
 
 
 def rate_of(often, now):
@@ -26,6 +27,12 @@ def rate_of(often, now):
     if value >= 0.995:
         return f"{value:,.1f}/s"
     return f"each {1 / value:,.1f} s" if value > 0.1 else f"each {1 / value:,.0f} s" if value > 0 else ""
+
+
+def old(bus, width):
+    """At the end of a title: how old the values are, if the screen can't keep up; else nothing."""
+    text = f"{seconds_of(bus.behind)} old"
+    return [(width - 1 - len(text), text, "alarm")] if bus.behind else []
 
 
 def fits(text, words):
@@ -130,10 +137,10 @@ class Values(View):
     @staticmethod
     def device(bus, now, width, part, sender):
         if part < 0:
-            return [(0, "Own boat", "title")]
+            return [(0, "Own boat", "title"), *old(bus, width)]
         told, rate = bus.device(sender), rate_of(bus.devices[sender], now)
         title = f"Device {sender}{f': {told}' if told else ''}{('', ', other ships', ', bus and settings')[part]}"
-        return [(0, title, "title"), (width - 1 - len(rate), rate, "dim")]
+        return [(0, title, "title"), *(old(bus, width) or [(width - 1 - len(rate), rate, "dim")])]
 
     @staticmethod
     def value(bus, now, fresh, width, message, name, nth, is_last):
@@ -147,7 +154,7 @@ class Values(View):
         text = message.shown(name)
         if type(name) is not str:
             name = f"  {name[1] + 1} {name[2]}"
-        style = "dim" if value is None or message.silent(now) and not message.late(now) else "fresh" if -1 < now - since < fresh else "plain"
+        style = "dim" if value is None or bus.behind or message.silent(now) and not message.late(now) else "fresh" if -1 < now - since < fresh else "plain"
         if width < NARROW:
             # A value has room for all its signs.
             return [(2, name, "dim"), (max(4, min(2 + (width - 2) // 2, width - len(text))), text, style)]
@@ -178,14 +185,15 @@ class Devices(View):
 
     def rows(self, bus, now, width, words):
         rows = []
-        for sender in sorted(bus.devices):
+        for sender in sorted({*bus.devices, *bus.broken_of}):
             product, claim = bus.products.get(sender, {}), bus.claims.get(sender, {})
             told = [claim.get("Manufacturer Code"), bus.model(sender), product.get("Model Serial Code"), product.get("Software Version Code"),
                     claim.get("Device Class")]
             maker, model, serial, software, kind = ("–" if it is None else str(it) for it in told)
             if words and not fits(f"{sender} {maker} {model} {serial} {software} {kind}", words):
                 continue
-            rate, style = age_of(bus.devices[sender], now) or (rate_of(bus.devices[sender], now), "plain")
+            often = bus.devices.get(sender)
+            rate, style = often and age_of(often, now) or (often and rate_of(often, now) or "", "plain")
             rate += " ago" if style == "alarm" else ""
             if width < NARROW:
                 rows.append([(0, f"{sender:3}", "title"), (5, model, "plain"), (width - 1 - len(rate), rate, style)])
@@ -193,6 +201,9 @@ class Devices(View):
             else:
                 rows.append([(0, f"{sender:3}", "title"), (5, rate, style), (17, maker, "plain"), (38, model, "plain"), (61, serial, "plain"),
                              *([(82, software, "dim"), (100, kind, "dim")] if width > 110 else [])])
+            count, last = bus.broken_of.get(sender, (0, None))
+            if count:
+                rows.append([(5, f"broken {count:,}{f', last {page.when(last, last, now)}' if last is not None else ''}", "alarm")])
         return rows
 
 
@@ -224,10 +235,14 @@ class Pgns(View):
                 rows.append([(2, name, style), (width - 1 - len(sender) - 5, f"from {sender}", "dim")])
             else:
                 rows.append([*front, (37 - len(size), size, "plain"), (39, sender, "plain"), (48, name, style)])
-            for of, data in sorted(one.senders.items()) if self.is_open else ():
-                # The last bytes of each sender; where they leave room, its name.
-                told = [(48, bus.device(of), "dim")] if width >= NARROW and len(data) < 13 else []
-                rows.append([(2, f"{of:3}", "dim"), (8, data.hex(" ").upper() or "–", "plain"), *told])
+            for of, its in sorted(one.senders.items()) if self.is_open else ():
+                # How often each sender sends it, its last bytes, and its name if they leave room.
+                data = its.data.hex(" ").upper() or "–"
+                often = [(2, f"{of:3}", "dim"), (8, f"{its.count:,}", "plain"), (20, rate_of(its, now), "plain")]
+                if width < NARROW:
+                    rows += [often, [(8, data, "dim")]]
+                else:
+                    rows.append([*often, (32, data, "dim"), *([(57, bus.device(of), "dim")] if len(data) < 25 else [])])
         return rows
 
 
@@ -237,37 +252,55 @@ class Alarms(View):
     name = "Alarms"
     nothing = "No alarm was set, and no message is late."
 
+    def __init__(self):
+        super().__init__()
+        self.known, self.list, self.again = None, [], 0.0
+
     def rows(self, bus, now, width, words):
-        found = []
-        for (key, name), flags in bus.set.items():
-            found += [(since, None, flag, key, name) for flag, since in flags.items()]
-        found.sort(key=lambda it: -it[0])
-        found += sorted(bus.over, key=lambda it: -it[1])
-        rows = []
-        for since, until, flag, (sender, _, description, thing, *_), name in found:
-            of = f"from {sender}: " + ", ".join(it for it in (description, thing, name) if it and it != flag)
-            flag = page.with_text(bus.texts, sender, flag)
-            if words and not fits(f"{flag} {of} {bus.device(sender)}", words):
-                continue
-            if until is None:
-                rows += self.entry(width, flag, "alarm", of, f"since {page.when(since, since, now)}", "")
-            else:
-                rows += self.entry(width, flag, "plain", of, page.when(since, since, now), f"to {page.when(until, since, now)}")
-        # What is late, then what was.
-        silent = [(not it.late(now), it.order, it) for it in bus.messages.values() if not it.part and it.silent(now)]
-        for has_lapsed, _, message in sorted(silent, key=lambda it: it[:2]):
-            of = f"from {message.sender}: {message.title}"
-            if not words or fits(f"late {of} {bus.device(message.sender)}", words):
-                age, style = age_of(message, now)
-                what = f"nothing {'' if has_lapsed else 'for '}{age}, before {rate_of(message, message.last)}"
-                rows += self.entry(width, what, style, of, f"last {page.when(message.last, message.last, now)}", "")
-        return rows
+        """Each row as an entry and a place in it. If it takes long, it is looked at less often."""
+        known, began = (bus, words, width < NARROW), time.monotonic()
+        if known != self.known or began > self.again:
+            self.known, self.list = known, [(it, row) for it in self.found(bus, now, words) for row in range(3 if width < NARROW else 2)]
+            self.again = began + 20 * (time.monotonic() - began)
+        return self.list
 
     @staticmethod
-    def entry(width, what, style, of, since, until):
+    def found(bus, now, words):
+        """Entries: what, its style, of what, since when, until when. First what is set, the last first, then what is late, then what was."""
+        entries = []
+        for alike in (alike for kinds in bus.alarmed.values() for alike in kinds.values()):
+            # Of many messages alike those that came first are shown: the others may be invented.
+            wheres = sorted(alike, key=alike.get)
+            entries += [(since, None, flag, *where) for where in wheres[:MOST_ALIKE] for flag, since in bus.set[where].items()]
+            if len(wheres) > MOST_ALIKE:
+                key, name = wheres[MOST_ALIKE]
+                entries.append((max(bus.set[key, name].values()), None, f"{len(wheres) - MOST_ALIKE:,} more", (*key[:3], ""), name))
+        entries.sort(key=lambda it: -it[0])
+        entries += sorted(bus.over, key=lambda it: -it[1])
+        found = []
+        for since, until, flag, (sender, _, description, thing, *_), name in entries:
+            of = f"{bus.called(sender)}: " + ", ".join(it for it in (description, thing, name) if it and it != flag)
+            flag = page.with_text(bus.texts, sender, flag)
+            if words and not fits(f"{flag} {of}", words):
+                continue
+            if until is None:
+                found.append((flag, "alarm", of, f"since {page.when(since, since, now)}", ""))
+            else:
+                found.append((flag, "plain", of, page.when(since, since, now), f"to {page.when(until, since, now)}"))
+        silent = [(not it.late(now), it.order, it) for it in bus.messages.values() if not it.part and it.silent(now)]
+        for has_lapsed, _, message in sorted(silent, key=lambda it: it[:2]):
+            of = f"{bus.called(message.sender)}: {message.title}"
+            if not words or fits(f"late {of}", words):
+                age, style = age_of(message, now)
+                what = f"nothing {'since ' + age.partition(' ')[2] if has_lapsed else 'for ' + age}, before {rate_of(message, message.last)}"
+                found.append((what, style, of, f"last {page.when(message.last, message.last, now)}", ""))
+        return found
+
+    def row(self, bus, now, width, it):
+        (what, style, of, since, until), row = it
         if width < NARROW:
-            return [[(0, what, style)], [(2, of, "dim")], [(2, f"{since} {until}", "dim")]]
-        return [[(0, since, "dim"), (22, what, style)], [(0, until, "dim"), (22, of, "dim")]]
+            return [(0, what, style)] if row == 0 else [(2, of, "dim")] if row == 1 else [(2, f"{since} {until}", "dim")]
+        return [(0, since, "dim"), (22, what, style)] if row == 0 else [(0, until, "dim"), (22, of, "dim")]
 
 
 class Lines(View):
@@ -327,9 +360,10 @@ class Lines(View):
 
 KEYS = [
     ("1 v", "values, by device and message"), ("2 d", "devices"), ("3 g", "PGNs"), ("4 a", "alarms, and what is late"), ("5 r", "lines as they come"),
+    ("6 h", "health: which device fails, the most harmful first"),
     ("Tab, right, left", "the next view, or the one before"), ("up, down", "a row"), ("Page Up, Page Down", "a page"), ("Home, End", "the first rows, the last ones"),
     ("/", "only rows with all words that follow; Esc: all rows"), ("p, Space", "hold the picture, and a log that is played; again: go on"),
-    ("o", "open or close: in values the sets of lists, in PGNs each sender with the bytes of its last frame"),
+    ("o", "open or close: in values the sets of lists, in PGNs each sender with count, rate and the bytes of its last frame"),
     ("k", "what is late now is known: it is grey, and no more counted"),
     ("?", "this page, and back"), ("q", "end, as Ctrl-C does")]
 MEANINGS = [
@@ -338,7 +372,9 @@ MEANINGS = [
     "times that gap, and a minute at least, it is grey, with the time since when.",
     "Load: the bits of the frames, with their stuff bits, of the 250,000 a second that the bus has.",
     "Unknown: frames whose PGN is not in the table.",
-    "Left out: of more than 4,000 messages of other ships the oldest go; of more than 4,000 of own devices the new ones of those that send most."]
+    "Behind: the screen can't keep up with what comes, and its values are so old.",
+    "Left out: of more than 4,000 messages of other ships the oldest go; of more than 4,000 of own devices the new ones of those that send most; of more than "
+    "100 alarms of a device the new ones of the kind that it has most of. Of alarms that differ only in their instance three are shown."]
 
 
 class Help(View):

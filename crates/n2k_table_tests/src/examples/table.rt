@@ -2,7 +2,8 @@
 use super::frame_in;
 use crate::samples::{pairs_table, sample as sample_table};
 use n2k_table::{
-    Kind, LineBuffer, Shown, Table, TableFault, decimal_text, json_line, json_line_in, json_line_of,
+    Coding, Kind, LineBuffer, Shown, Table, TableFault, TextBuffer, decimal_text, json_line,
+    json_line_in, json_line_of, split_character,
 };
 use std::test::Fail;
 
@@ -79,6 +80,17 @@ fn json_lines_of_a_known_pgn(rt: HostRuntime) -> Result<(), Fail> {
     json_line_of(&known, &packet, false, &mut lines)?;
     let end = "{\"SID\":5,\"COG Reference\":\"True\"}}\n";
     assert!(rt; lines.take_lines(alloc)?.ends_with(end.as_bytes()));
+    Ok(())
+}
+
+#[test]
+fn a_line_in_a_short_buffer(rt: HostRuntime) -> Result<(), Fail> {
+    let alloc = rt.alloc();
+    let table = sample_table(alloc)?;
+    let packet = frame_in("(1.0) can0 09F8027F#0500")?;
+    let mut short: TextBuffer<4096> = TextBuffer::new(alloc);
+    let mut text = Vec::new(alloc);
+    json_line_in(alloc, &table, &packet, false, &mut short, &mut text)?;
     Ok(())
 }
 
@@ -192,5 +204,98 @@ fn json_lines_in_a_row(rt: HostRuntime) -> Result<(), Fail> {
     json_line_in(alloc, &table, &packet, true, &mut line, &mut text)?;
     let end = "{\"SID\":5,\"COG Reference\":\"True\",\"COG\":null,\"SOG\":null}}\n";
     assert!(rt; text.ends_with(end.as_bytes()));
+    Ok(())
+}
+
+#[test]
+fn a_field(rt: HostRuntime) -> Result<(), Fail> {
+    let alloc = rt.alloc();
+    let table = sample_table(alloc)?;
+    let definition = table.choose(127251, &[]).ok_or("Rate of Turn")?;
+    let [sid, rate] = definition.own_fields() else {
+        return Err("two fields".into());
+    };
+    assert_eq!(rt; (sid.name(), rate.name()), ("SID", "Rate"));
+
+    let rate_at = rate.at();
+    assert_eq!(rt; (sid.at(), rate_at), (0, 8));
+
+    let rate_bits = rate.bits();
+    assert_eq!(rt; (sid.bits(), rate_bits), (8, 32));
+
+    assert!(rt; !rate.is_short());
+
+    assert_eq!(rt; rate.match_value(), None);
+
+    assert!(rt; matches!(sid.coding(), Coding::Number(false, _)));
+    assert!(rt; matches!(rate.coding(), Coding::Number(true, _)));
+
+    assert_eq!(rt; rate.rest(&[1, 2]), Some([1, 2].as_slice()));
+
+    assert!(rt; matches!(sid.shown(&[5]), Shown::Number { value: 5, .. }));
+    assert_eq!(rt; rate.shown(&[5]), Shown::Absent);
+    Ok(())
+}
+
+#[test]
+fn names_of_values(rt: HostRuntime) -> Result<(), Fail> {
+    let alloc = rt.alloc();
+    let table = sample_table(alloc)?;
+    let definition = table.choose(129026, &[]).ok_or("COG & SOG")?;
+    let [_, reference, ..] = definition.own_fields() else {
+        return Err("four fields".into());
+    };
+    let Coding::Lookup(names) = reference.coding() else {
+        return Err("a lookup".into());
+    };
+    assert_eq!(rt; names.text_of(1), Some("Magnetic"));
+    assert_eq!(rt; names.text_of(3), None);
+
+    assert_eq!(rt; names.value_of("Error"), Some(2));
+    assert_eq!(rt; names.value_of("Grid"), None);
+    Ok(())
+}
+
+#[test]
+fn what_repeats(rt: HostRuntime) -> Result<(), Fail> {
+    let alloc = rt.alloc();
+    let table = pairs_table(alloc)?;
+    let definition = table.choose(130822, &[]).ok_or("Pairs")?;
+    let repeat = definition.repeated().ok_or("sets")?;
+    assert_eq!(rt; repeat.fields().len(), 2);
+
+    let sets = repeat.from_first(&[1, 10, 100, 0, 11]);
+    assert_eq!(rt; sets, [10, 100, 0, 11].as_slice());
+
+    let (first, rest) = repeat.split_set(sets).ok_or("a set")?;
+    assert_eq!(rt; (first, rest), ([10, 100, 0].as_slice(), [11].as_slice()));
+    assert!(rt; repeat.split_set(rest).is_none());
+    Ok(())
+}
+
+#[test]
+fn definitions(rt: HostRuntime) -> Result<(), Fail> {
+    let alloc = rt.alloc();
+    let table = sample_table(alloc)?;
+    let definition = table.choose(129026, &[]).ok_or("COG & SOG")?;
+    assert_eq!(rt; definition.own_fields().len(), 4);
+
+    assert!(rt; definition.repeated().is_none());
+
+    assert!(rt; definition.matches(&[0xff]));
+
+    let table = sample_table(alloc)?;
+    let known = table.find(130820).ok_or("Label")?;
+    let first = known.definition(0).ok_or("Label")?;
+    assert_eq!(rt; first.description(), "Sample: Label");
+    assert!(rt; known.definition(1).is_none());
+    Ok(())
+}
+
+#[test]
+fn characters_of_utf_16(rt: HostRuntime) -> Result<(), Fail> {
+    let (letter, rest) = split_character(&[0x3d, 0xd8, 0x00, 0xde, 0x41]).ok_or("a character")?;
+    assert_eq!(rt; (letter, rest), ('\u{1f600}', [0x41].as_slice()));
+    assert!(rt; split_character(rest).is_none());
     Ok(())
 }

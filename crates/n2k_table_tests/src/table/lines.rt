@@ -1,7 +1,7 @@
 //! JSON lines.
 use crate::samples::{SAMPLE, pairs_table, read, replaced, sample, sample_2};
-use n2k_table::{Table, json_line};
-use n2k_wire::{Id, Packet};
+use n2k_table::{LineBuffer, Table, json_line, json_line_of};
+use n2k_wire::{Entry, Id, Packet, Packing, read_line};
 use std::alloc::{AllocError, Global};
 use std::process::Abort;
 use std::test::Fail;
@@ -235,4 +235,55 @@ fn a_name_before_an_absent_value(rt: HostRuntime) -> Result<(), Fail> {
         "COG & SOG, Rapid Update",
         fields,
     )
+}
+
+// A buffer has so many lines, each of which is this one.
+fn has_lines<R: Abort + AllocGlobal>(
+    rt: &R,
+    lines: &LineBuffer,
+    line: &str,
+    count: usize,
+) -> Result<(), Fail> {
+    let mut wanted = Vec::new(rt.alloc());
+    for _ in 0..count {
+        wanted.extend_from_slice(line.as_bytes())?;
+    }
+    let (front, rest) = lines.parts();
+    assert!(rt; !front.is_empty());
+    assert_eq!(rt; wanted.strip_prefix(front), Some(rest));
+    Ok(())
+}
+
+fn frame(line: &str) -> Result<Packet, Fail> {
+    match read_line(line.as_bytes(), Packing::Frames) {
+        Entry::Frame(packet) => Ok(packet),
+        _ => Err("no frame".into()),
+    }
+}
+
+// 243 lines of 165 bytes are longer than the room: 98 bytes before its end a label has no place.
+#[test]
+fn json_lines_of_40095_bytes(rt: HostRuntime) -> Result<(), Fail> {
+    let table = sample(rt.alloc())?;
+    let packet = frame("(1.0) can0 09F8027F#0500")?;
+    let known = table.find(packet.id().pgn).ok_or("COG & SOG")?;
+    let mut lines = LineBuffer::new(rt.alloc());
+    for _ in 0..243 {
+        json_line_of(&known, &packet, false, &mut lines)?;
+    }
+    let line =
+        "{\"timestamp\":\"1970-01-01T00:00:01.000Z\",\"prio\":2,\"src\":127,\"dst\":255,\"pgn\":129026,\"description\":\"COG & SOG, Rapid Update\",\"fields\":{\"SID\":5,\"COG Reference\":\"True\"}}\n";
+    has_lines(&rt, &lines, line, 243)
+}
+
+// Each asks for its room before it is written.
+#[test]
+fn plain_lines_of_70000_bytes(rt: HostRuntime) -> Result<(), Fail> {
+    let packet = frame("(1.0) can0 18EAFF01#14F001")?;
+    let mut lines = LineBuffer::new(rt.alloc());
+    for _ in 0..1400 {
+        lines.push_plain(&packet)?;
+    }
+    let line = "1970-01-01T00:00:01.000Z,6,59904,1,255,3,14,f0,01\n";
+    has_lines(&rt, &lines, line, 1400)
 }

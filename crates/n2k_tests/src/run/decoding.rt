@@ -379,3 +379,27 @@ fn each_line_is_read_by_serde_json(rt: HostRuntime) -> Result<(), Fail> {
     assert_eq!(rt; stamps[1].as_str(), "2017-08-17T14:12:12.106Z");
     Ok(())
 }
+
+// The lines of a block are 43,000 bytes and more, which a buffer has in two parts.
+#[test]
+fn text_of_a_block_in_two_parts(rt: HostRuntime) -> Result<(), Fail> {
+    let alloc = rt.alloc();
+    let table = sample(alloc)?;
+    let options = Options {
+        packing: Packing::Frames,
+        empty: true,
+        window: long_window(),
+    };
+    let mut log = Vec::new(alloc);
+    let mut text = Vec::new(alloc);
+    for _ in 0..400 {
+        log.extend_from_slice(b"(1.0) c 09F8027F#\n")?;
+        text.extend_from_slice(
+            b"{\"timestamp\":\"1970-01-01T00:00:01.000Z\",\"prio\":2,\"src\":127,\"dst\":255,\"pgn\":129026,\"description\":\"COG & SOG, Rapid Update\",\"fields\":{\"SID\":null,\"COG Reference\":null,\"COG\":null,\"SOG\":null}}\n",
+        )?;
+    }
+    let mut outputs = empty_outputs(alloc, 100_000);
+    decode(alloc, &table, options, &log, 4096, &mut outputs)?;
+    assert_eq!(rt; outputs.text.bytes(), text.as_slice());
+    Ok(())
+}

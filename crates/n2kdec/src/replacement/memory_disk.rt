@@ -148,6 +148,8 @@ impl<'a> MemoryDisk<'a> {
         let number = self.all.len() as u64;
         let found = Found {
             is_file,
+            is_folder: false,
+            is_pipe: false,
             links,
             mode: 0o100640,
             device: 1,
@@ -172,6 +174,11 @@ impl<'a> MemoryDisk<'a> {
     /// How many calls that may change it were made before the power was cut.
     pub fn calls(&self) -> u64 {
         self.calls
+    }
+
+    /// Whether a file is open.
+    pub fn is_open(&self) -> bool {
+        self.open.is_some()
     }
 
     fn place(&self, path: &str) -> Option<usize> {
@@ -296,6 +303,10 @@ impl<'a> Disk for MemoryDisk<'a> {
             self.open_file()?.is_synced = true;
         }
         self.answer()
+    }
+
+    fn close(&mut self) {
+        self.open = None;
     }
 
     fn rename(&mut self, from: &str, to: &str) -> io::Result<()> {

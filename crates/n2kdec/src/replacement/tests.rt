@@ -1,7 +1,10 @@
 use super::memory_disk::{Extent, MemoryDisk, Trouble};
+use crate::asked::Files;
 use crate::destination::{Kind, find};
 use crate::disk::Disk;
+use crate::keeper::{Keeper, StateFiles, Unkept};
 use crate::replacement::keep_text;
+use crate::words::Word;
 use std::alloc::{AllocError, Global};
 use std::fs::OpenOptions;
 use std::io::ErrorKind;
@@ -241,5 +244,19 @@ fn what_is_no_regular_file_is_written_to(rt: HostRuntime) -> Result<(), Fail> {
         Some(b"notes, state".as_slice())
     );
     assert_eq!(rt; disk.calls(), 2);
+    Ok(())
+}
+
+/// With ample memory a log in the state's place is reported as harmed.
+#[test]
+fn a_log_is_harmed(rt: HostRuntime) -> Result<(), Fail> {
+    let keeper = StateFiles::new(rt.alloc(), disk(rt.alloc(), Kind::Alone, Some(OLD), None)?);
+    let files = Files {
+        table: None,
+        state: None,
+        log: Some(Word::new(rt.alloc(), BOAT)?),
+    };
+    assert!(rt; matches!(keeper.admit(BOAT, &files), Err(Unkept::Harm)));
+    assert!(rt; keeper.admit("hull", &files).is_ok());
     Ok(())
 }

@@ -3,4 +3,4 @@ use Rattle.std.proofs.Common.{◌≡◌, ◌∷◌, ◌++◌, replicate}
 use Rattle.n2k_table.proofs.decimal.push_filled.Given as goal
 
 abbrev pub invariant-loop : goal.invariant-loop
-invariant-loop l = l.line.items ≡ l.fn.line.items ++ (48 ∷ 46 ∷ replicate l.counter 48)
+invariant-loop g l = l.line.items ≡ l.fn.line.items ++ (48 ∷ 46 ∷ replicate l.counter 48)

@@ -1,4 +1,4 @@
-use Rattle.std.proofs.Common.{◌≡◌, ◌+◌, ◌-◌, ◌++◌, ◌∷◌, ◌<◌, ◌≤◌, ℕ, List, length, take, drop, set, replicate, sym, ap, ◌∙◌, arith, decimal}
+use Rattle.std.proofs.Common.{rules, ◌≡◌, ◌+◌, ◌-◌, ◌++◌, ◌∷◌, ◌<◌, ◌≤◌, ℕ, List, length, take, drop, set, replicate, sym, ap, ◌∙◌, arith, decimal}
 use Rattle.std.proofs.lemmas.Fmt.{length-decimal-le}
 use Rattle.std.proofs.lemmas.List.{length-append, length-drop, take-replicate, drop-drop, drop-set}
 use Rattle.n2k_table.proofs.Placed.{placed, length_padded, onto_whole, onto_parts}
@@ -6,22 +6,29 @@ use Rattle.n2k_table.specs.Decimal.{padded_digits}
 use Rattle.n2k_table.proofs.decimal_fast.write_long.Goals as goal
 
 pub write_digits-first-requires : goal.write_digits-first-requires
-write_digits-first-requires c =
+write_digits-first-requires g c =
     let short : length (decimal c.args.size) ≤ 20 = length-decimal-le 20 c.args.size (omega arith) (omega (arith, c.ranges.size.fits)) (omega (arith, c.ranges.size.fits)) in
     (omega (arith, short), omega arith)
 
-pub write_digits_of-requires-clause-few : goal.write_digits_of-requires-clause-few
-write_digits_of-requires-clause-few c =
+pub write_digits_of-requires : goal.write_digits_of-requires
+write_digits_of-requires g c =
     let short : length (decimal c.args.size) ≤ 20 = length-decimal-le 20 c.args.size (omega arith) (omega (arith, c.ranges.size.fits)) (omega (arith, c.ranges.size.fits)) in
-    omega (arith, short, c.write_digits-first.ensures.start, c.min-from.ensures, c.requires)
+    let order : c.min-from.result ≤ 40 - c.args.decimals = omega (arith, c.min-from.ensures, c.requires) in
+    let few : 40 - c.args.decimals ≤ c.min-from.result + 24 = omega (arith, short, c.write_digits-first.ensures.start, c.min-from.ensures, c.requires) in
+    let start : c.min-from.result ≤ 40 = omega (arith, c.min-from.ensures, c.requires) in
+    let room : c.args.line.now.held + 24 ≤ g.row.SIZE = omega (arith, c.requires) in
+    (search rules, search (order, few, start, room))
 
-pub write_digits_of-requires-then-decimals-gt0-clause-room : goal.write_digits_of-requires-then-decimals-gt0-clause-room
-write_digits_of-requires-then-decimals-gt0-clause-room c =
+pub write_digits_of-requires-then-decimals-gt0 : goal.write_digits_of-requires-then-decimals-gt0
+write_digits_of-requires-then-decimals-gt0 g c =
     let short : length (decimal c.args.size) ≤ 20 = length-decimal-le 20 c.args.size (omega arith) (omega (arith, c.ranges.size.fits)) (omega (arith, c.ranges.size.fits)) in
-    omega (arith, short, c.write_digits-first.ensures.start, c.min-from.ensures, c.requires, c.write_digits_of.ensures.held)
+    let order : 40 - c.args.decimals - 1 ≤ 40 = omega (arith, c.requires) in
+    let few : 40 ≤ 40 - c.args.decimals - 1 + 24 = omega (arith, c.requires) in
+    let room : c.write_digits_of.new.line.held + 24 ≤ g.row.SIZE = omega (arith, short, c.write_digits-first.ensures.start, c.min-from.ensures, c.requires, c.write_digits_of.ensures.held) in
+    (search rules, search (order, few, room))
 
 pub returns-then-decimals-gt0 : goal.returns-then-decimals-gt0
-returns-then-decimals-gt0 c =
+returns-then-decimals-gt0 g c =
     let n = c.args.size in
     let e = c.args.decimals in
     let digits = c.write_digits-first.new.buf in
@@ -46,7 +53,7 @@ returns-then-decimals-gt0 c =
     c.write_digits_of.ensures.items here (rw count at c.write_digits_of-then-decimals-gt0.ensures.items)
 
 pub returns-else-decimals-gt0 : goal.returns-else-decimals-gt0
-returns-else-decimals-gt0 c =
+returns-else-decimals-gt0 g c =
     let n = c.args.size in
     let e = c.args.decimals in
     let digits = c.write_digits-first.new.buf in

@@ -6,7 +6,7 @@ use Rattle.n2k_table.proofs.Words.{short_is}
 use Rattle.n2k_table.proofs.decimal_fast.write_short.Goals as goal
 
 pub returns-then-size-lt256 : goal.returns-then-size-lt256
-returns-then-size-lt256 c =
+returns-then-size-lt256 g c =
     let n = c.args.size in
     let none : c.args.decimals ≡ 0 = omega arith in
     let some : 0 < length (decimal n) = decimal_nonempty n (omega (arith, c.ranges.size.fits)) in
@@ -14,7 +14,7 @@ returns-then-size-lt256 c =
     c.write.ensures.items ∙ ap (λ (t : List ℕ). c.args.line.now.items ++ t) (is ∙ ap (λ e. dotted e (padded_digits n e)) (sym none))
 
 pub returns-then-decimals-lt-DIGITS : goal.returns-then-decimals-lt-DIGITS
-returns-then-decimals-lt-DIGITS c =
+returns-then-decimals-lt-DIGITS g c =
     let front = c.to_le_bytes.result in
     let back = c.to_le_bytes-then-decimals-lt-DIGITS.result in
     let is =

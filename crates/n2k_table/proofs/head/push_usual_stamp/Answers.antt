@@ -5,9 +5,9 @@ use Rattle.n2k_table.proofs.head.push_usual_stamp.Goals as goal
 use Rattle.n2k_table.proofs.head.push_usual_stamp.Goals.{in-Some, in-None+in_ok-extend_from_slice-in-None+in_ok-reserve-in-None}
 
 pub returns : goal.returns
-returns c =
+returns g c =
     let stamp = c.args.stamp.now in
-    let begun : (c.match-as_array.line.items ≡ c.write.new.self.items ++ stamp) × (c.match-as_array.line.held + 31 ≤ 32768) =
+    let begun : (c.match-as_array.line.items ≡ c.write.new.self.items ++ stamp) × (c.match-as_array.line.held + 31 ≤ g.row.SIZE) =
     elim c.match-as_array.branch [
       | in-Some w ↦
           (let same = w.in-Some.ensures.cases.same in

@@ -6,7 +6,7 @@ use Rattle.n2k_table.proofs.head.write_sender.Goals as goal
 
 pub returns : goal.returns
 unfolding sender_json
-returns c =
+returns g c =
     let id = c.args.id in
     let line = c.args.line.now.items in
     let source : c.write_part.new.line.items ≡ line ++ (codes ",\"prio\":" ++ decimal id.prio ++ codes ",\"src\":" ++ decimal id.src) =

@@ -1,16 +1,33 @@
-use Rattle.std.proofs.Common.{List, ℕ, ◌++◌, map, ap, ◌∙◌}
+use Rattle.std.proofs.lemmas.Grind.{common_steps}
+use Rattle.std.proofs.lemmas.Result.{err_from_is_err_and}
+use Rattle.std.proofs.Common.{List, ℕ, ◌++◌, map, ap, ◌∙◌, arith, append_assoc}
 use Rattle.std.specs.List.{join_with_byte}
 use Rattle.n2k_table.specs.Json.{set_json}
 use Rattle.n2k_table.specs.Repeat.{sets_in}
 use Rattle.n2k_table.specs.Shown.{all_shown}
 use Rattle.n2k_table.specs.Inner.Line.{are_null}
+use Rattle.n2k_table.proofs.Begins.{begins_self, begins_through, begins_more}
 use Rattle.n2k_table.proofs.Members.{members_from-joined}
 use Rattle.n2k_table.proofs.line.push_sets.Goals as goal
 
 pub loop-set-init : goal.loop-set-init
-loop-set-init c =
+loop-set-init g c =
     let r = c.args.repeat.now in
     let line = c.args.line.now.items in
     let objects = map (set_json (are_null c.args.absent)) in
-    ap (λ (t : List ℕ). line ++ t) (members_from-joined (objects (map (all_shown r.fields) (sets_in r c.from_first-rest.result.now))))
-    ∙ ap (λ (first : List ℕ). line ++ join_with_byte 44 (objects (map (all_shown r.fields) (sets_in r first)))) c.from_first-rest.ensures
+    record {
+      items = ap (λ (t : List ℕ). line ++ t) (members_from-joined (objects (map (all_shown r.fields) (sets_in r c.from_first-rest.result.now))))
+          ∙ ap (λ (first : List ℕ). line ++ join_with_byte 44 (objects (map (all_shown r.fields) (sets_in r first)))) c.from_first-rest.ensures;
+      front = begins_self _;
+    }
+
+pub returns-in_err-push_set : goal.returns-in_err-push_set
+returns-in_err-push_set g c =
+    let p = err_from_is_err_and c.from_residual.result c.from_residual.ensures.1 in
+    rw p.1 (begins_through _ _ _ c.loop-set.invariant.front c.in_err-push_set.ensures)
+
+pub loop-set-preserved : goal.loop-set-preserved
+loop-set-preserved g c = record {
+  items = grind (arith, common_steps, append_assoc);
+  front = begins_more _ _ _ _ c.loop-set.invariant.front c.in_ok-push_set.ensures;
+}

@@ -1,10 +1,11 @@
-use Rattle.std.proofs.Common.{◌≡◌, ◌++◌, ◌+◌, ◌-◌, ◌≤◌, ℕ, List, length, take, drop, sym, ap, ◌∙◌, arith}
-use Rattle.std.proofs.lemmas.List.{take-take, drop-take}
+use Rattle.std.proofs.Common.{◌≡◌, false, nat_le, if◌then◌else◌, ◌++◌, ◌+◌, ◌-◌, ◌≤◌, ℕ, List, length, take, drop, sym, ap, ◌∙◌, arith}
+use Rattle.std.proofs.lemmas.List.{take-take, drop-take, take_all, length-drop}
 use Rattle.n2k_table.specs.Inner.Padded.{padded_text}
+use Rattle.n2k_table.proofs.Begins.{adds_none}
 use Rattle.n2k_table.proofs.padded_text.PaddedText.push_from.Goals as goal
 
 pub returns-in-Some-clause-items : goal.returns-in-Some-clause-items
-returns-in-Some-clause-items c =
+returns-in-Some-clause-items g c =
     let len = c.self.inside.len in
     let front = c.self.inside.front in
     let from = c.args.from in
@@ -21,3 +22,14 @@ returns-in-Some-clause-items c =
     ∙ ap (λ k. drop from (take k front)) end
     ∙ ap (drop from) (whole ∙ c.self.view_is) in
     c.write.ensures.items ∙ ap (λ (t : List ℕ). c.args.line.now.items ++ t) text
+
+pub returns-then-count-gt-FRONT_ROOM-clause-items : goal.returns-then-count-gt-FRONT_ROOM-clause-items
+returns-then-count-gt-FRONT_ROOM-clause-items g c =
+    let len = c.self.inside.len in
+    let long = c.self.inside.long.items in
+    let many : nat_le len 32 ≡ false = grind (arith, c.if-count-gt-FRONT_ROOM.true) in
+    let is : long ≡ c.args.self.now = ap (λ t. if t then take len c.self.inside.front else long) (sym many) ∙ c.self.view_is in
+    let all = take_all (length c.deref.result.now - c.args.from) (drop c.args.from c.deref.result.now) (omega (arith, length-drop c.args.from c.deref.result.now)) in
+    adds_none c.reserve.result c.args.line.now.items _ _ _
+    (c.in_ok-extend_from_slice.ensures ∙ ap (λ (t : List ℕ). c.args.line.now.items ++ t) (all ∙ ap (drop c.args.from) (c.deref.ensures.value ∙ is)))
+    c.reserve.ensures.items c.reserve.ensures.unchanged

@@ -1,0 +1,4 @@
+pub mod Near
+pub mod Pieces
+pub mod Requests
+pub mod Scaling

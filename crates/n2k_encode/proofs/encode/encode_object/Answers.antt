@@ -1,0 +1,14 @@
+use Rattle.std.proofs.Common.{rules}
+use Rattle.n2k_encode.specs.Views.{request_parts}
+use Rattle.n2k_encode.proofs.encode.encode_object.Goals as goal
+
+pub returns-in-Some : goal.returns-in-Some
+returns-in-Some c =
+    record {
+      asked = request_parts c.in_ok-request.request;
+      request_is = search rules;
+      stamp_is = search rules;
+      id_is = search rules;
+      joins = search rules;
+      reads_back = search rules;
+    }

@@ -1,0 +1,9 @@
+pub mod Encoded
+pub mod Given
+pub mod Numeral
+pub mod Reading
+pub mod Refusal
+pub mod Request
+pub mod Says
+pub mod Steps
+pub mod Views

@@ -1,0 +1,17 @@
+-- Steps that may find nothing, one after another.
+use Rattle.std.specs.Prelude.{◌≡◌, Bool, Option, Some, None, Result, Ok, Err}
+
+infixl 10 ◌>>=◌
+abbrev pub ◌>>=◌ : {A B : Type 0} → Option A → (A → Option B) → Option B
+(Some x) >>= f = f x
+None >>= f = None
+
+-- what a test finds of a value, and false of none
+abbrev pub is_some_with : {A : Type 0} → (A → Bool) → Option A → Bool
+is_some_with p None = Bool.false
+is_some_with p (Some x) = p x
+
+-- A value that was answered is the one that the definition gives, and a refusal means that it gives none.
+abbrev pub Yields : {X Y E : Type 0} → (X → Y) → Result X E → Option Y → Type 0
+Yields view (Ok x) said = said ≡ Some (view x)
+Yields view (Err cause) said = said ≡ None

@@ -1,0 +1,78 @@
+//! Why a line cannot be encoded.
+ghost use Rattle.std.specs.Prelude.{◌≡◌};
+
+/// Why a line cannot be encoded. The number is what reports print. A name is that of the field, from the line or the
+/// table.
+#[derive(Clone, Copy, Debug, PartialEq, Eq)]
+pub enum Refusal<'a> {
+    /// 1: over 65,536 bytes.
+    Long,
+    /// 13: not a JSON object, or an object in it has a key twice.
+    Json,
+    /// 14: a member is missing, unknown, of the wrong type or out of range.
+    Member,
+    /// 8: the table has no definition of the PGN.
+    Unknown,
+    /// 12: no CAN identifier has this PGN and destination.
+    Address,
+    /// 15: no definition of the PGN has this description.
+    Description,
+    /// 16: the definition has no such field.
+    Field(&'a str),
+    /// 17: a value that its field cannot show.
+    Value(&'a str),
+    /// 9: more than 8 bytes in a single frame, or more than 223 in a fast packet.
+    Size,
+    /// 18: each field is valid, but no data show all of them.
+    Data(&'a str),
+}
+
+impl<'a> Refusal<'a> {
+    ghost use Rattle.n2k_encode.specs.Refusal.{number_of, name_of};
+
+    /// The number that reports print.
+    ///
+    /// ```rust
+    /// assert_eq!(rt; Refusal::Value("COG").number(), 17);
+    /// ```
+    pub fn number(self) -> u8
+        ensures { result ≡ number_of self.entry }
+    {
+        match self {
+            Refusal::Long => 1,
+            Refusal::Json => 13,
+            Refusal::Member => 14,
+            Refusal::Unknown => 8,
+            Refusal::Address => 12,
+            Refusal::Description => 15,
+            Refusal::Field(_) => 16,
+            Refusal::Value(_) => 17,
+            Refusal::Size => 9,
+            Refusal::Data(_) => 18,
+        }
+    }
+
+    /// The name of the field, or an empty text if the refusal names none.
+    ///
+    /// ```rust
+    /// assert_eq!(rt; Refusal::Value("COG").name(), "COG");
+    /// assert_eq!(rt; Refusal::Size.name(), "");
+    /// ```
+    pub fn name(self) -> &'a str
+        ensures { result.now ≡ name_of self.entry }
+    {
+        match self {
+            Refusal::Field(name) | Refusal::Value(name) | Refusal::Data(name) => name,
+            _ => "",
+        }
+    }
+}
+
+/// Why a call gives no message.
+#[derive(Clone, Copy, Debug, PartialEq, Eq)]
+pub enum EncodeError<'a> {
+    /// Memory was refused.
+    Memory,
+    /// The line cannot be encoded.
+    Refused(Refusal<'a>),
+}

@@ -1,0 +1,2 @@
+//! The examples of doc comments.
+mod encode;

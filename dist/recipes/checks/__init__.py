@@ -1,0 +1,1 @@
+"""What the recipes `health`, `compare` and `trip` are made of."""
