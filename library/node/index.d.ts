@@ -1,0 +1,50 @@
+/** What a field shows: a number, a text, the names and numbers of flags, or the sets of `list`. Absent fields are left out, with `empty` null. */
+export type Value = number | string | null | (number | string)[] | { [field: string]: Value }[];
+
+/** One message. Its fields depend on `pgn` and `description`: docs/MESSAGES.md lists them with their units. */
+export interface Message {
+  timestamp: string;
+  prio: number;
+  src: number;
+  dst: number;
+  pgn: number;
+  description: string;
+  fields: { [field: string]: Value };
+}
+
+/** The options of `n2kdec decode`. */
+export interface Options {
+  /** The table's file; by default that of the installed program. */
+  table?: string;
+  /** How many lines an incomplete message may wait: 32 to 1,000,000, by default 10,000. */
+  window?: number;
+  /** Join a message only if its frames come in order, as real devices send them. */
+  inOrder?: boolean;
+  /** Show absent fields as null. */
+  empty?: boolean;
+  /** Take each plain line as a whole message. */
+  whole?: boolean;
+  /** Continue from the state in this file. */
+  resume?: string;
+  /** Save the state to this file at the end. */
+  save?: string;
+  /** The program; by default `n2kdec` on the PATH. */
+  program?: string;
+  /** Gets each line of standard error: reports, and at the end the summary or the fault. */
+  onReport?: (line: string) => void;
+}
+
+/** The run failed, with the program's status; the message is its last line, for example "n2kdec: table 3 Key". */
+export class N2kdecError extends Error {
+  readonly status: number | null;
+}
+
+/**
+ * Decodes a log: the name of a file, or a stream such as the standard output of `candump -L can0`.
+ * Each message comes as soon as its last line has been read. If the loop is left, the program is ended.
+ * Numbers are those of JavaScript; `lines` gives them exactly.
+ */
+export function decode(log: string | AsyncIterable<Uint8Array | string>, options?: Options): AsyncGenerator<Message, void, undefined>;
+
+/** As `decode`, with each message as its line of JSON. */
+export function lines(log: string | AsyncIterable<Uint8Array | string>, options?: Options): AsyncGenerator<string, void, undefined>;

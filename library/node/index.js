@@ -1,0 +1,92 @@
+"use strict";
+
+const { spawn } = require("node:child_process");
+const { existsSync } = require("node:fs");
+const { homedir } = require("node:os");
+const { join } = require("node:path");
+const { pipeline } = require("node:stream/promises");
+
+/** The run failed: the message is the program's last line, for example "n2kdec: table 3 Key". */
+class N2kdecError extends Error {
+  constructor(text, status) {
+    super(text);
+    this.name = "N2kdecError";
+    this.status = status;
+  }
+}
+
+/** The table of the installed program. */
+function installedTable() {
+  const places = [join(homedir(), ".local/share/n2kdec/n2k.toml"), "/usr/local/share/n2kdec/n2k.toml", "/usr/share/n2kdec/n2k.toml"];
+  const found = places.find((place) => existsSync(place));
+  if (!found) throw new N2kdecError(`no table is installed (${places.join(", ")}): give one as "table"`, 2);
+  return found;
+}
+
+/** The arguments of `n2kdec decode` for these options. */
+function argumentsOf(log, { table = installedTable(), window, inOrder, empty, whole, resume, save }) {
+  const words = ["decode", "--table", table];
+  if (window !== undefined) words.push("--window", String(window));
+  if (inOrder) words.push("--in-order");
+  if (empty) words.push("--empty");
+  if (whole) words.push("--whole");
+  if (resume !== undefined) words.push("--resume", resume);
+  if (save !== undefined) words.push("--save", save);
+  return typeof log === "string" ? [...words, "--", log] : words;
+}
+
+/** Gives the lines of a stream of text as they come. */
+async function* linesOf(stream) {
+  let rest = "";
+  stream.setEncoding("utf8");
+  for await (const piece of stream) {
+    const parts = (rest + piece).split("\n");
+    rest = parts.pop();
+    yield* parts;
+  }
+  if (rest) yield rest;
+}
+
+async function* lines(log, options = {}) {
+  const words = argumentsOf(log, options);
+  const child = spawn(options.program ?? "n2kdec", words, { stdio: [typeof log === "string" ? "ignore" : "pipe", "pipe", "pipe"] });
+  const ended = new Promise((resolve, reject) => {
+    child.on("error", reject);
+    child.on("close", (status, signal) => resolve({ status, signal }));
+  });
+  // Each is awaited below; until then a refusal is nobody's.
+  ended.catch(() => {});
+  let last = "";
+  const reports = (async () => {
+    for await (const line of linesOf(child.stderr)) {
+      last = line;
+      options.onReport?.(line);
+    }
+  })();
+  reports.catch(() => child.kill());
+  // If the program ends first, its own fault tells more than the broken pipe. If reading the log fails, what came before is decoded.
+  let fault;
+  if (typeof log !== "string") {
+    pipeline(log, child.stdin).catch((error) => {
+      if (error.code !== "EPIPE" && error.code !== "ERR_STREAM_PREMATURE_CLOSE") fault = error;
+    });
+  }
+  let isWhole = false;
+  try {
+    yield* linesOf(child.stdout);
+    isWhole = true;
+  } finally {
+    // The caller has left its loop.
+    if (!isWhole) child.kill();
+  }
+  const { status, signal } = await ended;
+  await reports;
+  if (fault) throw fault;
+  if (signal || status > 1) throw new N2kdecError(signal ? `n2kdec was ended by ${signal}` : last, status);
+}
+
+async function* decode(log, options = {}) {
+  for await (const line of lines(log, options)) yield JSON.parse(line);
+}
+
+module.exports = { decode, lines, N2kdecError };

@@ -1,0 +1,192 @@
+//! Decodes recorded NMEA 2000 traffic: the bytes of a log go in, each message comes out as a line of JSON.
+//!
+//! The work is done by libn2kdec, whose `n2kdec.h` has the calls and the meaning of each status. A decoder there belongs to
+//! the thread that opened it; here each has a thread of its own, so that [`Decoder`] is `Send`.
+#![warn(missing_docs)]
+
+mod raw;
+
+use std::fmt;
+use std::io::{self, Read};
+use std::sync::mpsc::{channel, Sender};
+use std::thread;
+
+/// How to read a log: the options of `n2kdec decode`.
+#[derive(Clone, Copy, Debug, PartialEq, Eq)]
+pub struct Settings {
+    /// How many lines an incomplete message may wait: 32 to 1,000,000.
+    pub window: u32,
+    /// Join a message only if its frames come in order, as real devices send them.
+    pub in_order: bool,
+    /// Show absent fields as null.
+    pub empty: bool,
+    /// Take each plain line as a whole message.
+    pub whole: bool,
+}
+
+impl Default for Settings {
+    /// Those of the program: a window of 10,000 lines, the rest false.
+    fn default() -> Self {
+        Settings { window: 10_000, in_order: false, empty: false, whole: false }
+    }
+}
+
+/// The counts of the summary, for all lines that were taken, including those before a saved state.
+#[derive(Clone, Copy, Debug, PartialEq, Eq)]
+#[allow(missing_docs)]
+pub struct Counts {
+    pub lines: u64,
+    pub messages: u64,
+    pub bad: u64,
+    pub unknown: u64,
+    pub broken: u64,
+    pub open: u64,
+}
+
+/// Why a call was refused, or why the log could not be read.
+#[derive(Debug)]
+pub enum Error {
+    /// A status of n2kdec.h, with its text, for example 103, "table 3 Key".
+    Refused(i32, String),
+    /// Reading the log failed.
+    Log(io::Error),
+}
+
+impl fmt::Display for Error {
+    fn fmt(&self, f: &mut fmt::Formatter<'_>) -> fmt::Result {
+        match self {
+            Error::Refused(_, text) => f.write_str(text),
+            Error::Log(error) => write!(f, "reading the log: {error}"),
+        }
+    }
+}
+
+impl std::error::Error for Error {}
+
+type Job = Box<dyn FnOnce(&mut raw::Decoder) + Send>;
+
+/// A decoder of one log. All calls together give what `n2kdec decode` prints for the log.
+pub struct Decoder {
+    jobs: Sender<Job>,
+}
+
+impl Decoder {
+    /// Reads a table and begins a log.
+    pub fn new(table: &[u8], settings: Settings) -> Result<Self, Error> {
+        Self::open(table, None, settings)
+    }
+
+    /// Reads a table and continues from a state that [`Decoder::save`] or `n2kdec decode --save` wrote, with the same table,
+    /// window and order.
+    pub fn resume(table: &[u8], state: &[u8], settings: Settings) -> Result<Self, Error> {
+        Self::open(table, Some(state), settings)
+    }
+
+    fn open(table: &[u8], state: Option<&[u8]>, settings: Settings) -> Result<Self, Error> {
+        let (jobs, work) = channel::<Job>();
+        thread::spawn(move || {
+            let mut decoder = raw::Decoder::default();
+            // Ends when the sender is dropped; the decoder is closed then.
+            work.into_iter().for_each(|job| job(&mut decoder));
+        });
+        let decoder = Decoder { jobs };
+        let (table, state) = (table.to_vec(), state.map(<[u8]>::to_vec));
+        decoder.call(move |it| it.open(&table, state.as_deref(), settings))?;
+        Ok(decoder)
+    }
+
+    /// Has the decoder's thread do this, and waits for it.
+    fn call<T: Send + 'static>(&self, job: impl FnOnce(&mut raw::Decoder) -> T + Send + 'static) -> T {
+        let (answers, answer) = channel();
+        let job: Job = Box::new(move |decoder| drop(answers.send(job(decoder))));
+        self.jobs.send(job).expect("the thread lives as long as the decoder");
+        answer.recv().expect("no call of the library panics")
+    }
+
+    /// Feeds more of the log, in pieces of any size. After a refusal for memory the decoder is closed.
+    pub fn feed(&mut self, bytes: &[u8]) -> Result<(), Error> {
+        let bytes = bytes.to_vec();
+        self.call(move |it| it.feed(&bytes))
+    }
+
+    /// Ends the log: its last line is taken even without a line feed.
+    pub fn end(&mut self) -> Result<(), Error> {
+        self.call(raw::Decoder::end)
+    }
+
+    /// Takes the messages that wait, each a line of JSON without its line feed.
+    pub fn messages(&mut self) -> Result<Vec<String>, Error> {
+        self.call(|it| it.take(raw::n2k_take))
+    }
+
+    /// Takes the reports that wait. They occupy memory until they are taken.
+    pub fn reports(&mut self) -> Result<Vec<String>, Error> {
+        self.call(|it| it.take(raw::n2k_take_reports))
+    }
+
+    /// Returns the counts.
+    pub fn counts(&self) -> Result<Counts, Error> {
+        self.call(raw::Decoder::counts)
+    }
+
+    /// Returns how many bytes of an unfinished line wait: the last bytes that were fed. They are not in a saved state.
+    pub fn waiting(&self) -> Result<usize, Error> {
+        self.call(raw::Decoder::waiting)
+    }
+
+    /// Returns the state after the lines that were taken. What was not taken out, messages and reports, is not in it.
+    pub fn save(&self) -> Result<Vec<u8>, Error> {
+        self.call(|it| it.bytes(raw::n2k_save))
+    }
+
+    /// Decodes a log to its end, and gives each message as soon as its last line has been read.
+    pub fn decode<R: Read>(&mut self, log: R) -> Messages<'_, R> {
+        Messages { decoder: self, log, waiting: Vec::new().into_iter(), is_over: false }
+    }
+}
+
+/// The messages of a log, each a line of JSON. Reports are dropped; after an error there is nothing more.
+pub struct Messages<'a, R> {
+    decoder: &'a mut Decoder,
+    log: R,
+    waiting: std::vec::IntoIter<String>,
+    is_over: bool,
+}
+
+impl<R: Read> Messages<'_, R> {
+    /// Reads and decodes a piece.
+    fn more(&mut self) -> Result<(), Error> {
+        let mut piece = [0; 1 << 16];
+        match self.log.read(&mut piece) {
+            Ok(0) => {
+                self.is_over = true;
+                self.decoder.end()?;
+            }
+            Ok(count) => self.decoder.feed(&piece[..count])?,
+            Err(error) if error.kind() == io::ErrorKind::Interrupted => {}
+            Err(error) => return Err(Error::Log(error)),
+        }
+        self.decoder.reports()?;
+        self.waiting = self.decoder.messages()?.into_iter();
+        Ok(())
+    }
+}
+
+impl<R: Read> Iterator for Messages<'_, R> {
+    type Item = Result<String, Error>;
+
+    fn next(&mut self) -> Option<Self::Item> {
+        loop {
+            if let Some(line) = self.waiting.next() {
+                return Some(Ok(line));
+            }
+            if self.is_over {
+                return None;
+            }
+            if let Err(error) = self.more() {
+                self.is_over = true;
+                return Some(Err(error));
+            }
+        }
+    }
+}

@@ -1,0 +1,123 @@
+//! The calls of n2kdec.h.
+use crate::{Counts, Error, Settings};
+use std::ffi::CStr;
+use std::os::raw::{c_char, c_void};
+use std::ptr;
+
+const ROOM: i32 = 1;
+
+/// `struct n2k_decoder`: zeros before it is opened.
+#[repr(C)]
+pub struct Decoder {
+    live: bool,
+    hold: *mut c_void,
+}
+
+#[repr(C)]
+struct RawSettings {
+    window: u32,
+    in_order: bool,
+    empty: bool,
+    whole: bool,
+    reserved: [u8; 25],
+}
+
+#[repr(C)]
+#[derive(Default)]
+struct Counted {
+    lines: u64,
+    messages: u64,
+    bad: u64,
+    unknown: u64,
+    broken: u64,
+    open: u64,
+    reserved: [u64; 2],
+}
+
+/// A call that moves bytes into a room.
+pub type Take = unsafe extern "C" fn(*mut Decoder, *mut u8, usize, *mut usize) -> i32;
+
+extern "C" {
+    fn n2k_open(table: *const u8, table_size: usize, resumes: bool, state: *const u8, state_size: usize, settings: *const RawSettings, decoder: *mut Decoder) -> i32;
+    fn n2k_feed(decoder: *mut Decoder, bytes: *const u8, size: usize) -> i32;
+    fn n2k_end(decoder: *mut Decoder) -> i32;
+    pub fn n2k_take(decoder: *mut Decoder, room: *mut u8, room_size: usize, size: *mut usize) -> i32;
+    pub fn n2k_take_reports(decoder: *mut Decoder, room: *mut u8, room_size: usize, size: *mut usize) -> i32;
+    pub fn n2k_save(decoder: *mut Decoder, room: *mut u8, room_size: usize, size: *mut usize) -> i32;
+    fn n2k_counts(decoder: *mut Decoder, counted: *mut Counted) -> i32;
+    fn n2k_waiting(decoder: *mut Decoder, size: *mut usize) -> i32;
+    fn n2k_close(decoder: *mut Decoder);
+    fn n2k_status_text(status: i32) -> *const c_char;
+}
+
+fn answer(status: i32) -> Result<(), Error> {
+    if status == 0 {
+        return Ok(());
+    }
+    // SAFETY: each status has a constant text.
+    let text = unsafe { CStr::from_ptr(n2k_status_text(status)) };
+    Err(Error::Refused(status, text.to_string_lossy().into_owned()))
+}
+
+impl Default for Decoder {
+    fn default() -> Self {
+        Decoder { live: false, hold: ptr::null_mut() }
+    }
+}
+
+impl Drop for Decoder {
+    fn drop(&mut self) {
+        // SAFETY: it is zeros, or was opened; it is not used again.
+        unsafe { n2k_close(self) }
+    }
+}
+
+// SAFETY, of each call below: the decoder is zeros or was opened by n2k_open, it was neither copied nor moved to another thread,
+// each pointer is that of a slice with its length, and nothing that is written overlaps anything else.
+impl Decoder {
+    pub fn open(&mut self, table: &[u8], state: Option<&[u8]>, settings: Settings) -> Result<(), Error> {
+        let Settings { window, in_order, empty, whole } = settings;
+        let raw = RawSettings { window, in_order, empty, whole, reserved: [0; 25] };
+        let bytes = state.unwrap_or_default();
+        answer(unsafe { n2k_open(table.as_ptr(), table.len(), state.is_some(), bytes.as_ptr(), bytes.len(), &raw, self) })
+    }
+
+    pub fn feed(&mut self, bytes: &[u8]) -> Result<(), Error> {
+        answer(unsafe { n2k_feed(self, bytes.as_ptr(), bytes.len()) })
+    }
+
+    pub fn end(&mut self) -> Result<(), Error> {
+        answer(unsafe { n2k_end(self) })
+    }
+
+    pub fn bytes(&mut self, call: Take) -> Result<Vec<u8>, Error> {
+        let (mut room, mut size) = (vec![0; 1 << 16], 0);
+        let mut status = unsafe { call(self, room.as_mut_ptr(), room.len(), &mut size) };
+        if status == ROOM {
+            room.resize(size, 0);
+            status = unsafe { call(self, room.as_mut_ptr(), room.len(), &mut size) };
+        }
+        answer(status)?;
+        room.truncate(size);
+        Ok(room)
+    }
+
+    /// The lines that a call gives: JSON and reports are UTF-8.
+    pub fn take(&mut self, call: Take) -> Result<Vec<String>, Error> {
+        let bytes = self.bytes(call)?;
+        Ok(String::from_utf8_lossy(&bytes).split_terminator('\n').map(str::to_owned).collect())
+    }
+
+    pub fn counts(&mut self) -> Result<Counts, Error> {
+        let mut it = Counted::default();
+        answer(unsafe { n2k_counts(self, &mut it) })?;
+        let Counted { lines, messages, bad, unknown, broken, open, .. } = it;
+        Ok(Counts { lines, messages, bad, unknown, broken, open })
+    }
+
+    pub fn waiting(&mut self) -> Result<usize, Error> {
+        let mut size = 0;
+        answer(unsafe { n2k_waiting(self, &mut size) })?;
+        Ok(size)
+    }
+}
