@@ -1,8 +1,8 @@
 -- Where a state goes: the file to which a name leads, over links, what that is, and the new file beside it.
 use Rattle.std.specs.Prelude.{◌++◌, ◌&&◌, ◌||◌, ◌==◌, ℕ, zero, suc, Bool, true, false, [], ◌∷◌, if◌then◌else◌}
 use Rattle.std.specs.Prelude.{nat_eq, nat_lt}
-use Rattle.std.specs.Prelude.{Option, Some, None, Result, Ok, Err, codes, bit_and, unwrap_or, option_map}
-use Rattle.std.specs.List.{starts_with}
+use Rattle.std.specs.Prelude.{Option, Some, None, Result, Ok, Err, codes, bit_and, unwrap_or, option_and_then, option_map}
+use Rattle.std.specs.List.{ends_with, starts_with}
 use Rattle.std.specs.Str.{bytes_eq}
 use Rattle.std.specs.Path.{cur_dir, path_file_name, path_join, path_parent, path_with_file_name}
 use Rattle.std.specs.declared.io.ErrorKind.{ErrorKind}
@@ -31,13 +31,17 @@ folder_of path = or_here (path_parent path)
 abbrev pub linked_path : Text → Text → Text
 linked_path path link = path_join (unwrap_or (path_parent path) []) link
 
--- The path of the new file beside that of this path: hidden, with the program's name, and the same for each run. Where
--- the path ends with no name there is none.
+-- the last name of a path, if the path ends with that, and not with a slash
+abbrev pub last_name : Text → Option Text
+last_name path = option_and_then (λ name. if ends_with nat_eq path name then Some name else None) (path_file_name path)
+
+-- The path of the new file beside that of this path: hidden, with the program's name, and the same for each run. If the
+-- path doesn't end with a name, there is none.
 abbrev pub hidden_name : Text → Text
 hidden_name name = codes "." ++ name ++ codes ".n2kdec-new"
 
 abbrev pub new_path : Text → Option Text
-new_path path = option_map (λ name. path_with_file_name path (hidden_name name)) (path_file_name path)
+new_path path = option_map (λ name. path_with_file_name path (hidden_name name)) (last_name path)
 
 -- a folder of this path, behind all links, is one of `/proc`
 unfoldable pub is_of_proc : Text → Bool

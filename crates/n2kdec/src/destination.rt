@@ -63,13 +63,15 @@ fn linked_path(alloc: Global, path: &str, link: &str) -> Result<Word, AllocError
     Ok(Word::of(folder.join(alloc, link)?.into_string()))
 }
 
-/// The path of the new file beside that of this path: hidden, with the program's name, and the same for each run.
+/// The path of the new file beside that of this path: hidden, with the program's name, and the same for each run. An error
+/// if the path doesn't end with a name, as `boat/` doesn't.
 fn new_path(alloc: Global, path: &str) -> io::Result<Word>
     ensures { IsAnswerUnlessMemory (λ new. new) (or_cause (OfKind Nameless) (new_path path.now)) result }
 {
     let path = Path::new(path);
-    let Some(name) = path.file_name() else {
-        return Err(Error::from(ErrorKind::InvalidFilename));
+    let name = match path.file_name() {
+        Some(name) if path.as_str().as_bytes().ends_with(name.as_bytes()) => name,
+        _ => return Err(Error::from(ErrorKind::InvalidFilename)),
     };
     let hidden = format!(in alloc; ".{name}.n2kdec-new")?;
     Ok(Word::of(path.with_file_name(alloc, hidden.as_str())?.into_string()))

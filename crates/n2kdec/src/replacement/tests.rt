@@ -82,6 +82,8 @@ fn links_without_an_end_and_names_of_no_file_are_refused(rt: HostRuntime) -> Res
         ("loop", ErrorKind::FilesystemLoop),
         ("", ErrorKind::InvalidFilename),
         ("saves/..", ErrorKind::InvalidFilename),
+        ("new/", ErrorKind::InvalidFilename),
+        ("new/.", ErrorKind::InvalidFilename),
     ] {
         match find(rt.alloc(), &disk, name) {
             Ok(_) => assert!(rt; false, "{name}"),
