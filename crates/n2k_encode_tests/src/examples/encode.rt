@@ -4,6 +4,7 @@ use n2k_encode::{EncodeError, Refusal, encode_line};
 use n2k_table_tests::samples::sample as sample_table;
 use std::test::Fail;
 
+// front page
 #[test]
 fn front_page(rt: HostRuntime) -> Result<(), Fail> {
     let alloc = rt.alloc();
@@ -16,6 +17,7 @@ fn front_page(rt: HostRuntime) -> Result<(), Fail> {
     Ok(())
 }
 
+// encode_line, Refusal::number, Refusal::name
 #[test]
 fn refusals(rt: HostRuntime) -> Result<(), Fail> {
     let alloc = rt.alloc();

@@ -7,6 +7,7 @@ use n2k_wire::{BadCause, Packing, read_line, split_id};
 use std::alloc::Global;
 use std::test::Fail;
 
+// front page
 #[test]
 fn front_page(rt: HostRuntime) -> Result<(), Fail> {
     let alloc = rt.alloc();
@@ -24,6 +25,7 @@ fn front_page(rt: HostRuntime) -> Result<(), Fail> {
     Ok(())
 }
 
+// Window::new, Window::get, Window::in_order, Window::is_in_order
 #[test]
 fn windows(rt: HostRuntime) {
     let window = Window::new(10_000).unwrap();
@@ -35,6 +37,7 @@ fn windows(rt: HostRuntime) {
     assert!(rt; window.in_order().is_in_order());
 }
 
+// Join::new, Join::counts, Join::window
 #[test]
 fn new_joins(rt: HostRuntime) -> Result<(), Fail> {
     let alloc = rt.alloc();
@@ -53,6 +56,7 @@ fn open_since_1_and_2(alloc: Global) -> Result<String, Fail> {
     )
 }
 
+// Join::expire
 #[test]
 fn groups_that_expire(rt: HostRuntime) -> Result<(), Fail> {
     let alloc = rt.alloc();
@@ -68,6 +72,7 @@ fn groups_that_expire(rt: HostRuntime) -> Result<(), Fail> {
     Ok(())
 }
 
+// Join::line
 #[test]
 fn lines_taken(rt: HostRuntime) -> Result<(), Fail> {
     let alloc = rt.alloc();
@@ -81,6 +86,7 @@ fn lines_taken(rt: HostRuntime) -> Result<(), Fail> {
     Ok(())
 }
 
+// Join::lend, message_of
 #[test]
 fn messages_lent(rt: HostRuntime) -> Result<(), Fail> {
     let alloc = rt.alloc();
@@ -95,6 +101,7 @@ fn messages_lent(rt: HostRuntime) -> Result<(), Fail> {
     Ok(())
 }
 
+// Join::save
 #[test]
 fn states_saved(rt: HostRuntime) -> Result<(), Fail> {
     let alloc = rt.alloc();
@@ -106,6 +113,7 @@ fn states_saved(rt: HostRuntime) -> Result<(), Fail> {
     Ok(())
 }
 
+// Join::resume
 #[test]
 fn states_read(rt: HostRuntime) -> Result<(), Fail> {
     let alloc = rt.alloc();
@@ -119,12 +127,14 @@ fn states_read(rt: HostRuntime) -> Result<(), Fail> {
     Ok(())
 }
 
+// Stream::of
 #[test]
 fn streams(rt: HostRuntime) {
     let stream = Stream::of(split_id(0x1DFF_0405));
     assert_eq!(rt; (stream.src, stream.pgn, stream.dst), (5, 130820, 255));
 }
 
+// Frames::frame, Splitter::split, Frames::count
 #[test]
 fn frames(rt: HostRuntime) -> Result<(), Fail> {
     let alloc = rt.alloc();
@@ -140,6 +150,7 @@ fn frames(rt: HostRuntime) -> Result<(), Fail> {
     Ok(())
 }
 
+// Splitter::message, Splitter::new
 #[test]
 fn frames_in_a_vector(rt: HostRuntime) -> Result<(), Fail> {
     let alloc = rt.alloc();

@@ -7,6 +7,7 @@ use n2k_table::{
 };
 use std::test::Fail;
 
+// front page
 #[test]
 fn front_page(rt: HostRuntime) -> Result<(), Fail> {
     let alloc = rt.alloc();
@@ -20,6 +21,7 @@ fn front_page(rt: HostRuntime) -> Result<(), Fail> {
     Ok(())
 }
 
+// Table::read
 #[test]
 fn tables_read(rt: HostRuntime) -> Result<(), Fail> {
     let alloc = rt.alloc();
@@ -30,6 +32,7 @@ fn tables_read(rt: HostRuntime) -> Result<(), Fail> {
     Ok(())
 }
 
+// Table::id, Table::kind, Definition::description, Table::choose
 #[test]
 fn what_a_table_says(rt: HostRuntime) -> Result<(), Fail> {
     let alloc = rt.alloc();
@@ -49,6 +52,7 @@ fn what_a_table_says(rt: HostRuntime) -> Result<(), Fail> {
     Ok(())
 }
 
+// KnownPgn::kind, Table::find
 #[test]
 fn known_pgns(rt: HostRuntime) -> Result<(), Fail> {
     let alloc = rt.alloc();
@@ -59,6 +63,7 @@ fn known_pgns(rt: HostRuntime) -> Result<(), Fail> {
     Ok(())
 }
 
+// KnownPgn::choose
 #[test]
 fn definitions_of_a_known_pgn(rt: HostRuntime) -> Result<(), Fail> {
     let alloc = rt.alloc();
@@ -70,6 +75,7 @@ fn definitions_of_a_known_pgn(rt: HostRuntime) -> Result<(), Fail> {
     Ok(())
 }
 
+// json_line_of
 #[test]
 fn json_lines_of_a_known_pgn(rt: HostRuntime) -> Result<(), Fail> {
     let alloc = rt.alloc();
@@ -83,6 +89,7 @@ fn json_lines_of_a_known_pgn(rt: HostRuntime) -> Result<(), Fail> {
     Ok(())
 }
 
+// TextBuffer::new
 #[test]
 fn a_line_in_a_short_buffer(rt: HostRuntime) -> Result<(), Fail> {
     let alloc = rt.alloc();
@@ -94,6 +101,7 @@ fn a_line_in_a_short_buffer(rt: HostRuntime) -> Result<(), Fail> {
     Ok(())
 }
 
+// TextBuffer::clear
 #[test]
 fn lines_let_go(rt: HostRuntime) -> Result<(), Fail> {
     let alloc = rt.alloc();
@@ -104,6 +112,7 @@ fn lines_let_go(rt: HostRuntime) -> Result<(), Fail> {
     Ok(())
 }
 
+// TextBuffer::parts
 #[test]
 fn lines_in_two_parts(rt: HostRuntime) -> Result<(), Fail> {
     let alloc = rt.alloc();
@@ -114,6 +123,7 @@ fn lines_in_two_parts(rt: HostRuntime) -> Result<(), Fail> {
     Ok(())
 }
 
+// TextBuffer::take_lines
 #[test]
 fn lines_taken_out(rt: HostRuntime) -> Result<(), Fail> {
     let alloc = rt.alloc();
@@ -125,6 +135,7 @@ fn lines_taken_out(rt: HostRuntime) -> Result<(), Fail> {
     Ok(())
 }
 
+// TextBuffer::put_back
 #[test]
 fn lines_put_back(rt: HostRuntime) {
     let alloc = rt.alloc();
@@ -132,6 +143,7 @@ fn lines_put_back(rt: HostRuntime) {
     lines.put_back(Vec::new(alloc));
 }
 
+// TextBuffer::push_plain
 #[test]
 fn plain_lines_in_a_buffer(rt: HostRuntime) -> Result<(), Fail> {
     let alloc = rt.alloc();
@@ -142,6 +154,7 @@ fn plain_lines_in_a_buffer(rt: HostRuntime) -> Result<(), Fail> {
     Ok(())
 }
 
+// Definition::fields
 #[test]
 fn fields(rt: HostRuntime) -> Result<(), Fail> {
     let alloc = rt.alloc();
@@ -155,6 +168,7 @@ fn fields(rt: HostRuntime) -> Result<(), Fail> {
     Ok(())
 }
 
+// Definition::repeat
 #[test]
 fn sets(rt: HostRuntime) -> Result<(), Fail> {
     let alloc = rt.alloc();
@@ -169,6 +183,7 @@ fn sets(rt: HostRuntime) -> Result<(), Fail> {
     Ok(())
 }
 
+// decimal_text
 #[test]
 fn decimals(rt: HostRuntime) -> Result<(), Fail> {
     let alloc = rt.alloc();
@@ -178,6 +193,7 @@ fn decimals(rt: HostRuntime) -> Result<(), Fail> {
     Ok(())
 }
 
+// json_line
 #[test]
 fn json_lines(rt: HostRuntime) -> Result<(), Fail> {
     let alloc = rt.alloc();
@@ -193,6 +209,7 @@ fn json_lines(rt: HostRuntime) -> Result<(), Fail> {
     Ok(())
 }
 
+// json_line_in
 #[test]
 fn json_lines_in_a_row(rt: HostRuntime) -> Result<(), Fail> {
     let alloc = rt.alloc();
@@ -207,6 +224,7 @@ fn json_lines_in_a_row(rt: HostRuntime) -> Result<(), Fail> {
     Ok(())
 }
 
+// Field::name, Field::at, Field::bits, Field::is_short, Field::match_value, Field::coding, Field::rest, Field::shown
 #[test]
 fn a_field(rt: HostRuntime) -> Result<(), Fail> {
     let alloc = rt.alloc();
@@ -237,6 +255,7 @@ fn a_field(rt: HostRuntime) -> Result<(), Fail> {
     Ok(())
 }
 
+// Lookup::text_of, Lookup::value_of
 #[test]
 fn names_of_values(rt: HostRuntime) -> Result<(), Fail> {
     let alloc = rt.alloc();
@@ -256,6 +275,7 @@ fn names_of_values(rt: HostRuntime) -> Result<(), Fail> {
     Ok(())
 }
 
+// Repeat::fields, Repeat::from_first, Repeat::split_set
 #[test]
 fn what_repeats(rt: HostRuntime) -> Result<(), Fail> {
     let alloc = rt.alloc();
@@ -273,6 +293,7 @@ fn what_repeats(rt: HostRuntime) -> Result<(), Fail> {
     Ok(())
 }
 
+// Definition::own_fields, Definition::repeated, Definition::matches, KnownPgn::definition
 #[test]
 fn definitions(rt: HostRuntime) -> Result<(), Fail> {
     let alloc = rt.alloc();
@@ -292,6 +313,7 @@ fn definitions(rt: HostRuntime) -> Result<(), Fail> {
     Ok(())
 }
 
+// split_character
 #[test]
 fn characters_of_utf_16(rt: HostRuntime) -> Result<(), Fail> {
     let (letter, rest) = split_character(&[0x3d, 0xd8, 0x00, 0xde, 0x41]).ok_or("a character")?;

@@ -6,6 +6,7 @@ use n2k_wire::{
 };
 use std::test::Fail;
 
+// front page
 #[test]
 fn front_page(rt: HostRuntime) -> Result<(), Fail> {
     let alloc = rt.alloc();
@@ -21,6 +22,7 @@ fn front_page(rt: HostRuntime) -> Result<(), Fail> {
     Ok(())
 }
 
+// read_line
 #[test]
 fn lines(rt: HostRuntime) {
     let frame = read_line("(1.0) can0 18EAFF01#14F001".as_bytes(), Packing::Frames);
@@ -31,6 +33,7 @@ fn lines(rt: HostRuntime) {
     assert!(rt; matches!(piece, Entry::Bad(BadCause::Form)));
 }
 
+// LineReader::read, LineReader::new, LineReader::read_mut
 #[test]
 fn lines_in_a_row(rt: HostRuntime) {
     let mut reader = LineReader::new();
@@ -46,6 +49,7 @@ fn lines_in_a_row(rt: HostRuntime) {
     assert!(rt; matches!(entry, Entry::Skip));
 }
 
+// split_id, join_id
 #[test]
 fn identifiers(rt: HostRuntime) {
     let id = split_id(0x09F8_027F);
@@ -56,6 +60,7 @@ fn identifiers(rt: HostRuntime) {
     assert_eq!(rt; join_id(&Id { dst: 9, ..id }), None);
 }
 
+// Packet::new
 #[test]
 fn new_packets(rt: HostRuntime) -> Result<(), Fail> {
     let id = split_id(0x18EA_FF01);
@@ -65,6 +70,7 @@ fn new_packets(rt: HostRuntime) -> Result<(), Fail> {
     Ok(())
 }
 
+// Packet::stamp, Packet::id, Packet::data
 #[test]
 fn parts_of_a_packet(rt: HostRuntime) -> Result<(), Fail> {
     let packet = frame_in("(1.0) can0 18EAFF01#14F001")?;
@@ -78,6 +84,7 @@ fn parts_of_a_packet(rt: HostRuntime) -> Result<(), Fail> {
     Ok(())
 }
 
+// Packet::with_data
 #[test]
 fn other_data(rt: HostRuntime) -> Result<(), Fail> {
     let packet = frame_in("(1.0) can0 18EAFF01#14F001")?;
@@ -87,6 +94,7 @@ fn other_data(rt: HostRuntime) -> Result<(), Fail> {
     Ok(())
 }
 
+// Packet::set_data
 #[test]
 fn data_set(rt: HostRuntime) -> Result<(), Fail> {
     let mut packet = frame_in("(1.0) can0 18EAFF01#14F001")?;
@@ -96,6 +104,7 @@ fn data_set(rt: HostRuntime) -> Result<(), Fail> {
     Ok(())
 }
 
+// Packet::set_frame
 #[test]
 fn frames_set(rt: HostRuntime) -> Result<(), Fail> {
     let message = frame_in("(2.0) can0 1DFF0405#")?;
@@ -106,6 +115,7 @@ fn frames_set(rt: HostRuntime) -> Result<(), Fail> {
     Ok(())
 }
 
+// plain_text
 #[test]
 fn plain_texts(rt: HostRuntime) -> Result<(), Fail> {
     let alloc = rt.alloc();
@@ -117,6 +127,7 @@ fn plain_texts(rt: HostRuntime) -> Result<(), Fail> {
     Ok(())
 }
 
+// write_line
 #[test]
 fn plain_lines(rt: HostRuntime) -> Result<(), Fail> {
     let packet = frame_in("(1.0) can0 18EAFF01#14F001")?;
@@ -128,6 +139,7 @@ fn plain_lines(rt: HostRuntime) -> Result<(), Fail> {
     Ok(())
 }
 
+// is_interface
 #[test]
 fn interfaces(rt: HostRuntime) {
     assert!(rt; is_interface(b"can0"));
@@ -135,6 +147,7 @@ fn interfaces(rt: HostRuntime) {
     assert!(rt; !is_interface(b""));
 }
 
+// candump_text
 #[test]
 fn candump_texts(rt: HostRuntime) -> Result<(), Fail> {
     let alloc = rt.alloc();
@@ -149,6 +162,7 @@ fn candump_texts(rt: HostRuntime) -> Result<(), Fail> {
     Ok(())
 }
 
+// CandumpLines::new, CandumpLines::append
 #[test]
 fn candump_texts_in_a_row(rt: HostRuntime) -> Result<(), Fail> {
     let alloc = rt.alloc();

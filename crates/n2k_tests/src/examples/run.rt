@@ -18,6 +18,7 @@ fn usual_options() -> Options {
     }
 }
 
+// front page
 #[test]
 fn front_page(rt: HostRuntime) -> Result<(), Fail> {
     let alloc = rt.alloc();
@@ -37,6 +38,7 @@ fn front_page(rt: HostRuntime) -> Result<(), Fail> {
     Ok(())
 }
 
+// run_part
 #[test]
 fn parts(rt: HostRuntime) -> Result<(), Fail> {
     let alloc = rt.alloc();
@@ -53,6 +55,7 @@ fn parts(rt: HostRuntime) -> Result<(), Fail> {
     Ok(())
 }
 
+// run_more
 #[test]
 fn more(rt: HostRuntime) -> Result<(), Fail> {
     let alloc = rt.alloc();
@@ -72,6 +75,7 @@ fn more(rt: HostRuntime) -> Result<(), Fail> {
     Ok(())
 }
 
+// run_parts
 #[test]
 fn parts_in_memory(rt: HostRuntime) -> Result<(), Fail> {
     let alloc = rt.alloc();
@@ -86,6 +90,7 @@ fn parts_in_memory(rt: HostRuntime) -> Result<(), Fail> {
     Ok(())
 }
 
+// run
 #[test]
 fn runs(rt: HostRuntime) -> Result<(), Fail> {
     let alloc = rt.alloc();
@@ -102,6 +107,7 @@ fn runs(rt: HostRuntime) -> Result<(), Fail> {
     Ok(())
 }
 
+// run_plain
 #[test]
 fn plain_runs(rt: HostRuntime) -> Result<(), Fail> {
     let alloc = rt.alloc();
@@ -115,6 +121,7 @@ fn plain_runs(rt: HostRuntime) -> Result<(), Fail> {
     Ok(())
 }
 
+// run_frames
 #[test]
 fn runs_that_send(rt: HostRuntime) -> Result<(), Fail> {
     let alloc = rt.alloc();
@@ -131,6 +138,7 @@ fn runs_that_send(rt: HostRuntime) -> Result<(), Fail> {
     Ok(())
 }
 
+// run_plain_counted
 #[test]
 fn runs_that_are_counted(rt: HostRuntime) -> Result<(), Fail> {
     let alloc = rt.alloc();
@@ -145,6 +153,7 @@ fn runs_that_are_counted(rt: HostRuntime) -> Result<(), Fail> {
     Ok(())
 }
 
+// run_frames_counted
 #[test]
 fn runs_that_send_and_are_counted(rt: HostRuntime) -> Result<(), Fail> {
     let alloc = rt.alloc();
@@ -170,6 +179,7 @@ fn runs_that_send_and_are_counted(rt: HostRuntime) -> Result<(), Fail> {
     Ok(())
 }
 
+// read_bytes
 #[test]
 fn whole_reads(rt: HostRuntime) -> Result<(), Fail> {
     let alloc = rt.alloc();
@@ -182,6 +192,7 @@ fn whole_reads(rt: HostRuntime) -> Result<(), Fail> {
     Ok(())
 }
 
+// MemorySink::bytes, write_all
 #[test]
 fn whole_writes(rt: HostRuntime) {
     let alloc = rt.alloc();
@@ -190,6 +201,7 @@ fn whole_writes(rt: HostRuntime) {
     assert_eq!(rt; sink.bytes(), b"abc".as_slice());
 }
 
+// bad_text
 #[test]
 fn reports_of_bad_lines(rt: HostRuntime) -> Result<(), Fail> {
     let alloc = rt.alloc();
@@ -199,6 +211,7 @@ fn reports_of_bad_lines(rt: HostRuntime) -> Result<(), Fail> {
     Ok(())
 }
 
+// broken_text
 #[test]
 fn reports_of_broken_groups(rt: HostRuntime) -> Result<(), Fail> {
     let alloc = rt.alloc();
@@ -216,6 +229,7 @@ fn reports_of_broken_groups(rt: HostRuntime) -> Result<(), Fail> {
     Ok(())
 }
 
+// summary_text
 #[test]
 fn summaries(rt: HostRuntime) -> Result<(), Fail> {
     let alloc = rt.alloc();
@@ -226,6 +240,7 @@ fn summaries(rt: HostRuntime) -> Result<(), Fail> {
     Ok(())
 }
 
+// write_summary
 #[test]
 fn summaries_written(rt: HostRuntime) {
     let alloc = rt.alloc();
@@ -235,6 +250,7 @@ fn summaries_written(rt: HostRuntime) {
     assert_eq!(rt; err.bytes(), summary.as_bytes());
 }
 
+// Blocks::next_line, Blocks::new
 #[test]
 fn blocks(rt: HostRuntime) {
     let mut source = StdSource::new("one\r\ntwo".as_bytes());
@@ -246,6 +262,7 @@ fn blocks(rt: HostRuntime) {
     assert!(rt; matches!(blocks.next_line(&mut source), Ok(Next::End)));
 }
 
+// Source::read, MemorySource::new, StdSource::new, StdSource::failure
 #[test]
 fn sources(rt: HostRuntime) {
     let mut source = MemorySource::new(b"abcde", 3, 2);
@@ -266,6 +283,7 @@ fn sources(rt: HostRuntime) {
     assert!(rt; source.failure().is_none());
 }
 
+// Sink::write, MemorySink::new, MemorySink::clear, StdSink::new, StdSink::failure
 #[test]
 fn sinks(rt: HostRuntime) {
     let alloc = rt.alloc();
