@@ -158,11 +158,12 @@ impl Lookup {
     /// assert_eq!(rt; names.value_of("Grid"), None);
     /// ```
     pub fn value_of(&self, name: &str) -> Option<u64>
-        ensures { IfSome result (λ value. name_of_value self.now.entries value ≡ Some name.now) }
+        ensures first { result ≡ option_map (λ e. e.0) (find (λ e. bytes_eq e.1 name.now) self.now.entries) }
+        ensures named { IfSome result (λ value. name_of_value self.now.entries value ≡ Some name.now) }
     {
         for place in 0..self.names.len() {
-            let (value, _) = self.names.get_index(place)?;
-            if self.text_of(*value) == Some(name) {
+            let (value, known) = self.names.get_index(place)?;
+            if known.text() == name {
                 return Some(*value);
             }
         }
