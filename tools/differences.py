@@ -154,7 +154,7 @@ def text(first, first_name, second_name):
         found = Differences(table_rules.tree(first.encode()), second, names)
         lines = found.lines()
     except (KeyError, TypeError, AttributeError, ValueError, decimal.InvalidOperation):
-        raise NoTable(f"{second_name}: this is no table of n2kdec") from None
+        raise NoTable(f"{second_name}: not a table of n2kdec") from None
     counts = found.counts
     lines.append(f"equal {counts['equal']} differ {counts['differ']} "
                  f"only in {names[0]} {counts[names[0]]} only in {names[1]} {counts[names[1]]}")

@@ -53,7 +53,7 @@ UNITS = {"DATE": "days since 1970-01-01", "TIME": "s since midnight"}
 # What the greatest value of a lookup is called where it only says that there is none.
 NONE = {"unavailable", "not available", "data not available", "not defined", "not defined (default)", "undefined",
         "unknown", "null", "no data", "n/a"}
-NO_MATCH = "with a match that a table can't say"
+NO_MATCH = "with a match that a table can't express"
 
 
 class BadInput(Exception):
@@ -268,13 +268,13 @@ def resolution_text(number):
         decimals = decimals.rstrip("0")
         if len(decimals) <= MOST_DECIMALS and int(whole + decimals) <= GREATEST_MANTISSA:
             return f"{whole}.{decimals}" if decimals else whole
-    raise LeftOut("with a resolution that a table can't say")
+    raise LeftOut("with a resolution that a table can't express")
 
 
 def offset_of(number):
     if number == number.to_integral_value() and LEAST_OFFSET <= number <= GREATEST_OFFSET:
         return int(number)
-    raise LeftOut("with an offset that a table can't say")
+    raise LeftOut("with an offset that a table can't express")
 
 
 def match_of(given):
@@ -320,7 +320,7 @@ class Layout:
             except LeftOut as why:
                 cause = why.args[0]
         if cause and given.kind in STRINGS:
-            self.ends_at(at, "behind a text that is left out")
+            self.ends_at(at, "after a text that is left out")
         if cause and given.has_match:
             raise LeftOut(NO_MATCH, given.called)
         if cause:
@@ -333,13 +333,13 @@ class Layout:
     def no_place(self, given, at, is_last):
         """Why a field has no place for its own, or what it leaves without one."""
         if given.sometimes:
-            self.ends_at(at, f"behind a field {(cause := 'there in some messages alone')}")
+            self.ends_at(at, f"after a field {(cause := 'only in some messages')}")
             return cause
         if at is None:
             return "of no fixed place"
         is_bytes = given.kind == "BINARY" and is_last and at % 8 == 0 and self.end - self.fixed - at >= 8 and not given.has_match
         if given.varies and given.kind not in STRINGS and not is_bytes:
-            self.ends_at(at, f"behind a field {(cause := 'of variable length')}")
+            self.ends_at(at, f"after a field {(cause := 'of variable length')}")
             return None if given.odd else cause
         # Where the length isn't known, what follows may have its place all the same.
         self.rest = (at, self.after, self.fixed) if given.bits is None and given.odd else None
@@ -369,7 +369,7 @@ class Layout:
         if len(self.fields) == MOST_FIELDS:
             raise LeftOut(f"past {MOST_FIELDS} fields")
         if not is_text(field["name"]):
-            raise LeftOut("with a name that a table can't say")
+            raise LeftOut("with a name that a table can't express")
         self.used.add(field["name"])
         self.fields.append(field)
         if note:
@@ -381,9 +381,9 @@ class Layout:
         """The field as a table has it, and why it is less than in the file."""
         field = {"name": self.free_name(given.name), "kind": "number", "at": at}
         if given.kind in KEYED:
-            raise LeftOut("as a part of a key and its value")
+            raise LeftOut("as part of a key and its value")
         if given.kind == "FLOAT":
-            raise LeftOut("as a floating number")
+            raise LeftOut("as a floating-point number")
         if given.kind in STRINGS:
             if at % 8:
                 raise LeftOut("as a text that is not on whole bytes")
@@ -481,7 +481,7 @@ class Maker:
                 sets = {"repeat": self.set(layout, repeated, is_last)}
             except LeftOut as why:
                 if layout.behind is None:
-                    layout.ends_at(layout.place(repeated[0]), "behind a set that repeats")
+                    layout.ends_at(layout.place(repeated[0]), "after a set that repeats")
                 for field in repeated:
                     layout.leave_out(field, why.args[0])
             for field in rest:
@@ -512,7 +512,7 @@ class Maker:
 
     def message(self, number, description, packet, given, repeat, is_last):
         if number > GREATEST_PGN or not is_text(description):
-            raise LeftOut("with a number or description that a table can't say")
+            raise LeftOut("with a number or description that a table can't express")
         kind = PACKETS[packet]
         if kind is None:
             raise LeftOut("sent as single frames and as fast packets")

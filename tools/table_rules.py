@@ -147,9 +147,9 @@ class Reader:
         if begins:
             what += f"; within what begins in line {begins[0]}"
         elif first < last >= line - 1:
-            what += f"; behind the text that begins in line {first}"
+            what += f"; after the text that begins in line {first}"
         elif self.open[0] in (at, start) and self.first(at) and self.first(at) in "]},":
-            what += f"; behind what begins in line {self.line(self.before)}"
+            what += f"; after what begins in line {self.line(self.before)}"
         raise NotToml(what, at)
 
     def blank(self, at):
@@ -379,7 +379,7 @@ class Reader:
                     return chr(code), at + 1 + len(digits)
         elif letter in ESCAPES:
             return ESCAPES[letter], at + 1
-        self.fail("invalid escape sequence, expected b, e, f, n, r, t, `\"` or `\\` behind `\\`, or x, u or U and the 2, 4 "
+        self.fail("invalid escape sequence, expected b, e, f, n, r, t, `\"` or `\\` after `\\`, or x, u or U and the 2, 4 "
                   "or 8 hexadecimal digits of a character", at)
 
 
@@ -530,7 +530,7 @@ class Rules:
             self.fault("Key", table.at, where, f"{key} is missing", *others)
         elif type(table[key]) is not kind:
             self.fault("Key", table.keys_at[key], where,
-                       f"{key} is {KIND_NAMES[type(table[key])]}, and not {KIND_NAMES[kind]}")
+                       f"{key} is {KIND_NAMES[type(table[key])]}, not {KIND_NAMES[kind]}")
         else:
             return table[key]
         return None
@@ -554,7 +554,7 @@ class Rules:
             return text
         hint, of_format = ("; format 3 has it", [self.top.keys_at["format"]]) if text in newer else ("", [])
         self.fault("Text", table.keys_at[key], where,
-                   f"{key} is {quoted(text)}, and not {', '.join(names[:-1])} or {names[-1]}{hint}", *of_format)
+                   f"{key} is {quoted(text)}, not {', '.join(names[:-1])} or {names[-1]}{hint}", *of_format)
         return None
 
     def whole(self, table, key, least, most, where, step=1, others=(), asked_by=()):
@@ -567,7 +567,7 @@ class Rules:
         elif value > most:
             self.fault("Range", at, where, f"{word} is {value}, over {most}", *others)
         elif value % step:
-            self.fault("Range", at, where, f"{word} is {value}, and no multiple of {step}", *others)
+            self.fault("Range", at, where, f"{word} is {value}, not a multiple of {step}", *others)
         else:
             return value
         return None
@@ -598,7 +598,7 @@ class Rules:
             if type(item) is Table:
                 yield ordinal, item
             else:
-                self.fault("Key", at, where, f"element {ordinal} of {key} is {KIND_NAMES[type(item)]}, and not a table")
+                self.fault("Key", at, where, f"element {ordinal} of {key} is {KIND_NAMES[type(item)]}, not a table")
 
     def unique(self, values):
         """The values of which each may come once, each with where it first stands. They are given with what a fault says of
@@ -606,7 +606,7 @@ class Rules:
         seen = {}
         for value, at, where, what in values:
             if value in seen:
-                self.fault("Twice", at, where, f"{what} comes again, first in line {self.lines.line(seen[value])}")
+                self.fault("Twice", at, where, f"{what} occurs twice, first in line {self.lines.line(seen[value])}")
             else:
                 seen[value] = at
         return seen
@@ -618,7 +618,7 @@ class Rules:
         if type(version) is not int or version not in KEYS_BY_FORMAT:
             at = self.top.keys_at.get("format", 0)
             is_there = "format" in self.top
-            self.fault("Format", at, "", f"format is {shown(version)}, and not 1, 2 or 3" if is_there else
+            self.fault("Format", at, "", f"format is {shown(version)}, not 1, 2 or 3" if is_there else
                        "format is missing; it is 1, 2 or 3")
             return
         self.version, self.field_keys = version, KEYS_BY_FORMAT[version]
@@ -649,7 +649,7 @@ class Rules:
             if kinds is not None and len(kinds) == 2:
                 at = entry.items_at[kinds[0] is int]
             said = shown(entry) if kinds is None else f"an array of {', '.join(map(shown, entry)) or 'nothing'}"
-            self.fault("Key", at, where, f"it is {said}, and not an array of an integer and a text")
+            self.fault("Key", at, where, f"it is {said}, not an array of an integer and a text")
             return
         value_at, name_at = entry.items_at
         value = self.ranged(entry[0], 0, GREATEST_VALUE, value_at, where, "the value")
@@ -662,8 +662,7 @@ class Rules:
     def definition(self, definition, where, kinds):
         self.only_keys(definition, ("number", "kind", "description", "fields", "repeat"), where, "a definition")
         if self.version == 1 and "repeat" in definition:
-            self.fault("Key", definition.keys_at["repeat"], where, "repeat stands in tables of format 2 and 3, and this is one "
-                       "of format 1", self.top.keys_at["format"])
+            self.fault("Key", definition.keys_at["repeat"], where, "repeat needs format 2 or 3, and this table has format 1", self.top.keys_at["format"])
         number = self.whole(definition, "number", 0, GREATEST_PGN, where)
         kind = self.choice(definition, "kind", ("single", "fast"), where)
         self.text(definition, "description", where)
@@ -685,7 +684,7 @@ class Rules:
             first, kind = firsts.setdefault(definition["number"], definition), definition["kind"]
             if first["kind"] != kind:
                 line = self.lines.line(first.keys_at["kind"])
-                self.fault("Mixed", definition.keys_at["kind"], where, f'kind is "{kind}", and "{first["kind"]}" in line {line}',
+                self.fault("Mixed", definition.keys_at["kind"], where, f'kind is "{kind}", but "{first["kind"]}" in line {line}',
                            definition.keys_at["number"], first.keys_at["number"])
 
     def repeat(self, repeat, where, own):
@@ -703,7 +702,7 @@ class Rules:
             self.ends(repeat, at, bits, LONGEST_MESSAGE, where, None, string)
         fields = self.fields(repeat, where, bits, repeat)
         if bits == 0 and fields.kinds is not None and "string" not in fields.kinds:
-            self.fault("Range", repeat.keys_at["bits"], where, "bits is 0, and no field of the set is a string",
+            self.fault("Range", repeat.keys_at["bits"], where, "bits is 0, but no field of the set is a string",
                        repeat.keys_at["fields"])
 
     def ends(self, table, at, bits, end, where, repeat, string=None):
@@ -796,12 +795,12 @@ class Rules:
             return None
         named = self.named_by_after(field, fields)
         hint = "" if named is None else "is the field itself" if named is field else \
-            "stands behind it" if named.get("kind") == "string" else "is no string"
-        return self.named_string(field, where, strings, "string stands before it", "strings before it", named, hint)
+            "comes after it" if named.get("kind") == "string" else "is not a string"
+        return self.named_string(field, where, strings, "string comes before it", "strings before it", named, hint)
 
     def string_of_message(self, repeat, where, own):
         """The string behind which the sets stand, None where the message's own fields have none of that name."""
-        named, hint = self.named_by_after(repeat, own.tables), "is no string"
+        named, hint = self.named_by_after(repeat, own.tables), "is not a string"
         if named is None:
             named, hint = self.named_by_after(repeat, tables_of(repeat.get("fields"))), "is a field of the set"
         return self.named_string(repeat, where, own.strings, "field of the message is a string", "strings of the message", named,
@@ -818,11 +817,11 @@ class Rules:
         if name is None or name in strings:
             return strings.get(name)
         known = [quoted(string) for string in strings]
-        said = f"no {none}" if not known else f"not {known[0]}" if len(known) == 1 else \
-            f"not {', '.join(known[:-1])} or {known[-1]}" if len(known) <= MOST_NAMES else f"none of the {many}"
+        said = f"but no {none}" if not known else f"not {known[0]}" if len(known) == 1 else \
+            f"not {', '.join(known[:-1])} or {known[-1]}" if len(known) <= MOST_NAMES else f"but none of the {many}"
         near = difflib.get_close_matches(name, strings, 1) if len(known) > MOST_NAMES else []
         more = f"; {quoted(name)} {hint}" if named is not None else f"; perhaps {quoted(near[0])}" if near else ""
-        self.fault("Lookup", holder.keys_at["after"], where, f"after is {quoted(name)}, and {said}{more}",
+        self.fault("Lookup", holder.keys_at["after"], where, f"after is {quoted(name)}, {said}{more}",
                    *([] if named is None else [named.at]))
         return None
 
@@ -838,7 +837,7 @@ class Rules:
             return
         at, said = field.keys_at["resolution"], f"resolution {quoted(text)}"
         if not re.fullmatch(r"[0-9]{1,10}(\.[0-9]{1,18})?", text):
-            self.fault("Text", at, where, f"{said} is not 1 to 10 digits, and then nothing, or a dot and 1 to 18 digits")
+            self.fault("Text", at, where, f"{said} is not 1 to 10 digits, optionally followed by a dot and 1 to 18 digits")
             return
         self.ranged(int(text.replace(".", "")), 1, GREATEST_MANTISSA, at, where, f"the number of all digits of {said}")
 

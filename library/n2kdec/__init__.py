@@ -7,11 +7,11 @@
 
 A log is what `candump -L` or canboat's readers write, or CAN frames of python-can. A message is one line of JSON of
 `n2kdec decode`, as a dict: `Message` has its members. A number with a point is a float, or with `decimals=True` a Decimal
-with just the digits that were printed. Numbers have the units of the table, which the table's units.json names: metres,
-seconds, radians, kelvins and so on. If no table is given, it is the one that comes with this package.
+with exactly the printed digits. Numbers are in the units of the table, which the table's units.json names: metres,
+seconds, radians, kelvins and so on. The default table is the one in this package.
 
 The module calls the library libn2kdec.so.1: the file that the variable N2KDEC_LIBRARY names, or the one in this package,
-or the system's. It needs nothing else but Python 3.9.
+or the system's. It needs only that and Python 3.9 or newer.
 """
 from __future__ import annotations
 
@@ -51,7 +51,7 @@ class Message(TypedDict):
 
 
 class CanFrame(Protocol):
-    """What a decoder reads of a CAN frame: python-can's `can.Message` has it."""
+    """The members of a CAN frame that a decoder reads, as python-can's `can.Message` has them."""
 
     timestamp: float
     arbitration_id: int
@@ -73,11 +73,11 @@ _DONE, _ROOM, _WINDOW, _ENDED, _TABLE = 0, 1, 3, 7, 100
 
 
 class Error(Exception):
-    """A call that is refused. Its text is the program's fault line, as `n2kdec: table 3 Key`, or a sentence."""
+    """A refused call. Its text is the program's fault line, such as `n2kdec: table 3 Key`, or a sentence."""
 
     def __init__(self, text: str, status: Optional[int] = None) -> None:
         super().__init__(text, status)
-        #: The number that the library answers, where it is the one that refuses; n2kdec.h says what each means.
+        #: The library's status, if the library refused the call; n2kdec.h describes each.
         self.status = status
 
     def __str__(self) -> str:
@@ -85,11 +85,11 @@ class Error(Exception):
 
 
 class ArgumentError(Error, ValueError):
-    """A table, a state or a window that is refused."""
+    """A refused table, state or window."""
 
 
 class Counts(NamedTuple):
-    """The numbers of the program's summary, of all lines so far, those before a state too."""
+    """The counts of the program's summary for all lines so far, including those before a resumed state."""
 
     lines: int
     messages: int
@@ -278,7 +278,7 @@ class _Output:
 
 
 class Decoder:
-    """A decoder to feed: what it prints of all that it was fed is what `n2kdec decode` prints of the log.
+    """A decoder that you feed: for all bytes fed to it, it prints what `n2kdec decode` prints.
 
         with n2kdec.Decoder(in_order=True) as decoder:
             for message in decoder.decode(log):
@@ -286,21 +286,21 @@ class Decoder:
             print(decoder.counts)
             saved = decoder.save()
 
-    A decoder is used by the thread that made it: another gets RuntimeError. It is closed by `close`, at the end of a
-    `with`, or once nothing leads to it in that thread (in another one what it has stays behind, and a ResourceWarning
-    says so); what is asked of it then is refused by Error. It can't be copied: `save` it.
+    Only the thread that made a decoder may use it: other threads get RuntimeError. A decoder is closed by `close`, by the
+    end of a `with`, or when that thread drops its last reference. (If another thread drops it, its memory is not freed, and
+    a ResourceWarning says so.) A closed decoder raises Error. A decoder can't be copied: `save` it.
     """
 
     def __init__(self, table: Optional[Table] = None, *, state: Optional[Bytes] = None, window: int = 10_000, in_order: bool = False,
                  empty: bool = False, whole: bool = False) -> None:
-        """Reads a table, and begins a log, or goes on from a state.
+        """Reads a table, and begins a log or continues from a state.
 
-        `table` is the name of a file, or the bytes of a table; if it is missing, the one of this package. `state` is what `save` gave, or what `n2kdec decode
-        --save` wrote, under the same table, window and order. `window` is in lines, 32 to 1,000,000; it, `in_order`,
-        `empty` and `whole` are the options of `n2kdec decode`.
+        `table` is a file name or the bytes of a table; the default is the table in this package. `state` is what `save`
+        returned or `n2kdec decode --save` wrote, with the same table, window and order. `window` is 32 to 1,000,000 lines;
+        `window`, `in_order`, `empty` and `whole` are the options of `n2kdec decode`.
 
-        Raises ArgumentError where the table, the state or the window is refused, Error where memory is, and OSError
-        where the table's file can't be read or there is no library.
+        Raises ArgumentError if the table, the state or the window is refused, Error if memory is refused, and OSError if
+        the table's file can't be read or the library is missing.
         """
         self._thread = threading.get_ident()
         self._calls = _loaded()
@@ -352,13 +352,13 @@ class Decoder:
             pass
 
     def feed(self, data: Bytes) -> None:
-        """Takes bytes of the log, cut anywhere: lines are taken as they complete, and a line that is cut waits.
+        """Takes bytes of the log, cut anywhere. A line is decoded when it is complete; an unfinished line waits.
 
-        It waits whole, however long it is, so that what has no line feeds fills the memory. So does what is printed and
-        reported, until it is taken. After an interrupt, `received` shows whether these bytes were taken.
+        An unfinished line is kept whole, however long it is, so input without line feeds fills the memory. Messages and
+        reports occupy memory until you take them. After an interrupt, `received` shows whether these bytes were taken.
 
-        Raises Error if memory is refused or there are too many lines; the decoder is then closed, and what waited in it
-        is lost. Raises Error if the log has ended, which changes nothing.
+        Raises Error if memory is refused or there are too many lines; the decoder is then closed, and waiting lines and
+        messages are lost. Raises Error without a change if the log has ended.
         """
         piece = _bytes_of(data)
         self._check_not_ended()
@@ -367,7 +367,7 @@ class Decoder:
         self._feed_rest()
 
     def end(self) -> None:
-        """Ends the log: its last line is taken, though no line feed ends it. Raises Error as `feed` does."""
+        """Ends the log: its last line is decoded even without a line feed. Raises Error as `feed` does."""
         self._check_not_ended()
         self._feed_rest()
         self._ends.extend(map(self._calls.n2k_end, (self._handle,)))
@@ -380,7 +380,7 @@ class Decoder:
         self._printed.fill(self._handle)
 
     def take(self) -> bytes:
-        """The lines of JSON that were printed and not handed on yet, each with its line feed."""
+        """Returns the lines of JSON that were not returned yet, each with its line feed."""
         self._check_thread()
         self._feed_rest()
         self._collect()
@@ -394,7 +394,7 @@ class Decoder:
             raise
 
     def reports(self) -> list[str]:
-        """The reports that were not handed on yet: a line for each bad line, and for each message that broke off."""
+        """Returns the reports that were not returned yet: a line for each bad line, and for each message that ended incomplete."""
         self._collect()
         reports = list(self._reported.lines())
         before = self._reported.now
@@ -406,10 +406,10 @@ class Decoder:
             raise
 
     def messages(self, *, decimals: bool = False) -> list[Message]:
-        """The messages that were printed and not handed on yet, in order.
+        """Returns the messages that were not returned yet, in order.
 
-        A number with a point is a float, or with `decimals` a Decimal with just the digits that were printed. Whole
-        numbers are ints either way.
+        A number with a point is a float, or with `decimals` a Decimal with exactly the printed digits. Whole numbers are
+        always ints.
         """
         self._check_thread()
         self._feed_rest()
@@ -426,16 +426,16 @@ class Decoder:
 
     def decode(self, source: Optional[Source] = None, *, decimals: bool = False,
                on_report: Optional[Callable[[str], object]] = None) -> Iterator[Message]:
-        """Yields each message as soon as its last line has come, and ends the log when the source ends.
+        """Yields each message as soon as its last line is read, and ends the log when the source ends.
 
-        `source` is the name of a file, a binary stream that waits for what comes (a file, a pipe, a socket's
-        `makefile("rb")`), bytes, or anything that gives bytes or CAN frames (a `can.Bus`). After a `break`, or an exception in the loop's body, the
-        decoder keeps the messages that it has not yielded and the rest of a named file: they come first in the next
-        `decode`. Without a source, `decode` yields what the decoder kept and does not end the log. An interrupt
-        (KeyboardInterrupt) loses nothing either; the message that was on its way may come again.
-        `on_report` is called with each report, before the messages of the piece that it came with; without it reports
-        are dropped. `decimals` is that of `messages`. Raises Error as `feed` does, at once if the log has ended and there
-        is a source; raises what the source raises.
+        `source` is a file name, a blocking binary stream (a file, a pipe, a socket's `makefile("rb")`), bytes, or anything
+        that gives bytes or CAN frames (a `can.Bus`). After a `break`, or an exception in the loop's body, the decoder keeps
+        the messages that it has not yielded and the rest of a named file: they come first in the next `decode`. Without a
+        source, `decode` yields what the decoder kept and does not end the log. An interrupt (KeyboardInterrupt) loses
+        nothing; one message may come twice.
+        `on_report` is called with each report, before the messages of the same chunk; without it reports are dropped.
+        `decimals` is that of `messages`. Raises Error as `feed` does, at once if the log has ended and there is a source;
+        raises what the source raises.
         """
         return self._begun(source, decimals, on_report)
 
@@ -502,7 +502,7 @@ class Decoder:
 
     @property
     def counts(self) -> Counts:
-        """The counts of all lines that were taken."""
+        """The counts of all complete lines so far."""
         self._check_thread()
         counted = _Counted()
         _check(self._calls.n2k_counts(self._handle, counted))
@@ -510,7 +510,7 @@ class Decoder:
 
     @property
     def pending(self) -> int:
-        """How many bytes wait of a line that is cut: the last ones that were fed."""
+        """The number of bytes of an unfinished line: the last bytes that were fed."""
         self._check_thread()
         size = ctypes.c_size_t()
         _check(self._calls.n2k_waiting(self._handle, size))
@@ -518,7 +518,7 @@ class Decoder:
 
     @property
     def received(self) -> int:
-        """How many bytes of the log the decoder was given since it was made: what `feed` and `decode` took."""
+        """The number of bytes that `feed` and `decode` have taken since the decoder was made."""
         return self._input.received
 
     @property
@@ -527,10 +527,10 @@ class Decoder:
         return _DONE in self._ends
 
     def save(self) -> bytes:
-        """The state after the lines that were taken, for a later Decoder or `n2kdec decode --resume`.
+        """Returns the state after all complete lines, for a later Decoder or `n2kdec decode --resume`.
 
         The bytes that `pending` counts are not in the state: feed them again after it. Raises Error if a message was not
-        handed on, or if an interrupt left it unclear whether it was: the state counts it, so it would be lost.
+        returned yet, or if an interrupt left that unclear: the state counts the message, so it would be lost.
         """
         self._check_thread()
         room, size = ctypes.create_string_buffer(_PIECE), ctypes.c_size_t()
@@ -543,7 +543,7 @@ class Decoder:
         return ctypes.string_at(room, size.value)
 
     def close(self) -> None:
-        """Frees what the decoder has. Closing again does nothing."""
+        """Frees the decoder's memory. Closing it again does nothing."""
         self._check_thread()
         self._calls.n2k_close(self._handle)
         self._input = _input(self._input.received)
@@ -572,11 +572,11 @@ class Decoder:
 def decode(source: Source, *, table: Optional[Table] = None, state: Optional[Bytes] = None, window: int = 10_000, in_order: bool = False,
            empty: bool = False, whole: bool = False, decimals: bool = False,
            on_report: Optional[Callable[[str], object]] = None) -> Iterator[Message]:
-    """Yields each message of a log, as soon as its last line has come.
+    """Yields each message of a log as soon as its last line is read.
 
-    The arguments are those of Decoder and of its `decode`. The table is read, the log's file is opened, and errors of
-    both are raised before the first message is asked for. To go on after a `break` or an interrupt, or for the counts or
-    the state, make a Decoder. The thread that calls this also asks for the messages.
+    The arguments are those of Decoder and of its `decode`. The table is read and the log's file is opened at once, and
+    their errors are raised by this call. To continue after a `break` or an interrupt, or for the counts or the state, make
+    a Decoder. Iterate in the thread that makes this call.
     """
     decoder = Decoder(table, state=state, window=window, in_order=in_order, empty=empty, whole=whole)
     return decoder._begun(source, decimals, on_report, closes=True)

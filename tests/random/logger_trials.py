@@ -432,7 +432,7 @@ def short(program, room, chance):
         boat.received(log.lines[-1])
         logger.terminate()
         said = logger.communicate()[1]
-        removed, days = re.findall(r"n2k-logger: (\S+) is removed, as less than 1 MB were free\n", said), boat.days()
+        removed, days = re.findall(r"n2k-logger: removed (\S+): less than 1 MB were free\n", said), boat.days()
         summed = re.findall(r"n2k-logger: (\S+) lines", said)
         if logger.returncode or not removed or "disk full" in said or removed + days != summed:
             yield f"status {logger.returncode}, there are {days}, said: {said}"
