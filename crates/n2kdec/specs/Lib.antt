@@ -11,7 +11,6 @@ pub mod Inner
 pub mod Keeper
 pub mod Machine
 pub mod MemoryMachine
-pub mod Parser
 pub mod Reader
 pub mod Reason
 pub mod Replacement

@@ -1,7 +1,5 @@
 use crate::asked::Request;
-use crate::clap_parser::ClapParser;
 use crate::command_line::request;
-use crate::echo_parser::EchoParser;
 use crate::fault::{Fault, exit_status, fault_text, status};
 use crate::keeper::Unkept;
 use crate::machine::Outlets;
@@ -212,7 +210,7 @@ const ASKED: [(&[&str], &str); 12] = [
 #[test]
 fn words_name_a_command_and_its_files(rt: HostRuntime) -> Result<(), Fail> {
     for (given, command) in &ASKED {
-        let text = format!(in rt.alloc(); "{:?}", request(rt.alloc(), &ClapParser, given))?;
+        let text = format!(in rt.alloc(); "{:?}", request(rt.alloc(), given))?;
         assert_eq!(rt; text.as_str(), *command);
     }
     Ok(())
@@ -249,7 +247,7 @@ const REFUSED: [&[&str]; 25] = [
 #[test]
 fn other_words_are_refused(rt: HostRuntime) {
     for given in &REFUSED {
-        let answer = request(rt.alloc(), &ClapParser, given);
+        let answer = request(rt.alloc(), given);
         assert!(rt;
             matches!(&answer, Request::Refused(Fault::Words, Some(Ok(_)))),
             "{given:?}: {answer:?}"
@@ -266,32 +264,9 @@ const ASKING_FOR_HELP: [&[&str]; 3] = [
 #[test]
 fn help_is_no_fault(rt: HostRuntime) -> Result<(), Fail> {
     for given in &ASKING_FOR_HELP {
-        let text = format!(in rt.alloc(); "{:?}", request(rt.alloc(), &ClapParser, given))?;
+        let text = format!(in rt.alloc(); "{:?}", request(rt.alloc(), given))?;
         assert!(rt; text.as_str().starts_with("Help("));
         assert!(rt; text.as_str().contains("Usage: n2kdec"));
-    }
-    Ok(())
-}
-
-/// Over a parser that shows the words themselves: help, and what is said of refused words, is its text of these words.
-#[test]
-fn what_is_shown_is_of_these_words(rt: HostRuntime) -> Result<(), Fail> {
-    let alloc = rt.alloc();
-    let help = request(alloc, &EchoParser, &["n2kdec", "decode", "--help"]);
-    let text = format!(in alloc; "{help:?}")?;
-    assert_eq!(rt;
-        text.as_str(),
-        "Help(Word { text: \"n2kdecdecode--help\" })"
-    );
-    let window = ["n2kdec", "decode", "--table", "t", "--window", "31"];
-    for (given, said) in [
-        (["n2kdec", "print"].as_slice(), "n2kdecprint\n"),
-        (window.as_slice(), "error: a window is "),
-    ] {
-        let Request::Refused(_, Some(Ok(lines))) = request(alloc, &EchoParser, given) else {
-            return Err("they are refused".into());
-        };
-        assert!(rt; lines.starts_with(said.as_bytes()));
     }
     Ok(())
 }
@@ -305,7 +280,7 @@ const ASKING_FOR_THE_VERSION: [&[&str]; 3] = [
 #[test]
 fn the_version_is_no_fault(rt: HostRuntime) -> Result<(), Fail> {
     for given in &ASKING_FOR_THE_VERSION {
-        let text = format!(in rt.alloc(); "{:?}", request(rt.alloc(), &ClapParser, given))?;
+        let text = format!(in rt.alloc(); "{:?}", request(rt.alloc(), given))?;
         assert_eq!(rt; text.as_str(), "Help(Word { text: \"n2kdec 1.1.0\\n\" })");
     }
     Ok(())
@@ -315,12 +290,12 @@ fn the_version_is_no_fault(rt: HostRuntime) -> Result<(), Fail> {
 fn interfaces_are_judged(rt: HostRuntime) {
     for name in ["can0", "!", "fifteen-bytes-x"] {
         let given = ["n2kdec", "frames", "--table", "t", "--candump", name];
-        let answer = request(rt.alloc(), &ClapParser, &given);
+        let answer = request(rt.alloc(), &given);
         assert!(rt; matches!(answer, Request::Command(_)));
     }
     for name in ["", "can 0", "sixteen-bytes-xx", "can\u{7f}", "kan\u{e4}le"] {
         let given = ["n2kdec", "frames", "--table", "t", "--candump", name];
-        let answer = request(rt.alloc(), &ClapParser, &given);
+        let answer = request(rt.alloc(), &given);
         assert!(rt; matches!(answer, Request::Refused(Fault::Interface, None)));
     }
 }
@@ -452,7 +427,7 @@ const EXAMPLES: [Example; 6] = [
 /// The work of an example's words, over devices in memory.
 fn works<R: Abort + AllocGlobal>(rt: &R, table: &[u8], example: &Example) -> Result<(), Fail> {
     let alloc = rt.alloc();
-    let Request::Command(command) = request(alloc, &ClapParser, example.words) else {
+    let Request::Command(command) = request(alloc, example.words) else {
         return Err("a command was named".into());
     };
     let state = example.state.map(|text| text.as_bytes());
@@ -502,10 +477,7 @@ fn what_was_typed_is_run(rt: HostRuntime) -> Result<(), Fail> {
         errors: MemorySink::new(alloc, 100, 0),
         keeper: MemoryKeeper::new(alloc),
     };
-    assert_eq!(rt;
-        run(alloc, &ClapParser, &mut machine, &mut outlets).0,
-        ExitCode::SUCCESS
-    );
+    assert_eq!(rt; run(alloc, &mut machine, &mut outlets).0, ExitCode::SUCCESS);
     assert_eq!(rt; outlets.output.device.bytes(), EXAMPLES[2].text.as_bytes());
     let kept = format!(in alloc; "{:?}", outlets.keeper.kept)?;
     let expected = format!(in alloc; "Some([(\"s\", {:?})])", ONE_MESSAGE.as_bytes())?;
@@ -518,10 +490,7 @@ fn what_was_typed_is_run(rt: HostRuntime) -> Result<(), Fail> {
     );
     machine.calls = Some(Vec::new(alloc));
     machine.fails_at = 2;
-    assert_eq!(rt;
-        run(alloc, &ClapParser, &mut machine, &mut outlets).0,
-        ExitCode::from(3)
-    );
+    assert_eq!(rt; run(alloc, &mut machine, &mut outlets).0, ExitCode::from(3));
     assert!(rt; outlets.errors.bytes().ends_with(b"n2kdec: table file\n"));
     let calls = format!(in alloc; "{:?}", machine.calls)?;
     assert_eq!(rt;
@@ -602,7 +571,7 @@ fn with_memory_all_is_said(rt: HostRuntime) -> Result<(), Fail> {
             errors: MemorySink::new(alloc, 100, 0),
             keeper: MemoryKeeper::new(alloc),
         };
-        let (_, memory) = run(alloc, &ClapParser, &mut machine, &mut outlets);
+        let (_, memory) = run(alloc, &mut machine, &mut outlets);
         assert!(rt; memory.is_ok());
         assert_eq!(rt; outlets.errors.bytes(), said.as_bytes(), "{words:?}");
     }
