@@ -17,4 +17,3 @@ pub mod Replacement
 pub mod Told
 pub mod Usage
 pub mod Words
-pub mod Work

@@ -1,11 +1,12 @@
 use crate::asked::Request;
 use crate::command_line::request;
+use crate::commands::run_command;
+use crate::ending::Ending;
 use crate::fault::{Fault, exit_status, fault_text, status};
 use crate::keeper::Unkept;
 use crate::machine::Outlets;
 use crate::memory_machine::{MemoryKeeper, MemoryMachine, Telling};
 use crate::program::run;
-use crate::work::work;
 use n2k_join::{Counts, StateFault};
 use n2k_run::{MemorySink, MemorySource};
 use n2k_table::TableFault;
@@ -364,7 +365,7 @@ const EXAMPLES: [Example; 6] = [
         left: "",
     },
     Example {
-        words: &["n2kdec", "decode", "--table", "t"],
+        words: &["n2kdec", "decode", "--save", "s", "--table", "t"],
         state: None,
         log: COG_AND_SOG,
         text: "{\"timestamp\":\"2017-08-17T14:12:12.106Z\",\"prio\":2,\"src\":127,\"dst\":255,\"pgn\":129026,\
@@ -373,7 +374,7 @@ const EXAMPLES: [Example; 6] = [
         left: ONE_MESSAGE,
     },
     Example {
-        words: &["n2kdec", "decode", "--table", "t", "--empty"],
+        words: &["n2kdec", "decode", "--save", "s", "--table", "t", "--empty"],
         state: None,
         log: COG_AND_SOG,
         text: "{\"timestamp\":\"2017-08-17T14:12:12.106Z\",\"prio\":2,\"src\":127,\"dst\":255,\"pgn\":129026,\
@@ -383,7 +384,9 @@ const EXAMPLES: [Example; 6] = [
     },
     // two-sources-cut, after the second line
     Example {
-        words: &["n2kdec", "decode", "--table", "t", "--resume", "s"],
+        words: &[
+            "n2kdec", "decode", "--save", "s", "--table", "t", "--resume", "s",
+        ],
         state: Some(
             "{\"bad\":0,\"broken\":0,\"format\":1,\"groups\":[{\"dst\":255,\"first\":1,\"frames\":[[0,\
                 \"0ba39901414243\"]],\"pgn\":130820,\"seq\":0,\"src\":5},{\"dst\":255,\"first\":2,\
@@ -405,7 +408,7 @@ const EXAMPLES: [Example; 6] = [
     },
     // whole-among-frames, its last line
     Example {
-        words: &["n2kdec", "decode", "--table", "t", "--whole"],
+        words: &["n2kdec", "decode", "--save", "s", "--table", "t", "--whole"],
         state: None,
         log: "2020-01-01T00:00:00.000Z,7,130820,5,255,6,a3,99,01,41,42,43\n",
         text: "{\"timestamp\":\"2020-01-01T00:00:00.000Z\",\"prio\":7,\"src\":5,\"dst\":255,\"pgn\":130820,\
@@ -424,38 +427,35 @@ const EXAMPLES: [Example; 6] = [
     },
 ];
 
-/// The work of an example's words, over devices in memory.
-fn works<R: Abort + AllocGlobal>(rt: &R, table: &[u8], example: &Example) -> Result<(), Fail> {
+/// The command of an example's arguments, over devices in memory.
+fn performs<R: Abort + AllocGlobal>(rt: &R, table: &[u8], example: &Example) -> Result<(), Fail> {
     let alloc = rt.alloc();
     let Request::Command(command) = request(alloc, example.words) else {
         return Err("a command was named".into());
     };
     let state = example.state.map(|text| text.as_bytes());
     let mut log = MemorySource::new(example.log.as_bytes(), 100, 0);
-    let mut output = MemorySink::new(alloc, 100, 0);
-    let mut errors = MemorySink::new(alloc, 100, 0);
-    let answer = work(
-        alloc,
-        &command.task,
-        table,
-        state,
-        &mut log,
-        &mut output,
-        &mut errors,
-    );
-    let Ok(part) = answer else {
-        return Err("it stopped".into());
+    let mut outlets = Outlets {
+        output: MemorySink::new(alloc, 100, 0),
+        errors: MemorySink::new(alloc, 100, 0),
+        keeper: MemoryKeeper::new(alloc),
     };
-    assert_eq!(rt; output.bytes(), example.text.as_bytes());
-    assert_eq!(rt; errors.bytes(), b"".as_slice());
-    assert_eq!(rt; part.state.as_slice(), example.left.as_bytes());
+    let ended = run_command(alloc, &command.task, table, state, &mut log, &mut outlets);
+    assert!(rt; matches!(ended, Ok(Ending { status: 0, .. })));
+    assert_eq!(rt; outlets.output.bytes(), example.text.as_bytes());
+    let kept = format!(in alloc; "{:?}", outlets.keeper.kept)?;
+    let left = match example.left {
+        "" => format!(in alloc; "Some([])")?,
+        text => format!(in alloc; "Some([(\"s\", {:?})])", text.as_bytes())?,
+    };
+    assert_eq!(rt; kept.as_str(), left.as_str());
     Ok(())
 }
 
 #[test]
-fn words_are_worked(rt: HostRuntime) -> Result<(), Fail> {
+fn commands_are_performed(rt: HostRuntime) -> Result<(), Fail> {
     for example in &EXAMPLES {
-        works(&rt, TABLE.as_bytes(), example)?;
+        performs(&rt, TABLE.as_bytes(), example)?;
     }
     Ok(())
 }
