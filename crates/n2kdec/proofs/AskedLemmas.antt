@@ -1,8 +1,5 @@
 -- From what `clap` says of a parse to what the words ask for.
-use Rattle.std.proofs.Common.{arith, ◌≡◌, ◌⊎◌, ℕ, List, [], ◌∷◌, codes, true, Option, Some, None, Result, Ok, Err, IfErr, IfOk, IfSome, ap, subst, refl, inl, inr, ◌≢◌, Vec}
-use Rattle.std.specs.Borrow.{Bor}
-use Rattle.std.specs.List.{flat_map}
-use Rattle.std.proofs.lemmas.List.Folds.{flat_map-map}
+use Rattle.std.proofs.Common.{arith, ◌≡◌, ◌⊎◌, ℕ, List, [], ◌∷◌, codes, true, Option, Some, None, Result, Ok, Err, IfErr, IfOk, IfSome, ap, subst, sym, refl, inl, inr, ◌≢◌, ◌∙◌, Vec}
 use Rattle.clap.specs.Walk.{texts}
 use Rattle.clap.specs.Words.{App, FailsBy, HasKind, HasMatchesOf, IsAmong, Kinds, Row, Text, fault_of, is_simple, is_simple_and_free, kind_of, subcommand_of, takes}
 use Rattle.clap.specs.declared.error.Error.{Error}
@@ -18,10 +15,10 @@ use Rattle.n2kdec.specs.declared.asked.Request.TheVariants as to
 use Rattle.n2kdec.specs.declared.fault.Fault.{Fault}
 use Rattle.n2kdec.specs.declared.fault.Fault.TheVariants as fault
 use Rattle.n2kdec.specs.Usage.{program_app}
-use Rattle.n2kdec.specs.Asked.{HasLines, IsAsked}
+use Rattle.n2kdec.specs.declared.command_line.TheConstants.{NO_WINDOW}
+use Rattle.n2kdec.specs.Asked.{AreMatchesOf, HasLines, IsAsked, said_at}
 use Rattle.n2kdec.specs.Machine.{AsksFor, World}
 use Rattle.n2kdec.specs.Inner.Parse.{AnswersKind}
-use Rattle.n2kdec.specs.Parser.{AreMatchesOf, IsRefusal, Shown, no_window, said_at}
 use Rattle.n2kdec.specs.Words.{Names, command_of, named}
 
 -- the command is one of those whose matches and faults are known
@@ -56,65 +53,53 @@ pub taken_as_defined : (app : App) (words : List Text) (r : Result ArgMatches Er
     → IfErr r (λ e. takes program_app words ≡ true → kind_of e ≡ OutOfMemory)
 taken_as_defined app words r is passes = subst (λ a. IfErr r (λ e. takes a words ≡ true → kind_of e ≡ OutOfMemory)) is passes
 
--- what it shows is not known
-pub refused_as_defined : (words : List Text) (e : Error) (kind : ErrorKind) → kind ≡ kind_of e → HasKind (fault_of program_app words) e → IsRefusal (λ words. None) words kind None
-refused_as_defined words e kind is h = grind arith
-
--- ---- what is said of refused words
-
-said_at_fault : (kinds : Kinds) (kind : ErrorKind) (text : Option Text) → IsAmong kind kinds → said_at kinds text ≡ text
-said_at_fault kinds kind text among = grind arith
-
-said_of_words : (one other : Option Text) (lines : Option (Result (Vec ℕ Global) AllocError)) → one ≡ other → HasLines fault.Words one lines → HasLines fault.Words other lines
-said_of_words one other lines same said = subst (λ t. HasLines fault.Words t lines) same said
-
 -- ---- what is asked for
 
 -- what was typed asks for this
-module _ (shown : Shown) (w : World) (r : Request) where
-  pub typed_asks : (typed : List Text) → IfSome w.typed (λ known. typed ≡ known) → IsAsked shown r typed → AsksFor shown w r
+module _ (w : World) (r : Request) where
+  pub typed_asks : (typed : List Text) → IfSome w.typed (λ known. typed ≡ known) → IsAsked r typed → AsksFor w r
   typed_asks typed is asked = inl (typed, is, asked)
 
   -- memory was refused
-  pub memory_asks : r ≡ to.Refused (fault.Memory None) None → AsksFor shown w r
+  pub memory_asks : r ≡ to.Refused (fault.Memory None) None → AsksFor w r
   memory_asks is =
-      inl (elim w.typed as (λ k. (typed : List Text) × IfSome k (λ known. typed ≡ known) × IsAsked shown r typed) [ None ↦ ([], tt, grind arith) | Some typed ↦ (typed, refl, grind arith) ])
+      inl (elim w.typed as (λ k. (typed : List Text) × IfSome k (λ known. typed ≡ known) × IsAsked r typed) [ None ↦ ([], tt, grind arith) | Some typed ↦ (typed, refl, grind arith) ])
 
 pub ruleset asks = (typed_asks, memory_asks)
 
 -- they are no texts, or memory was refused
-pub refused_asks : (shown : Shown) (w : World) (f : Fault) → (f ≡ fault.Words) ⊎ (f ≡ fault.Memory None) → (f ≡ fault.Words → w.typed ≡ None) → AsksFor shown w (to.Refused f None)
-refused_asks shown w f (inl is) unknown = inr (unknown is, ap (λ f. to.Refused f None) is)
-refused_asks shown w f (inr is) unknown = memory_asks shown w (to.Refused f None) (ap (λ f. to.Refused f None) is)
+pub refused_asks : (w : World) (f : Fault) → (f ≡ fault.Words) ⊎ (f ≡ fault.Memory None) → (f ≡ fault.Words → w.typed ≡ None) → AsksFor w (to.Refused f None)
+refused_asks w f (inl is) unknown = inr (unknown is, ap (λ f. to.Refused f None) is)
+refused_asks w f (inr is) unknown = memory_asks w (to.Refused f None) (ap (λ f. to.Refused f None) is)
 
 -- the matches are those of the definition, so what is named in them is what the words name
-module _ (shown : Shown) (words : List Text) (rows : Option (Text × List Row)) (same : rows ≡ subcommand_of program_app words) (none : fault_of program_app words ≡ []) where
+module _ (words : List Text) (rows : Option (Text × List Row)) (same : rows ≡ subcommand_of program_app words) (none : fault_of program_app words ≡ []) where
   pub named_by_matches : (r : Result Command Fault) → Names (named rows) r → Names (command_of words) r
   unfolding command_of
   named_by_matches r names = subst (λ x. Names (named x) r) same names
 
-  pub asked_command : (c : Command) → Names (named rows) (Ok c) → IsAsked shown (to.Command c) words
+  pub asked_command : (c : Command) → Names (named rows) (Ok c) → IsAsked (to.Command c) words
   asked_command c names = (none, named_by_matches (Ok c) names)
 
-  pub asked_fault : (f : Fault) → f ≢ fault.Words → Names (named rows) (Err f) → IsAsked shown (to.Refused f None) words
+  pub asked_fault : (f : Fault) → f ≢ fault.Words → Names (named rows) (Err f) → IsAsked (to.Refused f None) words
   unfolding command_of
   asked_fault f other names = grind arith
 
-  pub asked_words : (lines : Option (Result (Vec ℕ Global) AllocError)) → Names (named rows) (Err fault.Words) → HasLines fault.Words (Some no_window) lines → IsAsked shown (to.Refused fault.Words lines) words
+  pub asked_words : (lines : Option (Result (Vec ℕ Global) AllocError)) → Names (named rows) (Err fault.Words) → HasLines fault.Words (Some NO_WINDOW.now) lines → IsAsked (to.Refused fault.Words lines) words
   unfolding command_of
   asked_words lines names said = grind arith
 
 -- the parse failed, by a kind among those of the definition, or for want of memory
-module _ (shown : Shown) (words : List Text) (kind : ErrorKind) (text : Option Text) where
-  pub asked_by_refusal : (r : Request) → IsRefusal shown words kind text → AnswersKind kind text r → IsAsked shown r words
+said_at_fault : (kinds : Kinds) (kind : ErrorKind) → IsAmong kind kinds → said_at kinds ≡ None
+said_at_fault kinds kind among = grind arith
+
+module _ (words : List Text) (e : Error) (kind : ErrorKind) (is : kind ≡ kind_of e) where
+  pub asked_by_refusal : (r : Request) → HasKind (fault_of program_app words) e → AnswersKind kind None r → IsAsked r words
   asked_by_refusal (to.Help help) fails answers = grind arith
   asked_by_refusal (to.Command command) fails answers = absurd answers
-  asked_by_refusal (to.Refused fault.Words lines) (inl memory) answers = absurd (answers.2 memory)
-  asked_by_refusal (to.Refused fault.Words lines) (inr (among, same)) answers = (inl (kind, among, answers.0, answers.1), grind (arith, said_at_fault))
+  asked_by_refusal (to.Refused fault.Words lines) (inl memory) answers = absurd (answers.2 (is ∙ memory))
+  asked_by_refusal (to.Refused fault.Words lines) (inr among) answers =
+      (inl (kind, subst (λ k. IsAmong k (fault_of program_app words)) (sym is) among, answers.0, answers.1),
+      subst (λ said. HasLines fault.Words said lines) (sym (said_at_fault (fault_of program_app words) (kind_of e) among)) answers.3)
   asked_by_refusal (to.Refused (fault.Memory read) lines) fails answers = answers
   asked_by_refusal (to.Refused _ lines) fails answers = absurd answers
-
--- ---- texts, one behind the other
-
-pub joined_texts : (words : List (Bor Text)) → flat_map (λ word. word) (texts words) ≡ flat_map (λ word. word.now) words
-joined_texts words = flat_map-map (λ word. word) (λ word. word.now) words

@@ -4,6 +4,5 @@ pub mod MachineLemmas
 pub mod Making
 pub mod Replacing
 pub mod Rows
-pub mod Tables
-pub mod WorkLemmas
+pub mod CommandLemmas
 pub mod WorkedFolders

@@ -1,10 +1,13 @@
 -- What words ask for: a text, or a command over files.
-use Rattle.std.specs.Prelude.{◌≡◌, ◌≢◌, ◌⊎◌, ℕ, List, [], Option, Some, None, Result, Ok, Err, IfOk, IfSome, Vec}
+use Rattle.std.specs.Prelude.{◌≡◌, ◌≢◌, ◌⊎◌, ◌++◌, ℕ, List, [], ◌∷◌, Option, Some, None, Result, Ok, Err, IfOk, IfSome}
+use Rattle.std.specs.Prelude.{Vec, codes, true}
+use Rattle.std.specs.Str.{trim_end}
 use Rattle.std.specs.declared.alloc.AllocError.{AllocError}
 use Rattle.std.specs.declared.alloc.Global.{Global}
-use Rattle.clap.specs.Words.{IsAmong, Text, fault_of}
+use Rattle.clap.specs.Words.{IsAmong, Kinds, Text, fault_of, subcommand_of, subcommand_rows_of}
 use Rattle.clap.specs.declared.error.kind.ErrorKind.{ErrorKind}
 use Rattle.clap.specs.declared.error.kind.ErrorKind.TheVariants.{DisplayHelp, DisplayVersion}
+use Rattle.clap.specs.declared.parser.matches.ArgMatches.{ArgMatches}
 use Rattle.n2kdec.specs.declared.asked.Command.{Command}
 use Rattle.n2kdec.specs.declared.asked.Request.{Request}
 use Rattle.n2kdec.specs.declared.asked.Request.TheVariants as to
@@ -12,7 +15,8 @@ use Rattle.n2kdec.specs.declared.asked.Task.{Task}
 use Rattle.n2kdec.specs.declared.asked.Task.TheVariants.{Decode}
 use Rattle.n2kdec.specs.declared.fault.Fault.{Fault}
 use Rattle.n2kdec.specs.declared.fault.Fault.TheVariants.{Interface, Memory, Words}
-use Rattle.n2kdec.specs.Parser.{AreLinesOf, Shown, said_of}
+use Rattle.n2kdec.specs.declared.command_line.TheConstants.{NO_WINDOW}
+use Rattle.n2kdec.specs.Escape.{escaped}
 use Rattle.n2kdec.specs.Usage.{program_app}
 use Rattle.n2kdec.specs.Words.{command_of, version_text}
 
@@ -20,6 +24,11 @@ use Rattle.n2kdec.specs.Words.{command_of, version_text}
 abbrev pub save_name : Task → Option Text
 save_name (Decode options save) = save
 save_name _ = None
+
+-- the arguments have no fault, and these are their matches
+abbrev pub AreMatchesOf : List Text → ArgMatches → Type 0
+AreMatchesOf words matches =
+    (fault_of program_app words ≡ []) × (subcommand_rows_of matches ≡ subcommand_of program_app words)
 
 -- `clap` has a fault at the words that is no request for help or for the version
 abbrev pub HasFault : List Text → Type 0
@@ -37,11 +46,22 @@ IsUnasked Interface words = Gives words (Err Interface)
 IsUnasked (Memory read) words = read ≡ None
 IsUnasked _ words = ⊥
 
--- the help that is shown of these words, or the version, where they ask for it
-abbrev pub IsHelp : Shown → Text → List Text → Type 0
-IsHelp shown text words =
-    (IsAmong DisplayHelp (fault_of program_app words) × IfSome (shown words) (λ help. text ≡ help))
+-- a text for arguments that ask for help, or the version if they ask for that
+abbrev pub IsHelp : Text → List Text → Type 0
+IsHelp text words =
+    IsAmong DisplayHelp (fault_of program_app words)
     ⊎ (IsAmong DisplayVersion (fault_of program_app words) × (text ≡ version_text))
+
+-- what is said of arguments that are refused although `clap` has no fault at them; otherwise `clap` says it
+abbrev pub said_at : Kinds → Option Text
+said_at [] = Some NO_WINDOW.now
+said_at (_ ∷ _) = None
+
+-- This is what is said, in whole lines, where it is known: the white space at its end is left out, and its control
+-- characters are escaped, but for line feeds.
+abbrev pub AreLinesOf : Option Text → List ℕ → Type 0
+AreLinesOf known lines =
+    (said : Text) × IfSome known (λ text. said ≡ trim_end text) × (lines ≡ escaped true said ++ codes "\n")
 
 -- Of refused words these lines are said, in which control characters are escaped, unless memory for them is refused; of
 -- other faults none.
@@ -50,9 +70,9 @@ HasLines Words known (Some lines) = IfOk lines (λ lines. AreLinesOf known lines
 HasLines Words known None = ⊥
 HasLines _ known lines = lines ≡ None
 
--- What these words ask for, as a parser shows them: a text, the command that they name, or a fault.
-abbrev pub IsAsked : Shown → Request → List Text → Type 0
-IsAsked shown (to.Help text) words = IsHelp shown text words
-IsAsked shown (to.Command command) words = Gives words (Ok command)
-IsAsked shown (to.Refused fault lines) words =
-    IsUnasked fault words × HasLines fault (said_of shown words) lines
+-- What these arguments ask for: a text, the command that they name, or a fault.
+abbrev pub IsAsked : Request → List Text → Type 0
+IsAsked (to.Help text) words = IsHelp text words
+IsAsked (to.Command command) words = Gives words (Ok command)
+IsAsked (to.Refused fault lines) words =
+    IsUnasked fault words × HasLines fault (said_at (fault_of program_app words)) lines

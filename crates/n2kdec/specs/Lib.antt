@@ -11,11 +11,9 @@ pub mod Inner
 pub mod Keeper
 pub mod Machine
 pub mod MemoryMachine
-pub mod Parser
 pub mod Reader
 pub mod Reason
 pub mod Replacement
 pub mod Told
 pub mod Usage
 pub mod Words
-pub mod Work

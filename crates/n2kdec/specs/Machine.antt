@@ -16,7 +16,6 @@ use Rattle.n2kdec.specs.FaultSentence.{IsSentence, SystemWords}
 use Rattle.n2kdec.specs.Keeper.{Admission}
 use Rattle.n2kdec.specs.Disk.{IsOfMemory}
 use Rattle.n2kdec.specs.Told.{Tells}
-use Rattle.n2kdec.specs.Parser.{Shown}
 use Rattle.n2kdec.specs.declared.asked.Request.{Request}
 use Rattle.n2kdec.specs.declared.asked.Request.TheVariants as to
 use Rattle.n2kdec.specs.declared.asked.Command.{Command}
@@ -251,9 +250,9 @@ DoesAsked w (to.Command command) before after result = RunsCommand w command bef
 DoesAsked w (to.Refused fault lines) before after result = (result ≡ Err fault) × (after ≡ before)
 
 -- what was typed asks for this; of words that are no texts nothing is said
-abbrev pub AsksFor : Shown → World → Request → Type 0
-AsksFor shown w request =
-    ((typed : List Text) × IfSome w.typed (λ known. typed ≡ known) × IsAsked shown request typed)
+abbrev pub AsksFor : World → Request → Type 0
+AsksFor w request =
+    ((typed : List Text) × IfSome w.typed (λ known. typed ≡ known) × IsAsked request typed)
     ⊎ ((w.typed ≡ None) × (request ≡ to.Refused Words None))
 
 -- this is whether standard error is a terminal
@@ -315,8 +314,8 @@ pub record RunsRequest (w : World) (words : SystemWords) (request : Request) (be
   pub concludes : Concludes w words request result done after status said
 
 -- The program: what was typed is done.
-pub record RunsTyped (shown : Shown) (w : World) (words : SystemWords) (before after : Outside) (status : ℕ)
+pub record RunsTyped (w : World) (words : SystemWords) (before after : Outside) (status : ℕ)
     (said : Result (Unit {0}) AllocError) : Type 0 where
   pub request : Request
-  pub asks : AsksFor shown w request
+  pub asks : AsksFor w request
   pub runs : RunsRequest w words request before after status said

@@ -102,7 +102,7 @@ pub enum Request {
     Help(Word),
     /// A command.
     Command(Command),
-    /// Words that ask for nothing that can be done, and what is said on a terminal of those that a parser has seen, in
-    /// whole lines; an error where memory for these is refused.
+    /// Arguments that ask for nothing that can be done, and what is said on a terminal of those that `clap` has seen, in
+    /// whole lines; an error if memory for these is refused.
     Refused(Fault, Option<Result<Vec<u8>, AllocError>>),
 }

@@ -1,14 +1,14 @@
-//! What the words of the command line ask for, by the matches of a parser.
-ghost use Rattle.std.specs.Prelude.{◌≡◌, true, false, IfOk, IfSome, MatchResult, None, codes, option_map};
+//! What the arguments of the command line ask for, by the matches of `clap`.
+ghost use Rattle.std.specs.Prelude.{◌≡◌, true, false, IfErr, IfOk, IfSome, MatchResult, None, codes, option_map};
 ghost use Rattle.std.specs.Char.{is_ascii_digit};
 ghost use Rattle.std.specs.List.{list_all};
 ghost use Rattle.clap.specs.Walk.{texts};
-ghost use Rattle.clap.specs.Words.{first_of, found_of, rows_of, subcommand_rows_of, takes};
+ghost use Rattle.clap.specs.Values.{kind_of};
+ghost use Rattle.clap.specs.Words.{HasKind, fault_of, first_of, found_of, rows_of, subcommand_rows_of, takes};
 ghost use Rattle.n2kdec.specs.declared.asked.Request.TheVariants.{Help, Refused};
 ghost use Rattle.n2kdec.specs.declared.fault.Fault.TheVariants.{Memory};
-ghost use Rattle.n2kdec.specs.Asked.{IsAsked};
+ghost use Rattle.n2kdec.specs.Asked.{AreLinesOf, AreMatchesOf, IsAsked};
 ghost use Rattle.n2kdec.specs.Inner.Parse.{AnswersKind};
-ghost use Rattle.n2kdec.specs.Parser.{AreLinesOf};
 ghost use Rattle.n2kdec.specs.Usage.{program_app};
 ghost use Rattle.n2kdec.specs.Words.{Names, NamesIn, command_of, decode_by, flag_of, frames_by, judged, lines_in};
 ghost use Rattle.n2kdec.specs.Words.{named, over, packing_of, plain_command, version_text, window_of};
@@ -16,11 +16,10 @@ ghost use Rattle.n2kdec.specs.Words.{named, over, packing_of, plain_command, ver
 use crate::asked::{Command, Files, Interface, Request, Task};
 use crate::escape::push_escaped;
 use crate::fault::Fault;
-use crate::parser::Parser;
-use crate::usage::VERSION;
+use crate::usage::{VERSION, program};
 use crate::words::Word;
-use clap::ArgMatches;
 use clap::error::ErrorKind;
+use clap::{ArgMatches, Error};
 use n2k_join::Window;
 use n2k_run::Options;
 use n2k_wire::Packing;
@@ -186,7 +185,7 @@ fn version(alloc: Global) -> Result<Word, AllocError>
     Word::new(alloc, text.as_str())
 }
 
-/// A text of the parser.
+/// A text of `clap`.
 fn shown_text<T: Display>(alloc: Global, shown: &T) -> Result<Word, AllocError>
     ensures { IfOk result (λ word. IfSome (T.output shown.now) (λ text. word ≡ text)) }
 {
@@ -194,7 +193,7 @@ fn shown_text<T: Display>(alloc: Global, shown: &T) -> Result<Word, AllocError>
     Word::new(alloc, text.as_str())
 }
 
-/// What is said of words that a parser takes: the value of `--window` is none.
+/// What is said of arguments that `clap` takes, if the value of `--window` is not a window.
 pub const NO_WINDOW: &str = "error: a window is a number of lines from 32 to 1000000
 
 For more information, try '--help'.";
@@ -220,8 +219,8 @@ fn help(text: Result<Word, AllocError>) -> Request
     }
 }
 
-/// What a parse that gave no matches comes to, by the kind of its error: a request for help, which gets the text that
-/// is shown, or for the version is no fault.
+/// What a parse without matches comes to, by the kind of its error. A request for help gets the text that is shown; it
+/// is not a fault, nor is a request for the version.
 fn help_of<T: Display>(alloc: Global, kind: ErrorKind, shown: &T) -> Request
     ensures answers { AnswersKind kind (T.output shown.now) result }
     ensures memory { kind ≡ ErrorKind.OutOfMemory → result ≡ Refused (Memory None) None }
@@ -234,21 +233,31 @@ fn help_of<T: Display>(alloc: Global, kind: ErrorKind, shown: &T) -> Request
     }
 }
 
-/// What the words of a command line ask for, the program's name first, as a parser reads them by the command's
-/// definition: `["n2kdec", "plain", "trip.log"]` gives `plain` with that log. `Help` where they ask for help, with the
-/// text that it shows of them, or for the version, with `n2kdec`, the version and an LF. An interface that is none is
-/// `Fault::Interface`; words that are refused for any other cause are `Fault::Words`, with what is said of them, or
-/// an error where memory for that is refused; want of memory is `Fault::Memory`.
-pub fn request<P: Parser>(alloc: Global, parser: &P, words: &[&str]) -> Request
-    ensures asked { IsAsked (P.shown parser.now) result (texts words.now) }
+/// The matches of arguments, by the command's definition.
+fn matches_of<'a>(alloc: Global, words: &'a [&'a str]) -> Result<ArgMatches<'a>, Error>
+    ensures matches { IfOk result (AreMatchesOf (texts words.now)) }
+    ensures kinds { IfErr result (HasKind (fault_of program_app (texts words.now))) }
+    ensures taken { IfErr result (λ error. takes program_app (texts words.now) ≡ true
+        → kind_of error ≡ ErrorKind.OutOfMemory) }
+{
+    program(alloc)?.try_get_matches_from(words)
+}
+
+/// What the arguments of a command line ask for, the program's name first, as `clap` reads them by the command's
+/// definition: `["n2kdec", "plain", "trip.log"]` gives `plain` with that log. If they ask for help or the version, `Help`
+/// has `clap`'s help text, or `n2kdec`, the version and an LF. An invalid interface is `Fault::Interface`; arguments that
+/// are refused for any other cause are `Fault::Words`, with what is said of them, or an error if memory for that is
+/// refused; want of memory is `Fault::Memory`.
+pub fn request(alloc: Global, words: &[&str]) -> Request
+    ensures asked { IsAsked result (texts words.now) }
     ensures taken { takes program_app (texts words.now) ≡ true → NamesIn (command_of (texts words.now)) result }
 {
-    match parser.parse(alloc, words) {
+    match matches_of(alloc, words) {
         Ok(matches) => match command_of(alloc, &matches) {
             Ok(command) => Request::Command(command),
             Err(Fault::Words) => Request::Refused(Fault::Words, Some(lines_of(alloc, &NO_WINDOW))),
             Err(fault) => Request::Refused(fault, None),
         },
-        Err(refusal) => help_of(alloc, refusal.kind, &refusal.text),
+        Err(error) => help_of(alloc, error.kind(), &error),
     }
 }

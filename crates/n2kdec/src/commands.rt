@@ -1,23 +1,28 @@
 //! A command over its devices: what is printed, what is saved, and the status of it.
-ghost use Rattle.std.specs.Prelude.{◌≡◌, IfErr, None, option_map};
+ghost use Rattle.std.specs.Prelude.{◌≡◌, IfErr, option_map};
 ghost use Rattle.std.specs.Result.{result_err};
 ghost use Rattle.n2k_run.specs.Runs.{seen};
 ghost use Rattle.n2kdec.specs.Asked.{save_name};
 ghost use Rattle.n2kdec.specs.Commands.{IsRefusal, Performs, Replaces, place, shelf};
 ghost use Rattle.n2kdec.specs.Told.{Tells};
-ghost use Rattle.n2kdec.specs.Inner.Closing.{ClosesPart, SumsUp};
+ghost use Rattle.n2kdec.specs.Inner.Closing.{ClosesPart, ClosesWhole, IsOfEnd, SumsUp};
 
-use crate::asked::Task;
+use crate::asked::{Task, name_of};
+use crate::difference::{Difference, difference_of};
 use crate::ending::{Ending, ending_of};
-use crate::fault::Fault;
+use crate::fault::{Fault, Reading, fault_of_run};
 use crate::keeper::{Keeper, Unkept};
 use crate::machine::Outlets;
-use crate::work::{Stop, work};
+use crate::words::Word;
 use n2k_join::Counts;
-use n2k_run::{Part, Sink, Source, write_summary};
-use std::alloc::Global;
+use n2k_run::{
+    Options, Part, PartFault, RunFault, Sink, Source, run_frames_counted, run_part,
+    run_plain_counted, write_summary,
+};
+use n2k_table::Table;
+use std::alloc::{AllocError, Global};
 
-/// Writes the summary of what a run has counted, and answers what these counts come to.
+/// Writes the summary of what a run has counted, and returns what these counts come to.
 fn sum_up<E: Sink>(counts: &Counts, errors: &mut E) -> Result<Ending, Fault>
     ensures { SumsUp (place (E.contents errors.old) (E.failed_calls errors.old))
         (place (E.contents errors.new) (E.failed_calls errors.new)) counts.now result }
@@ -26,62 +31,89 @@ fn sum_up<E: Sink>(counts: &Counts, errors: &mut E) -> Result<Ending, Fault>
     Ok(ending_of(counts))
 }
 
-/// Keeps the state of a part, where the command has a name for it.
-fn save<K: Keeper, E: Sink>(
-    task: &Task,
+/// Keeps the state of a part, if there is a name for it.
+fn keep<K: Keeper, E: Sink>(
+    save: &Option<Word>,
     part: &Part,
     keeper: &mut K,
     errors: &E,
 ) -> Result<(), Unkept>
-    ensures { Replaces (shelf (save_name task.now) (K.kept keeper.old)) (shelf (save_name task.now) (K.kept keeper.new))
+    ensures { Replaces (shelf save.now (K.kept keeper.old)) (shelf save.now (K.kept keeper.new))
         part.now.state.items (E.contents errors.now) (result_err result) }
 {
-    match task {
-        Task::Decode {
-            save: Some(name),
-            ..
-        } => keeper.keep(name.as_str(), &part.state, errors),
-        _ => Ok(()),
+    match save {
+        Some(name) => keeper.keep(name.as_str(), &part.state, errors),
+        None => Ok(()),
     }
 }
 
-/// What follows the work of a command. Where it stands after whole lines its state is kept, unless it stands at the limit
-/// of lines, and then it is summed up, also where the state can't be kept. Of two faults the first counts.
-fn close<K: Keeper, E: Sink>(
-    task: &Task,
-    ended: Result<Part, Stop>,
+/// What follows the run of a whole log, which counted so much.
+fn close_whole<E: Sink>(
+    counts: &Counts,
+    ended: Result<(), RunFault>,
+    errors: &mut E,
+) -> Result<Ending, Fault>
+    ensures closes { ClosesWhole (place (E.contents errors.old) (E.failed_calls errors.old))
+        (place (E.contents errors.new) (E.failed_calls errors.new)) counts.now ended result }
+    ensures begun { IfErr result (λ fault. IsRefusal fault → ⊥) }
+{
+    match ended {
+        Ok(()) => sum_up(counts, errors),
+        Err(fault) => Err(fault_of_run(fault, counts.lines)),
+    }
+}
+
+/// What a refused state was saved under; none if another fault ended the part, or none did. An error if memory to find it
+/// out is refused.
+fn of_end(
+    alloc: Global,
+    table: &Table,
+    options: &Options,
+    state: Option<&[u8]>,
+    ended: &Result<Part, PartFault>,
+) -> Result<Option<Difference>, AllocError>
+    ensures { IsOfEnd table.now.id options.now (option_map (λ bytes. bytes.now) state.entry) ended.now result }
+{
+    match ended {
+        Err(PartFault::State(fault)) => difference_of(alloc, table, options, state, *fault),
+        _ => Ok(None),
+    }
+}
+
+/// What follows the run of a part; `of` is what its state is of, if that is refused. After whole lines the state is kept,
+/// unless the limit of lines is reached, and then the part is summed up, also if the state can't be kept. Of two faults
+/// the first counts.
+fn close_part<K: Keeper, E: Sink>(
+    save: &Option<Word>,
+    ended: Result<Part, PartFault>,
+    of: Result<Option<Difference>, AllocError>,
     keeper: &mut K,
     errors: &mut E,
 ) -> Result<Ending, Fault>
-    ensures closes { ClosesPart (shelf (save_name task.now) (K.kept keeper.old))
-        (shelf (save_name task.now) (K.kept keeper.new))
+    ensures closes { ClosesPart of (shelf save.now (K.kept keeper.old)) (shelf save.now (K.kept keeper.new))
         (place (E.contents errors.old) (E.failed_calls errors.old))
         (place (E.contents errors.new) (E.failed_calls errors.new)) ended result }
-    ensures untouched { IfErr ended (λ stop. stop.part ≡ None → (keeper.new ≡ keeper.old) × (errors.new ≡ errors.old)) }
+    ensures untouched { IfErr result (λ fault. IsRefusal fault → (keeper.new ≡ keeper.old) × (errors.new ≡ errors.old)) }
 {
-    let stop = match ended {
+    match ended {
         Ok(part) => {
-            let saved = save(task, &part, keeper, errors);
+            let kept = keep(save, &part, keeper, errors);
             let summed = sum_up(&part.counts, errors);
-            saved.map_err(Fault::Save)?;
-            return summed;
+            kept.map_err(Fault::Save)?;
+            summed
         }
-        Err(stop) => stop,
-    };
-    let fault = stop.fault;
-    let Some(part) = stop.part else {
-        return Err(fault);
-    };
-    match fault {
-        Fault::Read(lines, why, _) => {
-            let unkept = save(task, &part, keeper, errors).err();
+        Err(PartFault::Stopped(RunFault::Read, part)) => {
+            let unkept = keep(save, &part, keeper, errors).err();
             let _ = sum_up(&part.counts, errors);
-            Err(Fault::Read(lines, why, unkept))
+            Err(Fault::Read(part.counts.lines, None, unkept))
         }
-        _ => {
+        Err(PartFault::Stopped(fault, part)) => {
             let _ = sum_up(&part.counts, errors);
-            Err(fault)
+            Err(fault_of_run(fault, part.counts.lines))
         }
+        Err(PartFault::State(fault)) => Err(Fault::State(fault, of)),
+        Err(PartFault::Run(fault)) => Err(fault_of_run(fault, 0)),
+        Err(PartFault::Memory) => Err(Fault::Memory(Some(Reading::Log))),
     }
 }
 
@@ -115,14 +147,36 @@ pub fn run_command<R: Source, W: Sink, E: Sink, K: Keeper>(
         → (log.new ≡ log.old) × (outlets.new.output ≡ outlets.old.output) × (outlets.new.errors ≡ outlets.old.errors)
         × (outlets.new.keeper ≡ outlets.old.keeper)) }
 {
-    let ended = work(
-        alloc,
-        task,
-        table,
-        state,
-        log,
-        &mut outlets.output,
-        &mut outlets.errors,
-    );
-    close(task, ended, &mut outlets.keeper, &mut outlets.errors)
+    let (output, errors) = (&mut outlets.output, &mut outlets.errors);
+    let mut counts = Counts::NONE;
+    match task {
+        Task::Plain => {
+            let ended = run_plain_counted(alloc, &mut counts, log, output, errors);
+            close_whole(&counts, ended, errors)
+        }
+        Task::Decode { options, save } => match Table::read(alloc, table) {
+            Ok(table) => {
+                let ended = run_part(alloc, &table, state, *options, log, output, errors);
+                let of = of_end(alloc, &table, options, state, &ended);
+                close_part(save, ended, of, &mut outlets.keeper, errors)
+            }
+            Err(fault) => Err(Fault::Table(fault)),
+        },
+        Task::Frames(interface) => match Table::read(alloc, table) {
+            Ok(table) => {
+                let name = name_of(interface);
+                let ended = run_frames_counted(
+                    alloc,
+                    &table,
+                    name,
+                    &mut counts,
+                    log,
+                    output,
+                    errors,
+                );
+                close_whole(&counts, ended, errors)
+            }
+            Err(fault) => Err(Fault::Table(fault)),
+        },
+    }
 }

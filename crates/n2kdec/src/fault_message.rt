@@ -10,7 +10,7 @@ use crate::machine::Machine;
 use n2k_run::{Sink, write_all};
 use std::alloc::{AllocError, Global};
 
-/// What is said on a terminal of a fault: of refused words what their parser shows, else the sentence of the fault.
+/// What is said on a terminal of a fault: of refused arguments what `clap` shows, else the sentence of the fault.
 fn told_of<M: Machine>(
     alloc: Global,
     machine: &M,

@@ -17,7 +17,6 @@ use crate::fault::{Fault, Reading, status, unopened, unread};
 use crate::fault_message::{write_fault, write_text};
 use crate::keeper::{Keeper, Unkept};
 use crate::machine::{Machine, Outlets};
-use crate::parser::Parser;
 use crate::words::Word;
 use n2k_run::{BytesFault, Sink, read_bytes, write_all};
 use std::alloc::{AllocError, Global};
@@ -40,12 +39,12 @@ fn texts_of(alloc: Global, words: &[String]) -> Result<Vec<&str>, AllocError>
 
 /// What was typed asks for this.
 #[tactic(auto, using(crate::proofs::AskedLemmas::asks))]
-fn typed_request<P: Parser, M: Machine>(alloc: Global, parser: &P, machine: &M) -> Request
-    ensures { AsksFor (P.shown parser.now) (M.world machine.now) result }
+fn typed_request<M: Machine>(alloc: Global, machine: &M) -> Request
+    ensures { AsksFor (M.world machine.now) result }
 {
     match machine.typed(alloc) {
         Ok(typed) => match texts_of(alloc, &typed) {
-            Ok(texts) => request(alloc, parser, &texts),
+            Ok(texts) => request(alloc, &texts),
             Err(_) => Request::Refused(Fault::Memory(None), None),
         },
         Err(fault) => Request::Refused(fault, None),
@@ -262,17 +261,16 @@ fn run_request<M: Machine, K: Keeper>(
 
 /// Does what was typed, and answers the status that the program ends with. An error beside it where memory for what is
 /// said of a fault is refused.
-pub fn run<P: Parser, M: Machine, K: Keeper>(
+pub fn run<M: Machine, K: Keeper>(
     alloc: Global,
-    parser: &P,
     machine: &mut M,
     outlets: &mut Outlets<M::Output, M::Errors, K>,
 ) -> (ExitCode, Result<(), AllocError>)
-    ensures { RunsTyped (P.shown parser.now) (M.world machine.old) M.words
+    ensures { RunsTyped (M.world machine.old) M.words
         (outside M.Output.Sink M.Errors.Sink K.Keeper (M.calls machine.old) outlets.old)
         (outside M.Output.Sink M.Errors.Sink K.Keeper (M.calls machine.new) outlets.new)
         (exit_status result.0) result.1 }
 {
-    let request = typed_request(alloc, parser, machine);
+    let request = typed_request(alloc, machine);
     run_request(alloc, machine, &request, outlets)
 }

@@ -1,13 +1,12 @@
 use crate::asked::Request;
-use crate::clap_parser::ClapParser;
 use crate::command_line::request;
-use crate::echo_parser::EchoParser;
+use crate::commands::run_command;
+use crate::ending::Ending;
 use crate::fault::{Fault, exit_status, fault_text, status};
 use crate::keeper::Unkept;
 use crate::machine::Outlets;
 use crate::memory_machine::{MemoryKeeper, MemoryMachine, Telling};
 use crate::program::run;
-use crate::work::work;
 use n2k_join::{Counts, StateFault};
 use n2k_run::{MemorySink, MemorySource};
 use n2k_table::TableFault;
@@ -212,7 +211,7 @@ const ASKED: [(&[&str], &str); 12] = [
 #[test]
 fn words_name_a_command_and_its_files(rt: HostRuntime) -> Result<(), Fail> {
     for (given, command) in &ASKED {
-        let text = format!(in rt.alloc(); "{:?}", request(rt.alloc(), &ClapParser, given))?;
+        let text = format!(in rt.alloc(); "{:?}", request(rt.alloc(), given))?;
         assert_eq!(rt; text.as_str(), *command);
     }
     Ok(())
@@ -249,7 +248,7 @@ const REFUSED: [&[&str]; 25] = [
 #[test]
 fn other_words_are_refused(rt: HostRuntime) {
     for given in &REFUSED {
-        let answer = request(rt.alloc(), &ClapParser, given);
+        let answer = request(rt.alloc(), given);
         assert!(rt;
             matches!(&answer, Request::Refused(Fault::Words, Some(Ok(_)))),
             "{given:?}: {answer:?}"
@@ -266,32 +265,9 @@ const ASKING_FOR_HELP: [&[&str]; 3] = [
 #[test]
 fn help_is_no_fault(rt: HostRuntime) -> Result<(), Fail> {
     for given in &ASKING_FOR_HELP {
-        let text = format!(in rt.alloc(); "{:?}", request(rt.alloc(), &ClapParser, given))?;
+        let text = format!(in rt.alloc(); "{:?}", request(rt.alloc(), given))?;
         assert!(rt; text.as_str().starts_with("Help("));
         assert!(rt; text.as_str().contains("Usage: n2kdec"));
-    }
-    Ok(())
-}
-
-/// Over a parser that shows the words themselves: help, and what is said of refused words, is its text of these words.
-#[test]
-fn what_is_shown_is_of_these_words(rt: HostRuntime) -> Result<(), Fail> {
-    let alloc = rt.alloc();
-    let help = request(alloc, &EchoParser, &["n2kdec", "decode", "--help"]);
-    let text = format!(in alloc; "{help:?}")?;
-    assert_eq!(rt;
-        text.as_str(),
-        "Help(Word { text: \"n2kdecdecode--help\" })"
-    );
-    let window = ["n2kdec", "decode", "--table", "t", "--window", "31"];
-    for (given, said) in [
-        (["n2kdec", "print"].as_slice(), "n2kdecprint\n"),
-        (window.as_slice(), "error: a window is "),
-    ] {
-        let Request::Refused(_, Some(Ok(lines))) = request(alloc, &EchoParser, given) else {
-            return Err("they are refused".into());
-        };
-        assert!(rt; lines.starts_with(said.as_bytes()));
     }
     Ok(())
 }
@@ -305,7 +281,7 @@ const ASKING_FOR_THE_VERSION: [&[&str]; 3] = [
 #[test]
 fn the_version_is_no_fault(rt: HostRuntime) -> Result<(), Fail> {
     for given in &ASKING_FOR_THE_VERSION {
-        let text = format!(in rt.alloc(); "{:?}", request(rt.alloc(), &ClapParser, given))?;
+        let text = format!(in rt.alloc(); "{:?}", request(rt.alloc(), given))?;
         assert_eq!(rt; text.as_str(), "Help(Word { text: \"n2kdec 1.1.0\\n\" })");
     }
     Ok(())
@@ -315,12 +291,12 @@ fn the_version_is_no_fault(rt: HostRuntime) -> Result<(), Fail> {
 fn interfaces_are_judged(rt: HostRuntime) {
     for name in ["can0", "!", "fifteen-bytes-x"] {
         let given = ["n2kdec", "frames", "--table", "t", "--candump", name];
-        let answer = request(rt.alloc(), &ClapParser, &given);
+        let answer = request(rt.alloc(), &given);
         assert!(rt; matches!(answer, Request::Command(_)));
     }
     for name in ["", "can 0", "sixteen-bytes-xx", "can\u{7f}", "kan\u{e4}le"] {
         let given = ["n2kdec", "frames", "--table", "t", "--candump", name];
-        let answer = request(rt.alloc(), &ClapParser, &given);
+        let answer = request(rt.alloc(), &given);
         assert!(rt; matches!(answer, Request::Refused(Fault::Interface, None)));
     }
 }
@@ -389,7 +365,7 @@ const EXAMPLES: [Example; 6] = [
         left: "",
     },
     Example {
-        words: &["n2kdec", "decode", "--table", "t"],
+        words: &["n2kdec", "decode", "--save", "s", "--table", "t"],
         state: None,
         log: COG_AND_SOG,
         text: "{\"timestamp\":\"2017-08-17T14:12:12.106Z\",\"prio\":2,\"src\":127,\"dst\":255,\"pgn\":129026,\
@@ -398,7 +374,7 @@ const EXAMPLES: [Example; 6] = [
         left: ONE_MESSAGE,
     },
     Example {
-        words: &["n2kdec", "decode", "--table", "t", "--empty"],
+        words: &["n2kdec", "decode", "--save", "s", "--table", "t", "--empty"],
         state: None,
         log: COG_AND_SOG,
         text: "{\"timestamp\":\"2017-08-17T14:12:12.106Z\",\"prio\":2,\"src\":127,\"dst\":255,\"pgn\":129026,\
@@ -408,7 +384,9 @@ const EXAMPLES: [Example; 6] = [
     },
     // two-sources-cut, after the second line
     Example {
-        words: &["n2kdec", "decode", "--table", "t", "--resume", "s"],
+        words: &[
+            "n2kdec", "decode", "--save", "s", "--table", "t", "--resume", "s",
+        ],
         state: Some(
             "{\"bad\":0,\"broken\":0,\"format\":1,\"groups\":[{\"dst\":255,\"first\":1,\"frames\":[[0,\
                 \"0ba39901414243\"]],\"pgn\":130820,\"seq\":0,\"src\":5},{\"dst\":255,\"first\":2,\
@@ -430,7 +408,7 @@ const EXAMPLES: [Example; 6] = [
     },
     // whole-among-frames, its last line
     Example {
-        words: &["n2kdec", "decode", "--table", "t", "--whole"],
+        words: &["n2kdec", "decode", "--save", "s", "--table", "t", "--whole"],
         state: None,
         log: "2020-01-01T00:00:00.000Z,7,130820,5,255,6,a3,99,01,41,42,43\n",
         text: "{\"timestamp\":\"2020-01-01T00:00:00.000Z\",\"prio\":7,\"src\":5,\"dst\":255,\"pgn\":130820,\
@@ -449,38 +427,35 @@ const EXAMPLES: [Example; 6] = [
     },
 ];
 
-/// The work of an example's words, over devices in memory.
-fn works<R: Abort + AllocGlobal>(rt: &R, table: &[u8], example: &Example) -> Result<(), Fail> {
+/// The command of an example's arguments, over devices in memory.
+fn performs<R: Abort + AllocGlobal>(rt: &R, table: &[u8], example: &Example) -> Result<(), Fail> {
     let alloc = rt.alloc();
-    let Request::Command(command) = request(alloc, &ClapParser, example.words) else {
+    let Request::Command(command) = request(alloc, example.words) else {
         return Err("a command was named".into());
     };
     let state = example.state.map(|text| text.as_bytes());
     let mut log = MemorySource::new(example.log.as_bytes(), 100, 0);
-    let mut output = MemorySink::new(alloc, 100, 0);
-    let mut errors = MemorySink::new(alloc, 100, 0);
-    let answer = work(
-        alloc,
-        &command.task,
-        table,
-        state,
-        &mut log,
-        &mut output,
-        &mut errors,
-    );
-    let Ok(part) = answer else {
-        return Err("it stopped".into());
+    let mut outlets = Outlets {
+        output: MemorySink::new(alloc, 100, 0),
+        errors: MemorySink::new(alloc, 100, 0),
+        keeper: MemoryKeeper::new(alloc),
     };
-    assert_eq!(rt; output.bytes(), example.text.as_bytes());
-    assert_eq!(rt; errors.bytes(), b"".as_slice());
-    assert_eq!(rt; part.state.as_slice(), example.left.as_bytes());
+    let ended = run_command(alloc, &command.task, table, state, &mut log, &mut outlets);
+    assert!(rt; matches!(ended, Ok(Ending { status: 0, .. })));
+    assert_eq!(rt; outlets.output.bytes(), example.text.as_bytes());
+    let kept = format!(in alloc; "{:?}", outlets.keeper.kept)?;
+    let left = match example.left {
+        "" => format!(in alloc; "Some([])")?,
+        text => format!(in alloc; "Some([(\"s\", {:?})])", text.as_bytes())?,
+    };
+    assert_eq!(rt; kept.as_str(), left.as_str());
     Ok(())
 }
 
 #[test]
-fn words_are_worked(rt: HostRuntime) -> Result<(), Fail> {
+fn commands_are_performed(rt: HostRuntime) -> Result<(), Fail> {
     for example in &EXAMPLES {
-        works(&rt, TABLE.as_bytes(), example)?;
+        performs(&rt, TABLE.as_bytes(), example)?;
     }
     Ok(())
 }
@@ -502,10 +477,7 @@ fn what_was_typed_is_run(rt: HostRuntime) -> Result<(), Fail> {
         errors: MemorySink::new(alloc, 100, 0),
         keeper: MemoryKeeper::new(alloc),
     };
-    assert_eq!(rt;
-        run(alloc, &ClapParser, &mut machine, &mut outlets).0,
-        ExitCode::SUCCESS
-    );
+    assert_eq!(rt; run(alloc, &mut machine, &mut outlets).0, ExitCode::SUCCESS);
     assert_eq!(rt; outlets.output.device.bytes(), EXAMPLES[2].text.as_bytes());
     let kept = format!(in alloc; "{:?}", outlets.keeper.kept)?;
     let expected = format!(in alloc; "Some([(\"s\", {:?})])", ONE_MESSAGE.as_bytes())?;
@@ -518,10 +490,7 @@ fn what_was_typed_is_run(rt: HostRuntime) -> Result<(), Fail> {
     );
     machine.calls = Some(Vec::new(alloc));
     machine.fails_at = 2;
-    assert_eq!(rt;
-        run(alloc, &ClapParser, &mut machine, &mut outlets).0,
-        ExitCode::from(3)
-    );
+    assert_eq!(rt; run(alloc, &mut machine, &mut outlets).0, ExitCode::from(3));
     assert!(rt; outlets.errors.bytes().ends_with(b"n2kdec: table file\n"));
     let calls = format!(in alloc; "{:?}", machine.calls)?;
     assert_eq!(rt;
@@ -602,7 +571,7 @@ fn with_memory_all_is_said(rt: HostRuntime) -> Result<(), Fail> {
             errors: MemorySink::new(alloc, 100, 0),
             keeper: MemoryKeeper::new(alloc),
         };
-        let (_, memory) = run(alloc, &ClapParser, &mut machine, &mut outlets);
+        let (_, memory) = run(alloc, &mut machine, &mut outlets);
         assert!(rt; memory.is_ok());
         assert_eq!(rt; outlets.errors.bytes(), said.as_bytes(), "{words:?}");
     }
