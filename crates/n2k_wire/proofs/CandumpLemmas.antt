@@ -13,6 +13,7 @@ use Rattle.n2k_wire.specs.Candump.{is_interface, is_interface_byte}
 use Rattle.n2k_wire.specs.declared.fault.WireFault.TheVariants.{NoStamp, NoId, Memory}
 use Rattle.n2k_wire.specs.Identifier.{join}
 use Rattle.n2k_wire.specs.Packet.{PacketParts}
+use Rattle.n2k_wire.specs.Inner.Digits.{AreDigitsOf}
 use Rattle.n2k_wire.specs.Inner.Stamp.{IsStampText, behind_millis, second_front}
 use Rattle.n2k_wire.specs.Stamp.{Moment, millis_digits, utc_moment}
 use Rattle.n2k_wire.specs.Texts.{Appends, candump_line, candump_parts, candump_text}
@@ -62,9 +63,9 @@ pub no_id : (interface begun : List ℕ) (p : PacketParts) (old new : List ℕ) 
 unfolding candump_parts
 no_id interface begun p old new (seen, found, is) none = rw (found, none) refl
 
-pub no_memory : (interface begun : List ℕ) (p : PacketParts) (identifier : ℕ) (old new : List ℕ) → IsStampText (utc_moment p.stamp) begun → join p.id ≡ Some identifier → Appends (candump_text interface p) (Err Memory) old new
+pub no_memory : (interface begun digits : List ℕ) (p : PacketParts) (old new : List ℕ) → IsStampText (utc_moment p.stamp) begun → AreDigitsOf p.id digits → Appends (candump_text interface p) (Err Memory) old new
 unfolding candump_parts
-no_memory interface begun p identifier old new (seen, found, is) joined = rw (found, joined) (tt, refl)
+no_memory interface begun digits p old new (seen, found, is) (identifier, joined, digits_is) = rw (found, joined) (tt, refl)
 
 -- the line of a moment, an identifier and data, by how it begins
 abbrev line_of : List ℕ → List ℕ → ℕ → List ℕ → List ℕ
@@ -76,9 +77,9 @@ unfolding candump_line
 line_is interface begun seen identifier payload is = rw is (simp append_assoc)
 
 -- A line that was written behind the text that was there, of which the room behind it is cut off, is the packet's.
-pub appended : (interface front millis behind : List ℕ) (p : PacketParts) (identifier : ℕ) (payload old room written rest cut : List ℕ) (at n all : ℕ)
-    → IsStampText (utc_moment p.stamp) (front ++ millis) → join p.id ≡ Some identifier → behind ≡ behind_millis interface → payload ≡ p.payload
-    → take n written ≡ take at room ++ (front ++ millis ++ behind ++ encode_upper (to_be_bytes w32 identifier) ++ codes "#" ++ encode_upper payload ++ codes "\n") → take at room ≡ old
+pub appended : (interface front millis behind digits : List ℕ) (p : PacketParts) (payload old room written rest cut : List ℕ) (at n all : ℕ)
+    → IsStampText (utc_moment p.stamp) (front ++ millis) → AreDigitsOf p.id digits → behind ≡ behind_millis interface → payload ≡ p.payload
+    → take n written ≡ take at room ++ (front ++ millis ++ behind ++ take 8 digits ++ codes "#" ++ encode_upper payload ++ codes "\n") → take at room ≡ old
     → cut ≡ take n (take all (written ++ rest)) → length written ≡ all → Appends (candump_text interface p) (Ok tt) old cut
 unfolding candump_parts
-appended interface front millis behind p identifier payload old room written rest cut at n all (seen, found, is) joined behind_is payload_is line before cut_is long = grind (arith, take_at, line_is)
+appended interface front millis behind digits p payload old room written rest cut at n all (seen, found, is) (identifier, joined, digits_is) behind_is payload_is line before cut_is long = grind (arith, take_at, line_is)

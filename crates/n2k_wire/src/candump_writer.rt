@@ -1,17 +1,18 @@
 //! Packets as candump lines, `(0000000010.300000) can0 1DFF0405#000BA39901414243`, written where they go as plain lines
-//! are. Most packets of a log share the second of the one before, so how its stamps and its lines begin is kept.
-ghost use Rattle.std.specs.Prelude.{◌≡◌, ◌+◌, ◌-◌, ◌*◌, ◌<◌, ◌≤◌, ◌++◌, [], codes, drop, length, take, IfSome, IfNone};
+//! are. Of the packet before these are kept: how its stamps and lines begin, and the digits of its identifier.
+ghost use Rattle.std.specs.Prelude.{◌≡◌, ◌+◌, ◌-◌, ◌*◌, ◌<◌, ◌≤◌, ◌++◌, [], codes, length, take, IfSome, IfNone, None, true, false};
 ghost use Rattle.std.specs.Prelude.{IsTrue, OnErr};
-ghost use Rattle.std.specs.Int.{w32, to_be_bytes};
 ghost use Rattle.hex.specs.Hex.{encode_upper};
 ghost use Rattle.n2k_wire.specs.Candump.{frame_payload, is_interface, longest_interface};
+ghost use Rattle.n2k_wire.specs.Identifier.{join};
+ghost use Rattle.n2k_wire.specs.Inner.Digits.{AreDigitsOf};
 ghost use Rattle.n2k_wire.specs.Inner.Stamp.{IsSecond, IsStampText, are_millis, behind_millis, second_front};
 ghost use Rattle.n2k_wire.specs.Stamp.{last_second, utc_moment};
 ghost use Rattle.n2k_wire.specs.Texts.{Appends, candump_text};
 
 use crate::candump::FRAME_PAYLOAD;
 use crate::fault::WireFault;
-use crate::identifier::join_id;
+use crate::identifier::{Id, join_id, split_id};
 use crate::packet::Packet;
 use crate::plain_writer::{append_room, put};
 use crate::stamp::read_utc;
@@ -23,9 +24,6 @@ const SECOND_LEN: usize = 20;
 
 /// The bytes behind them, `300Z`.
 const MILLIS_LEN: usize = 4;
-
-/// As many zeros as the seconds of a candump line have digits at least.
-const ZEROS: [u8; 10] = *b"0000000000";
 
 /// A short text and room behind it. It is copied with its room, since a copy of known length costs less.
 #[derive(Drop)]
@@ -45,14 +43,10 @@ impl Model for ShortText {
 }
 
 impl ShortText {
-    fn new() -> ShortText
-        ensures { result ≡ [] }
-    {
-        ShortText {
-            bytes: [0; 32],
-            len: 0,
-        }
-    }
+    const EMPTY: ShortText = ShortText {
+        bytes: [0; 32],
+        len: 0,
+    };
 
     fn push(&mut self, text: &[u8])
         requires { length self.old + length text.now ≤ 32 }
@@ -75,26 +69,17 @@ impl ShortText {
     }
 }
 
-/// The zeros in front of a number of so many digits, which fill it to ten digits.
-fn filling_zeros(digits: usize) -> &'static [u8]
-    ensures zeros { result.now ≡ drop digits (codes "0000000000") }
-    ensures len { length result.now ≡ 10 - digits }
-{
-    &ZEROS[digits.min(ZEROS.len())..]
-}
-
 /// How the lines of a second begin, `(0000000010.`.
-#[tactic(auto, using(crate::proofs::CandumpLemmas::seconds_short, crate::proofs::SharedSeconds::front_short, std::proofs::Common::append_assoc))]
+#[tactic(auto, using(crate::proofs::CandumpLemmas::seconds_short, std::proofs::Common::append_assoc))]
 fn second_front(seconds: u64) -> ShortText
     requires { seconds ≤ last_second }
-    ensures value { result ≡ second_front seconds }
-    ensures len { length result ≤ 14 }
+    ensures { result ≡ second_front seconds }
 {
     let mut buffer = itoa::Buffer::new();
     let digits = buffer.format(seconds).as_bytes();
-    let mut front = ShortText::new();
+    let mut front = ShortText::EMPTY;
     front.push(b"(");
-    front.push(filling_zeros(digits.len()));
+    front.push(&b"0000000000"[digits.len().min(10)..]);
     front.push(digits);
     front.push(b".");
     front
@@ -106,7 +91,7 @@ fn behind_millis(interface: &[u8]) -> ShortText
     requires { length interface.now ≤ longest_interface }
     ensures { result ≡ behind_millis interface.now }
 {
-    let mut behind = ShortText::new();
+    let mut behind = ShortText::EMPTY;
     behind.push(b"000) ");
     behind.push(interface);
     behind.push(b" ");
@@ -171,11 +156,16 @@ pub struct CandumpLines<'a> {
     /// What stands behind the milliseconds.
     behind: ShortText,
     second: WrittenSecond,
+    /// The identifier of the packet before.
+    id: Id,
+    /// And its digits.
+    digits: [u8; 8],
 }
 
 impl<'a> Model for CandumpLines<'a> {
     ghost use Rattle.std.specs.Prelude.{◌≡◌, List, ℕ, IsTrue};
     ghost use Rattle.n2k_wire.specs.Candump.{is_interface};
+    ghost use Rattle.n2k_wire.specs.Inner.Digits.{AreDigitsOf};
     ghost use Rattle.n2k_wire.specs.Inner.Stamp.{IsSecond, behind_millis};
 
     ghost Value = { List ℕ };
@@ -183,7 +173,7 @@ impl<'a> Model for CandumpLines<'a> {
     ghost view = { λ l. l.interface.now };
 
     ghost invariant = { λ l. IsTrue (is_interface l.interface.now) × (l.behind ≡ behind_millis l.interface.now)
-        × IsSecond l.second.stamp l.second.line };
+        × IsSecond l.second.stamp l.second.line × AreDigitsOf l.id l.digits };
 }
 
 /// Writes bytes as digits in upper case at a place of a text, and answers the place behind them. `hex` writes lower
@@ -203,6 +193,24 @@ fn put_upper(text: &mut [u8], at: usize, bytes: &[u8]) -> usize
     end
 }
 
+/// Goes on to an identifier and its digits, if there is one. Mostly it is that of the packet before.
+#[inline(always)]
+fn advance_id(id: Id, kept: &mut Id, digits: &mut [u8; 8]) -> bool
+    requires { AreDigitsOf kept.old digits.old }
+    ensures kept { AreDigitsOf kept.new digits.new }
+    ensures some { result ≡ true → AreDigitsOf id digits.new }
+    ensures none { result ≡ false → join id ≡ None }
+{
+    if id != *kept {
+        let Some(identifier) = join_id(&id) else {
+            return false;
+        };
+        put_upper(digits, 0, &identifier.to_be_bytes());
+        *kept = id;
+    }
+    true
+}
+
 /// Writes the data and the LF at a place of the text, and answers the place behind them. Most frames have eight bytes,
 /// and those cost less at a known length.
 fn put_data(text: &mut [u8], at: usize, payload: &[u8]) -> usize
@@ -216,45 +224,38 @@ fn put_data(text: &mut [u8], at: usize, payload: &[u8]) -> usize
     put(text, end, b"\n", 1)
 }
 
-/// A candump line in parts.
-#[derive(Clone, Copy)]
-struct LineParts<'a> {
-    /// What stands before the milliseconds.
-    front: &'a ShortText,
-    millis: &'a [u8; MILLIS_LEN],
-    /// What stands between the milliseconds and the identifier.
-    behind: &'a ShortText,
-    identifier: u32,
-    payload: &'a [u8],
-}
-
 /// Writes a line at a place of the text, and answers the place behind it.
 #[tactic(auto, using(std::proofs::Common::append_assoc))]
 #[inline(always)]
-fn write_line(text: &mut [u8], at: usize, parts: LineParts<'_>) -> usize
+fn write_line(
+    text: &mut [u8],
+    at: usize,
+    front: &ShortText,
+    millis: &[u8; MILLIS_LEN],
+    behind: &ShortText,
+    digits: &[u8; 8],
+    payload: &[u8],
+) -> usize
     requires room { at + 85 ≤ length text.old }
-    requires front { length parts.front.now ≤ 14 }
-    requires behind { length parts.behind.now ≤ 21 }
-    requires short { length parts.payload.now ≤ frame_payload }
-    ensures { let line = parts.entry in
-        take result text.new ≡ take at text.old ++ (line.front.now ++ take 3 line.millis.now ++ line.behind.now
-        ++ encode_upper (to_be_bytes w32 line.identifier) ++ codes "#" ++ encode_upper line.payload.now ++ codes "\n") }
+    requires front { length front.now ≤ 14 }
+    requires behind { length behind.now ≤ 21 }
+    requires short { length payload.now ≤ frame_payload }
+    ensures { take result text.new ≡ take at text.old ++ (front.now ++ take 3 millis.now ++ behind.now
+        ++ take 8 digits.now ++ codes "#" ++ encode_upper payload.now ++ codes "\n") }
 {
-    let at = parts.front.put(text, at);
-    let at = put(text, at, parts.millis, 3);
-    let at = parts.behind.put(text, at);
-    let at = put_upper(text, at, &parts.identifier.to_be_bytes());
+    let at = front.put(text, at);
+    let at = put(text, at, millis, 3);
+    let at = behind.put(text, at);
+    let at = put(text, at, digits, 8);
     let at = put(text, at, b"#", 1);
-    put_data(text, at, parts.payload)
+    put_data(text, at, payload)
 }
 
 impl<'a> CandumpLines<'a> {
     /// Lines at an interface of 1 to 15 bytes from `!` to `~`; `is_interface` is the test.
     ///
     /// ```rust
-    /// let id = split_id(0x18EA_FF01);
-    /// let stamp = "1970-01-01T00:00:10.300Z".as_bytes();
-    /// let packet = Packet::new(stamp, id, &[0x14, 0xf0, 0x01]).ok_or("a packet")?;
+    /// let packet = frame_in("(10.3) can0 18EAFF01#14F001")?;
     /// assert!(rt; is_interface(b"can0"));
     /// let mut lines = CandumpLines::new("can0");
     /// let mut text = Vec::new(alloc);
@@ -272,6 +273,8 @@ impl<'a> CandumpLines<'a> {
             interface,
             behind: behind_millis(interface.as_bytes()),
             second: WrittenSecond::new(),
+            id: split_id(0),
+            digits: [b'0'; 8],
         }
     }
 
@@ -280,9 +283,7 @@ impl<'a> CandumpLines<'a> {
     /// not come.
     ///
     /// ```rust
-    /// let id = split_id(0x18EA_FF01);
-    /// let stamp = "1970-01-01T00:00:10.300Z".as_bytes();
-    /// let packet = Packet::new(stamp, id, &[0x14, 0xf0, 0x01]).ok_or("a packet")?;
+    /// let packet = frame_in("(10.3) can0 18EAFF01#14F001")?;
     /// assert!(rt; is_interface(b"can0"));
     /// let mut lines = CandumpLines::new("can0");
     /// let mut text = Vec::new(alloc);
@@ -306,19 +307,20 @@ impl<'a> CandumpLines<'a> {
         let Some(millis) = self.second.advance_to(packet.stamp()) else {
             return Err(WireFault::NoStamp);
         };
-        let Some(identifier) = join_id(&packet.id()) else {
+        if !advance_id(packet.id(), &mut self.id, &mut self.digits) {
             return Err(WireFault::NoId);
-        };
+        }
         let start = out.len();
         append_room(FRAME_PAYLOAD, out).map_err(|_| WireFault::Memory)?;
-        let parts = LineParts {
-            front: &self.second.line,
+        let end = write_line(
+            out.as_mut_slice(),
+            start,
+            &self.second.line,
             millis,
-            behind: &self.behind,
-            identifier,
-            payload: packet.data(),
-        };
-        let end = write_line(out.as_mut_slice(), start, parts);
+            &self.behind,
+            &self.digits,
+            packet.data(),
+        );
         out.truncate(end);
         Ok(())
     }
@@ -330,9 +332,7 @@ impl<'a> CandumpLines<'a> {
 /// `NoId` where `join_id` has no identifier for it. `out` is as it was where the answer is a fault.
 ///
 /// ```rust
-/// let id = split_id(0x18EA_FF01);
-/// let stamp = "1970-01-01T00:00:10.300Z".as_bytes();
-/// let packet = Packet::new(stamp, id, &[0x14, 0xf0, 0x01]).ok_or("a packet")?;
+/// let packet = frame_in("(10.3) can0 18EAFF01#14F001")?;
 /// assert!(rt; is_interface(b"can0"));
 /// let mut text = Vec::new(alloc);
 /// candump_text(alloc, &packet, "can0", &mut text)?;

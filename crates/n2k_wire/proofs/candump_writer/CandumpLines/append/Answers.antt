@@ -1,26 +1,22 @@
-use Rattle.std.proofs.Common.{◌≡◌, length, take, Some, None, Err, rules, ap, ◌∙◌}
+use Rattle.std.proofs.Common.{◌≡◌, length, take, Err, refl, rules, ap, ◌∙◌}
 use Rattle.n2k_wire.specs.declared.fault.WireFault.TheVariants.{Memory}
-use Rattle.n2k_wire.specs.Identifier.{join}
 use Rattle.n2k_wire.specs.Inner.Stamp.{behind_millis}
 use Rattle.n2k_wire.proofs.CandumpLemmas.{appended, no_id, no_memory}
 use Rattle.n2k_wire.proofs.candump_writer.CandumpLines.append.Goals as goal
 
-pub returns-in_default-join_id-clause-text : goal.returns-in_default-join_id-clause-text
-returns-in_default-join_id-clause-text c =
-    let none : join c.args.packet.now.id ≡ None = search rules in
-    no_id c.args.self.now _ c.args.packet.now _ _ (rw c.stamp.ensures.value at c.in-Some.ensures.some) none
+pub returns-then-not-advance_id-clause-text : goal.returns-then-not-advance_id-clause-text
+returns-then-not-advance_id-clause-text c =
+    no_id c.args.self.now _ c.args.packet.now _ _ (rw c.stamp.ensures.value at c.in-Some.ensures.some) (rw c.id.ensures.value at (c.if-not-advance_id.ensures.none refl))
 
 pub returns-in_err-map_err-clause-text : goal.returns-in_err-map_err-clause-text
 returns-in_err-map_err-clause-text c =
-    let joined : join c.args.packet.now.id ≡ Some c.in-Some-join_id.identifier = search rules in
     let is : c.from_residual.result ≡ Err Memory = search rules in
-    rw is (no_memory c.args.self.now _ c.args.packet.now _ _ _ (rw c.stamp.ensures.value at c.in-Some.ensures.some) joined)
+    rw is (no_memory c.args.self.now _ c.advance_id.new.digits c.args.packet.now _ _ (rw c.stamp.ensures.value at c.in-Some.ensures.some) (rw c.id.ensures.value at (c.if-not-advance_id.ensures.some refl)))
 
 pub returns-clause-text : goal.returns-clause-text
 returns-clause-text c =
-    let joined : join c.args.packet.now.id ≡ Some c.in-Some-join_id.identifier = search rules in
     let behind : c.self.inside.behind ≡ behind_millis c.args.self.now = c.self.invariant.1 ∙ ap behind_millis c.self.view_is in
     let before : take c.len-start.result c.as_mut_slice.result.now ≡ c.args.out.now.items = search rules in
     let long : length c.write_line-end.new.text ≡ c.append_room.new.out.len = search rules in
-    appended c.args.self.now c.advance_to.new.self.line (take 3 c.in-Some.millis.now) c.self.inside.behind c.args.packet.now c.in-Some-join_id.identifier c.data.result.now _ _ c.write_line-end.new.text _ _ _ _ _
-    (rw c.stamp.ensures.value at c.in-Some.ensures.some) joined behind c.data.ensures.value c.write_line-end.ensures before c.truncate.ensures.items long
+    appended c.args.self.now c.advance_to.new.self.line (take 3 c.in-Some.millis.now) c.self.inside.behind c.advance_id.new.digits c.args.packet.now c.data.result.now _ _ c.write_line-end.new.text _ _ _ _ _
+    (rw c.stamp.ensures.value at c.in-Some.ensures.some) (rw c.id.ensures.value at (c.if-not-advance_id.ensures.some refl)) behind c.data.ensures.value c.write_line-end.ensures before c.truncate.ensures.items long

@@ -26,7 +26,7 @@ returns-clause-second c =
     let front = first_chunk 20 c.args.stamp.now c.in_ok-front.front.now c.in_ok-front.behind.now parts.0 parts.1 parts.2 in
     let behind = c.in_ok-behind.ensures.cases in
     let found = c.in_ok-seen.ensures in
-    rw c.second_front-self.ensures.value (turned c.args.stamp.now c.in_ok-front.front.now c.in_ok-behind.behind.now (plain_moment c.in_ok-seen.seen) (front.1 ∙ ap (λ t. c.in_ok-front.front.now ++ t) (sym behind.same)) front.0 (ap length behind.same ∙ behind.long) found.value found.range.seconds_fit).0
+    rw c.second_front-self.ensures (turned c.args.stamp.now c.in_ok-front.front.now c.in_ok-behind.behind.now (plain_moment c.in_ok-seen.seen) (front.1 ∙ ap (λ t. c.in_ok-front.front.now ++ t) (sym behind.same)) front.0 (ap length behind.same ∙ behind.long) found.value found.range.seconds_fit).0
 
 pub returns-clause-some : goal.returns-clause-some
 returns-clause-some c =
@@ -34,4 +34,4 @@ returns-clause-some c =
     let front = first_chunk 20 c.args.stamp.now c.in_ok-front.front.now c.in_ok-front.behind.now parts.0 parts.1 parts.2 in
     let behind = c.in_ok-behind.ensures.cases in
     let found = c.in_ok-seen.ensures in
-    rw c.second_front-self.ensures.value (turned c.args.stamp.now c.in_ok-front.front.now c.in_ok-behind.behind.now (plain_moment c.in_ok-seen.seen) (front.1 ∙ ap (λ t. c.in_ok-front.front.now ++ t) (sym behind.same)) front.0 (ap length behind.same ∙ behind.long) found.value found.range.seconds_fit).1
+    rw c.second_front-self.ensures (turned c.args.stamp.now c.in_ok-front.front.now c.in_ok-behind.behind.now (plain_moment c.in_ok-seen.seen) (front.1 ∙ ap (λ t. c.in_ok-front.front.now ++ t) (sym behind.same)) front.0 (ap length behind.same ∙ behind.long) found.value found.range.seconds_fit).1
