@@ -1,4 +1,9 @@
+pub mod Firsts
+pub mod Fronts
 pub mod Near
+pub mod NoObjects
 pub mod Pieces
+pub mod Places
 pub mod Requests
 pub mod Scaling
+pub mod Units

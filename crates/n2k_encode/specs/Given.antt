@@ -1,12 +1,15 @@
 -- The fields that a line gives.
-use Rattle.std.specs.Prelude.{ℕ, Bool, true, false, ◌&&◌, ◌||◌, List, Option, Some, None, if◌then◌else◌}
+use Rattle.std.specs.Prelude.{ℕ, Bool, true, false, ◌&&◌, ◌||◌, List, Option, Some, None, is_some, is_none, option_map, if◌then◌else◌}
 use Rattle.std.specs.List.{list_any}
 use Rattle.std.specs.Str.{bytes_eq}
 use Rattle.json.specs.Json.{Json, null, boolean, number, string, array, object, Items, no_items, item, Members, no_members, member}
-use Rattle.json.specs.Find.{get, is_null}
-use Rattle.n2k_table.specs.Definition.{list_name}
+use Rattle.json.specs.Find.{get, is_null, as_object}
+use Rattle.n2k_table.specs.Definition.{DefinitionParts, list_name}
 use Rattle.n2k_table.specs.Field.{FieldParts}
 use Rattle.n2k_table.specs.Fields.{has_name}
+use Rattle.n2k_table.specs.Repeat.{RepeatParts}
+use Rattle.n2k_encode.specs.Refusal.{CauseParts, field, value}
+use Rattle.n2k_encode.specs.Steps.{first_of}
 
 -- `null` is the same as nothing
 abbrev pub if_any : Option Json → Option Json
@@ -21,27 +24,27 @@ given name fields = if_any (get name fields)
 abbrev pub is_name : List FieldParts → Bool → List ℕ → Bool
 is_name fields has_list name = list_any (has_name name) fields || (has_list && bytes_eq name list_name)
 
--- the name of each member that is given passes
-abbrev pub members_pass : (List ℕ → Bool) → Members → Bool
-members_pass p no_members = true
-members_pass p (member k j ms) = (is_null j || p k) && members_pass p ms
+-- the members of an object, and none of another value
+abbrev pub members_in : Option Members → Members
+members_in None = no_members
+members_in (Some ms) = ms
 
-abbrev pub names_pass : (List ℕ → Bool) → Json → Bool
-names_pass p null = true
-names_pass p (boolean b) = true
-names_pass p (number s) = true
-names_pass p (string s) = true
-names_pass p (array js) = true
-names_pass p (object ms) = members_pass p ms
+-- the name of the first member that is given and does not pass
+abbrev pub first_failing : (List ℕ → Bool) → Members → Option (List ℕ)
+first_failing p no_members = None
+first_failing p (member k j ms) = if is_null j || p k then first_failing p ms else Some k
+
+abbrev pub first_unknown : (List ℕ → Bool) → Json → Option (List ℕ)
+first_unknown p j = first_failing p (members_in (as_object j))
 
 -- each name that is given is one of these
 abbrev pub names_known : List FieldParts → Bool → Json → Bool
-names_known fields has_list j = names_pass (is_name fields has_list) j
+names_known fields has_list j = is_none (first_unknown (is_name fields has_list) j)
 
--- each of these sets has no other names than those of its fields
-abbrev pub set_names_known : List FieldParts → Items → Bool
-set_names_known fields no_items = true
-set_names_known fields (item j js) = names_known fields false j && set_names_known fields js
+-- the first name in these sets that no field of a set has
+abbrev pub first_in_sets : List FieldParts → Items → Option (List ℕ)
+first_in_sets fields no_items = None
+first_in_sets fields (item j js) = first_of (first_unknown (is_name fields false) j) (first_in_sets fields js)
 
 -- the sets, none if no list is given
 abbrev pub sets_of : Option Json → Option Items
@@ -55,3 +58,22 @@ sets_of (Some (object ms)) = None
 
 abbrev pub given_sets : Json → Option Items
 given_sets fields = sets_of (given list_name fields)
+
+abbrev pub are_objects : Items → Bool
+are_objects no_items = true
+are_objects (item j js) = is_some (as_object j) && are_objects js
+
+-- What is wrong with the names that are given, those of the definition first, and then those of its sets. What stands at
+-- `list` has to be an array of objects.
+abbrev pub wrong_in_sets : List FieldParts → Option Items → Option CauseParts
+wrong_in_sets fields None = Some (value list_name)
+wrong_in_sets fields (Some js) =
+    first_of (option_map field (first_in_sets fields js)) (if are_objects js then None else Some (value list_name))
+
+abbrev pub wrong_sets : Option RepeatParts → Json → Option CauseParts
+wrong_sets None fields = None
+wrong_sets (Some r) fields = wrong_in_sets r.fields (given_sets fields)
+
+abbrev pub wrong_names : DefinitionParts → Json → Option CauseParts
+wrong_names d fields =
+    first_of (option_map field (first_unknown (is_name d.fields (is_some d.repeat)) fields)) (wrong_sets d.repeat fields)

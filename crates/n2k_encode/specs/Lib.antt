@@ -1,9 +1,12 @@
 pub mod Encoded
 pub mod Given
 pub mod Numeral
+pub mod Place
 pub mod Reading
 pub mod Refusal
 pub mod Request
 pub mod Says
 pub mod Steps
+pub mod Texts
+pub mod Value
 pub mod Views

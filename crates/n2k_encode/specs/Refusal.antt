@@ -1,7 +1,35 @@
--- The numbers of refusals, and the names that they carry.
-use Rattle.std.specs.Prelude.{ℕ, List, []}
+-- Why a line cannot be encoded: the causes with their numbers, and the names that they carry.
+use Rattle.std.specs.Prelude.{ℕ, Bool, true, false, List, [], ⊤}
+use Rattle.n2k_encode.specs.declared.refusal.EncodeError.{EncodeError}
+use Rattle.n2k_encode.specs.declared.refusal.EncodeError.TheVariants.{Memory, Refused}
 use Rattle.n2k_encode.specs.declared.refusal.Refusal.{Refusal}
 use Rattle.n2k_encode.specs.declared.refusal.Refusal.TheVariants.{Long, Json, Member, Unknown, Address, Description, Field, Value, Size, Data}
+
+-- a cause, with the name of the field from B16 on, except B9
+pub data CauseParts : Type 0 where
+  long : CauseParts
+  not_json : CauseParts
+  member : CauseParts
+  unknown : CauseParts
+  address : CauseParts
+  description : CauseParts
+  field : List ℕ → CauseParts
+  value : List ℕ → CauseParts
+  size : CauseParts
+  none_shows : List ℕ → CauseParts
+
+-- the cause that the code answers
+abbrev pub cause : Refusal → CauseParts
+cause Long = long
+cause Json = not_json
+cause Member = member
+cause Unknown = unknown
+cause Address = address
+cause Description = description
+cause (Field name) = field name.now
+cause (Value name) = value name.now
+cause Size = size
+cause (Data name) = none_shows name.now
 
 abbrev pub number_of : Refusal → ℕ
 number_of Long = 1
@@ -26,3 +54,21 @@ name_of (Field name) = name.now
 name_of (Value name) = name.now
 name_of Size = []
 name_of (Data name) = name.now
+
+-- Causes that come after all names are known: a value, the size, or that no data show all that is given.
+abbrev pub is_late : CauseParts → Bool
+is_late long = false
+is_late not_json = false
+is_late member = false
+is_late unknown = false
+is_late address = false
+is_late description = false
+is_late (field name) = false
+is_late (value name) = true
+is_late size = true
+is_late (none_shows name) = true
+
+-- what holds of the cause, where memory was not refused
+abbrev pub IfRefused : EncodeError → (CauseParts → Type 0) → Type 0
+IfRefused Memory holds = ⊤
+IfRefused (Refused refusal) holds = holds (cause refusal)

@@ -9,6 +9,7 @@ use Rattle.n2k_wire.specs.declared.identifier.Id.{Id}
 use Rattle.n2k_wire.specs.Packet.{is_stamp}
 use Rattle.n2k_wire.specs.Steps.{some_if}
 use Rattle.n2k_encode.specs.Numeral.{is_negative, digits_of, scaled, multiples}
+use Rattle.n2k_encode.specs.Refusal.{CauseParts, not_json, member as bad_member}
 use Rattle.n2k_encode.specs.Steps.{◌>>=◌}
 
 -- what a line asks for: its timestamp, who sends what to whom, the description if it gives one, and the object `fields`
@@ -109,6 +110,10 @@ unfoldable pub fields_of : Json → Option Json
 fields_of j = do
   d ← get (codes "fields") j
   some_if (is_object d) d
+
+-- why a value asks for nothing
+abbrev pub no_request : Json → CauseParts
+no_request j = if is_object j then bad_member else not_json
 
 -- what the object of a line asks for
 unfoldable pub request : Json → Option RequestParts

@@ -1,5 +1,7 @@
 -- Steps that may find nothing, one after another.
 use Rattle.std.specs.Prelude.{◌≡◌, Bool, Option, Some, None, Result, Ok, Err}
+use Rattle.n2k_encode.specs.declared.refusal.Refusal.{Refusal}
+use Rattle.n2k_encode.specs.Refusal.{CauseParts, cause}
 
 infixl 10 ◌>>=◌
 abbrev pub ◌>>=◌ : {A B : Type 0} → Option A → (A → Option B) → Option B
@@ -15,3 +17,13 @@ is_some_with p (Some x) = p x
 abbrev pub Yields : {X Y E : Type 0} → (X → Y) → Result X E → Option Y → Type 0
 Yields view (Ok x) said = said ≡ Some (view x)
 Yields view (Err cause) said = said ≡ None
+
+-- the first of two that is there
+abbrev pub first_of : {A : Type 0} → Option A → Option A → Option A
+first_of None other = other
+first_of (Some x) other = Some x
+
+-- the cause of a refusal
+abbrev pub refusal_in : {A : Type 0} → Result A Refusal → Option CauseParts
+refusal_in (Ok x) = None
+refusal_in (Err refusal) = Some (cause refusal)

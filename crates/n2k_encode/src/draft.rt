@@ -1,11 +1,15 @@
 //! The data of a message by a definition, before it is asked whether they read back.
-ghost use Rattle.std.specs.Prelude.{◌≤◌, length};
+ghost use Rattle.std.specs.Prelude.{◌≡◌, ◌≤◌, true, IfErr, IfSome};
+ghost use Rattle.n2k_encode.specs.Refusal.{cause, is_late, IfRefused};
 
-use crate::given::{Layer, coded, given_sets};
+use crate::coded::{Coded, Layer, coded_fields};
+use crate::given::given_sets;
 use crate::place::{MOST_DATA, end_of, has_code, put_bytes, put_code};
-use crate::value::Code;
+use crate::refusal::{EncodeError, Refusal};
+use crate::value::{Code, Style};
 use json::Value;
-use n2k_table::{Coding, Definition, Field, Kind, Repeat};
+use n2k_table::{Coding, Definition, Kind, Repeat};
+use std::alloc::Global;
 
 /// Data, and where they may end.
 #[derive(Drop)]
@@ -17,39 +21,35 @@ pub(crate) struct Draft {
     pub(crate) whole: usize,
 }
 
-/// Whether a field is a string.
-fn is_string(field: &Field) -> bool {
-    matches!(field.coding(), Coding::String(_))
+/// The most bytes of a message of a kind.
+pub(crate) fn most_data(kind: Kind) -> usize {
+    match kind {
+        Kind::Single => 8,
+        Kind::Fast => MOST_DATA,
+    }
 }
 
 /// Sets the fields of one layer. A string is set in the first layer too, since others are placed by it.
-fn put_layer(nearest: bool, layer: Layer, fields: &[Field], object: &Value<'_>, data: &mut [u8])
-    requires { length «data».old ≤ 223 }
-{
-    for field in fields {
-        let (own, code) = coded(nearest, field, object);
-        if own == layer || layer == Layer::Reserved && is_string(field) {
-            put_code(field, &code, data);
+fn put_layer(layer: Layer, fields: &[Coded<'_>], data: &mut [u8; MOST_DATA]) {
+    for coded in fields {
+        let is_string = matches!(coded.field.coding(), Coding::String(_));
+        if coded.layer == layer || layer == Layer::Reserved && is_string {
+            put_code(coded.field, &coded.code, data);
         }
     }
 }
 
-/// Sets all fields.
-fn put_fields(nearest: bool, fields: &[Field], object: &Value<'_>, data: &mut [u8])
-    requires { length «data».old ≤ 223 }
-{
-    put_layer(nearest, Layer::Reserved, fields, object, data);
-    put_layer(nearest, Layer::Asked, fields, object, data);
-    put_layer(nearest, Layer::Given, fields, object, data);
+/// Sets all fields: those that are not given, over them those that ask for a value, and over all those that are given.
+fn put_all(fields: &[Coded<'_>], data: &mut [u8; MOST_DATA]) {
+    put_layer(Layer::Reserved, fields, data);
+    put_layer(Layer::Asked, fields, data);
+    put_layer(Layer::Given, fields, data);
 }
 
 /// Whether each given field has its code in the data, so that no two of them disagree about a bit.
-fn agree(nearest: bool, fields: &[Field], object: &Value<'_>, data: &[u8]) -> bool
-    requires { length «data».now ≤ 223 }
-{
-    for field in fields {
-        let (layer, code) = coded(nearest, field, object);
-        if layer == Layer::Given && !has_code(field, &code, data) {
+fn agree(fields: &[Coded<'_>], data: &[u8; MOST_DATA]) -> bool {
+    for coded in fields {
+        if coded.layer == Layer::Given && !has_code(coded.field, &coded.code, data) {
             return false;
         }
     }
@@ -57,22 +57,13 @@ fn agree(nearest: bool, fields: &[Field], object: &Value<'_>, data: &[u8]) -> bo
 }
 
 /// The byte after the last field of these that counts. `None` if the place of one that is given is not known.
-fn end_of_all(
-    nearest: bool,
-    all: bool,
-    fields: &[Field],
-    object: &Value<'_>,
-    data: &[u8],
-) -> Option<usize>
-    requires { length «data».now ≤ 223 }
-{
+fn end_of_all(all: bool, fields: &[Coded<'_>], data: &[u8; MOST_DATA]) -> Option<usize> {
     let mut end = 0;
-    for field in fields {
-        let (layer, code) = coded(nearest, field, object);
-        if all || layer != Layer::Reserved {
-            match end_of(field, &code, data) {
+    for coded in fields {
+        if all || coded.layer != Layer::Reserved {
+            match end_of(coded.field, &coded.code, data) {
                 Some(own) => end = own.max(end),
-                None if layer == Layer::Reserved => {}
+                None if coded.layer == Layer::Reserved => {}
                 None => return None,
             }
         }
@@ -80,99 +71,144 @@ fn end_of_all(
     Some(end)
 }
 
+/// Whether a field of bytes is given fewer of them than its width.
+fn is_cut(coded: &Coded<'_>) -> bool {
+    match &coded.code {
+        Code::Bytes(bytes) => {
+            coded.layer == Layer::Given && bytes.len() < coded.field.bits() as usize / 8
+        }
+        Code::Bits(_) => false,
+    }
+}
+
 /// The end of the first field that is given fewer bytes than its width.
-fn short_end(nearest: bool, fields: &[Field], object: &Value<'_>, data: &[u8]) -> Option<usize>
-    requires { length «data».now ≤ 223 }
-{
-    for field in fields {
-        if field.is_short() && !is_string(field) {
-            if let (Layer::Given, Code::Bytes(bytes)) = coded(nearest, field, object) {
-                if bytes.len() < field.bits() as usize / 8 {
-                    return end_of(field, &Code::Bytes(bytes), data);
-                }
-            }
+fn short_end(fields: &[Coded<'_>], data: &[u8; MOST_DATA]) -> Option<usize> {
+    for coded in fields {
+        if is_cut(coded) {
+            return end_of(coded.field, &coded.code, data);
         }
     }
     None
 }
 
+/// Where sets end, if they fit, and whether in each of them no two given fields disagree about a bit.
+#[derive(Clone, Copy)]
+struct Sets {
+    end: Option<usize>,
+    agree: bool,
+}
+
 /// Appends a set to the data at a byte, and gives the byte after it. `None` if the set has no end, or does not fit.
-fn put_set(
-    nearest: bool,
+fn append_set(
     repeat: &Repeat,
-    set: &Value<'_>,
+    room: &[u8; MOST_DATA],
     at: usize,
-    data: &mut [u8],
+    data: &mut [u8; MOST_DATA],
 ) -> Option<usize>
-    requires { length «data».old ≤ 223 }
+    ensures { IfSome result (λ end. end ≤ 223) }
 {
-    let mut room = [0xff; MOST_DATA];
-    put_fields(nearest, repeat.fields(), set, &mut room);
-    if !agree(nearest, repeat.fields(), set, &room) {
-        return None;
-    }
-    let (bytes, _) = repeat.split_set(&room)?;
+    let (bytes, _) = repeat.split_set(room.as_slice())?;
     let end = at.checked_add(bytes.len())?;
-    if end > data.len() {
+    if end > MOST_DATA {
         return None;
     }
     put_bytes(data, at, bytes);
     Some(end)
 }
 
-/// Appends sets to the data, and gives the byte after the last.
-fn put_sets(nearest: bool, repeat: &Repeat, sets: &[Value<'_>], data: &mut [u8]) -> Option<usize>
-    requires { length «data».old ≤ 223 }
+/// Appends sets to the data, those that fit.
+fn put_sets<'t>(
+    alloc: Global,
+    style: Style,
+    repeat: &'t Repeat,
+    sets: &[Value<'_>],
+    data: &mut [u8; MOST_DATA],
+) -> Result<Sets, EncodeError<'t>>
+    ensures { IfErr result (λ error. IfRefused error (λ c. is_late c ≡ true)) }
 {
-    if sets.is_empty() {
-        return Some(0);
-    }
-    let mut end = data.len().checked_sub(repeat.from_first(data).len())?;
+    let mut all = Sets {
+        end: data
+            .len()
+            .checked_sub(repeat.from_first(data.as_slice()).len()),
+        agree: true,
+    };
     for set in sets {
-        end = put_set(nearest, repeat, set, end, data)?;
+        let fields = coded_fields(alloc, style, repeat.fields(), set)?;
+        let mut room = [0xff; MOST_DATA];
+        put_all(&fields, &mut room);
+        all.agree = all.agree && agree(&fields, &room);
+        if let Some(at) = all.end {
+            all.end = append_set(repeat, &room, at, data);
+        }
     }
-    Some(end)
+    Ok(all)
 }
 
-/// Whether the data of a draft are too long, or two given fields disagree.
-#[derive(Clone, Copy)]
-pub(crate) enum DraftError {
-    Size,
-    Disagree,
+/// Appends the sets that a line gives.
+fn put_repeat<'t>(
+    alloc: Global,
+    style: Style,
+    repeat: Option<&'t Repeat>,
+    object: &Value<'_>,
+    data: &mut [u8; MOST_DATA],
+) -> Result<Sets, EncodeError<'t>>
+    ensures { IfErr result (λ error. IfRefused error (λ c. is_late c ≡ true)) }
+{
+    if let (Some(repeat), Some(sets)) = (repeat, given_sets(object)) {
+        if !sets.is_empty() {
+            return put_sets(alloc, style, repeat, sets, data);
+        }
+    }
+    Ok(Sets {
+        end: Some(0),
+        agree: true,
+    })
+}
+
+/// The name of the first field of a definition, if it has one.
+pub(crate) fn first_name<'t>(definition: &Definition<'t>) -> &'t str {
+    match definition.own_fields().first() {
+        Some(field) => field.name(),
+        None => "",
+    }
+}
+
+/// The greatest of three ends, if all are known.
+fn last_of(own: Option<usize>, sets: Option<usize>) -> Option<usize> {
+    Some(own?.max(sets?))
 }
 
 /// The data by a definition, for what a line gives.
-pub(crate) fn draft_of(
-    nearest: bool,
-    definition: &Definition<'_>,
+pub(crate) fn draft_of<'t>(
+    alloc: Global,
+    style: Style,
+    definition: &Definition<'t>,
     kind: Kind,
     object: &Value<'_>,
-) -> Result<Draft, DraftError> {
-    let fields = definition.own_fields();
+) -> Result<Draft, EncodeError<'t>>
+    ensures { IfErr result (λ error. IfRefused error (λ c. is_late c ≡ true)) }
+{
     let mut data = [0xff; MOST_DATA];
-    put_fields(nearest, fields, object, &mut data);
-    let needed = end_of_all(nearest, false, fields, object, &data).ok_or(DraftError::Size)?;
-    let last = end_of_all(nearest, true, fields, object, &data).ok_or(DraftError::Size)?;
-    let short = short_end(nearest, fields, object, &data);
-    let agrees = agree(nearest, fields, object, &data);
-    let end_of_sets = match definition.repeated() {
-        None => 0,
-        Some(repeat) => {
-            let sets = given_sets(object).ok_or(DraftError::Size)?;
-            put_sets(nearest, repeat, sets, &mut data).ok_or(DraftError::Size)?
-        }
+    let fields = coded_fields(alloc, style, definition.own_fields(), object)?;
+    put_all(&fields, &mut data);
+    let needed = end_of_all(false, &fields, &data);
+    let last = end_of_all(true, &fields, &data);
+    let short = short_end(&fields, &data);
+    let agrees = agree(&fields, &data);
+    let sets = put_repeat(alloc, style, definition.repeated(), object, &mut data)?;
+    let (Some(needed), Some(last)) = (last_of(needed, sets.end), last_of(last, sets.end)) else {
+        return Err(EncodeError::Refused(Refusal::Size));
     };
-    let needed = needed.max(end_of_sets);
     if needed > most_data(kind) {
-        return Err(DraftError::Size);
+        return Err(EncodeError::Refused(Refusal::Size));
     }
-    if !agrees {
-        return Err(DraftError::Disagree);
+    if !agrees || !sets.agree {
+        return Err(EncodeError::Refused(Refusal::Data(first_name(definition))));
     }
     let whole = match (short, kind) {
         (Some(end), _) => end,
         (None, Kind::Single) => 8,
-        (None, Kind::Fast) => last.max(end_of_sets),
+        (None, Kind::Fast) => last,
     };
     Ok(Draft {
         data,
@@ -181,10 +217,27 @@ pub(crate) fn draft_of(
     })
 }
 
-/// The most bytes of a message of a kind.
-pub(crate) fn most_data(kind: Kind) -> usize {
-    match kind {
-        Kind::Single => 8,
-        Kind::Fast => MOST_DATA,
+/// The data by a definition, for what a line gives. If they are too long, strings have their shortest encodings.
+pub(crate) fn shorter_draft<'t>(
+    alloc: Global,
+    nearest: bool,
+    definition: &Definition<'t>,
+    kind: Kind,
+    object: &Value<'_>,
+) -> Result<Draft, EncodeError<'t>>
+    ensures { IfErr result (λ error. IfRefused error (λ c. is_late c ≡ true)) }
+{
+    let style = Style {
+        nearest,
+        shortest: false,
+    };
+    match draft_of(alloc, style, definition, kind, object) {
+        Err(EncodeError::Refused(Refusal::Size)) => {}
+        other => return other,
     }
+    let shortest = Style {
+        nearest,
+        shortest: true,
+    };
+    draft_of(alloc, shortest, definition, kind, object)
 }

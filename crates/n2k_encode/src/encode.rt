@@ -1,14 +1,16 @@
 //! A line of JSON as a message.
-ghost use Rattle.std.specs.Prelude.{◌≡◌, ◌<◌, true, codes, length, option_map, None, Err, IfOk, IfSome};
-ghost use Rattle.std.specs.Str.{bytes_eq};
+ghost use Rattle.std.specs.Prelude.{◌≡◌, ◌<◌, ◌≤◌, true, filter, find, length, option_map, is_some, None, Err, IfErr, IfOk, IfSome};
 ghost use Rattle.json.specs.Value.{value_view};
-ghost use Rattle.n2k_table.specs.Table.{choice};
-ghost use Rattle.n2k_encode.specs.Encoded.{longest_request, is_meant, reads_as, reads_by, reads_unmatched, IsEncoded, IsEncodedLine, IsObjectOf};
-ghost use Rattle.n2k_encode.specs.Steps.{is_some_with};
+ghost use Rattle.n2k_wire.specs.Packet.{is_stamp};
+ghost use Rattle.n2k_table.specs.Table.{choice, is_of};
+ghost use Rattle.n2k_encode.specs.Encoded.{longest_request, is_data, is_meant, is_unmatched, reads_as, reads_by, reads_unmatched};
+ghost use Rattle.n2k_encode.specs.Encoded.{data_cause, first_cause, object_cause, IsCause, IsEncoded, IsEncodedLine, IsLineCause, IsNoObject, IsObjectOf};
+ghost use Rattle.n2k_encode.specs.Given.{first_unknown, wrong_names};
+ghost use Rattle.n2k_encode.specs.Refusal.{cause, field, is_late, not_json, IfRefused};
 ghost use Rattle.n2k_encode.specs.Views.{request_parts};
 
-use crate::draft::{Draft, DraftError, draft_of, most_data};
-use crate::given::{all_known, check_given, given, unknown_beside};
+use crate::draft::{Draft, first_name, most_data, shorter_draft};
+use crate::given::{check_names, given, unknown_beside};
 use crate::reading::Reading;
 use crate::refusal::{EncodeError, Refusal};
 use crate::request::{Request, request_of};
@@ -18,7 +20,7 @@ use arrayvec::ArrayVec;
 use json::{Error, Scratch, Value};
 use n2k_table::{Definition, KnownPgn, Table};
 use n2k_wire::{Packet, join_id};
-use std::alloc::Global;
+use std::alloc::{AllocError, Global};
 
 /// The most bytes of a line.
 pub const LONGEST_REQUEST: usize = 65_536;
@@ -67,7 +69,7 @@ fn reads_by(
     ensures { result ≡ true → reads_by reading.nearest definition.now (request_parts request.now) «data».now ≡ true }
 {
     is_meant(definition, request.description)
-        && all_known(definition, request.fields)
+        && check_names(definition, request.fields).is_ok()
         && reading.shows_all(definition, request.fields, data)
 }
 
@@ -118,85 +120,121 @@ fn cut(
     read_back(known, reading, request, data)
 }
 
-/// The name of the first field of a definition, if it has one.
-fn first_name<'t>(definition: &Definition<'t>) -> &'t str {
-    match definition.own_fields().first() {
-        Some(field) => field.name(),
-        None => "",
-    }
-}
-
 /// The name that is reported if no data of a draft read back: that of the first field that shows something else than what
 /// is given.
 fn culprit<'t>(
     definition: &Definition<'t>,
     reading: Reading,
-    request: &Request<'_, '_>,
+    object: &Value<'_>,
     draft: &Draft,
 ) -> &'t str {
     let data = draft.data.get(..draft.whole).unwrap_or(&[]);
     let fields = definition.own_fields();
-    match reading.first_wrong(fields, request.fields, data) {
+    match reading.first_wrong(fields, object, data) {
         Some(field) => field.name(),
         None => first_name(definition),
     }
 }
 
-/// The data by the definition at a place, or why there are none.
+/// The data by the definition at a place, or why there are none, if its names are known.
 fn by_definition<'a>(
-    known: &KnownPgn<'a>,
+    alloc: Global,
+    known: &KnownPgn<'_>,
     place: usize,
     definition: &Definition<'a>,
     reading: Reading,
-    request: &Request<'_, 'a>,
-) -> Result<Payload, Refusal<'a>>
-    ensures { IfOk result (λ payload. reads_as reading.nearest
+    request: &Request<'_, '_>,
+) -> Result<Payload, EncodeError<'a>>
+    ensures reads { IfOk result (λ payload. reads_as reading.nearest
         (choice known.now.table known.now.pgn payload.items) (request_parts request.now) payload.items ≡ true) }
+    ensures refused { IfErr result (λ error. IfRefused error (λ c. is_late c ≡ true)) }
 {
-    check_given(reading.nearest, definition, request.fields)?;
-    let draft = match draft_of(reading.nearest, definition, known.kind(), request.fields) {
-        Ok(draft) => draft,
-        Err(DraftError::Size) => return Err(Refusal::Size),
-        Err(DraftError::Disagree) => return Err(Refusal::Data(first_name(definition))),
-    };
+    let (nearest, fields) = (reading.nearest, request.fields);
+    let draft = shorter_draft(alloc, nearest, definition, known.kind(), fields)?;
     if let Some(payload) = cut(known, place, reading, request, &draft, draft.whole) {
         return Ok(payload);
     }
     if let Some(payload) = cut(known, place, reading, request, &draft, draft.needed) {
         return Ok(payload);
     }
-    Err(Refusal::Data(culprit(definition, reading, request, &draft)))
+    Err(EncodeError::Refused(Refusal::Data(culprit(definition, reading, fields, &draft))))
 }
 
-/// The data by the first definition from a place on that gives some, or why the first that is meant gives none.
-fn first_from<'a>(
-    known: &KnownPgn<'a>,
+/// The data by the first definition that gives some.
+fn first_data(
+    alloc: Global,
+    known: &KnownPgn<'_>,
     reading: Reading,
-    request: &Request<'_, 'a>,
-) -> Result<Payload, Refusal<'a>>
-    ensures { IfOk result (λ payload. reads_as reading.nearest
-        (choice known.now.table known.now.pgn payload.items) (request_parts request.now) payload.items ≡ true) }
+    request: &Request<'_, '_>,
+) -> Result<Option<Payload>, AllocError>
+    ensures { IfOk result (λ found. IfSome found (λ payload. reads_as reading.nearest
+        (choice known.now.table known.now.pgn payload.items) (request_parts request.now) payload.items ≡ true)) }
 {
-    let mut first = None;
     for place in 0..usize::MAX {
         let Some(definition) = known.definition(place) else {
             break;
         };
-        if is_meant(&definition, request.description) {
-            match by_definition(known, place, &definition, reading, request) {
-                Ok(payload) => return Ok(payload),
-                Err(refusal) => first = first.or(Some(refusal)),
+        if is_meant(&definition, request.description)
+            && check_names(&definition, request.fields).is_ok()
+        {
+            match by_definition(alloc, known, place, &definition, reading, request) {
+                Ok(payload) => return Ok(Some(payload)),
+                Err(EncodeError::Memory) => return Err(AllocError),
+                Err(EncodeError::Refused(_)) => {}
             }
         }
     }
-    Err(first.unwrap_or(Refusal::Description))
+    Ok(None)
+}
+
+/// Why the definition at a place gives no data.
+fn cause_by<'a>(
+    alloc: Global,
+    known: &KnownPgn<'a>,
+    place: usize,
+    definition: &Definition<'a>,
+    reading: Reading,
+    request: &Request<'_, 'a>,
+) -> EncodeError<'a>
+    ensures { IfRefused result (IsCause (wrong_names definition.now (request_parts request.now).fields)) }
+{
+    if let Err(refusal) = check_names(definition, request.fields) {
+        return EncodeError::Refused(refusal);
+    }
+    match by_definition(alloc, known, place, definition, reading, request) {
+        Ok(_) => EncodeError::Refused(Refusal::Data(first_name(definition))),
+        Err(error) => error,
+    }
+}
+
+/// Why no definition gives data: the cause of the first that is meant.
+fn first_cause<'a>(
+    alloc: Global,
+    known: &KnownPgn<'a>,
+    reading: Reading,
+    request: &Request<'_, 'a>,
+) -> EncodeError<'a>
+    ensures { IfRefused result (IsCause (first_cause (find (is_meant (request_parts request.now).description)
+        (filter (is_of known.now.pgn) known.now.table.definitions)) (request_parts request.now))) }
+{
+    for place in 0..usize::MAX {
+        let Some(definition) = known.definition(place) else {
+            return EncodeError::Refused(Refusal::Description);
+        };
+        if is_meant(&definition, request.description) {
+            return cause_by(alloc, known, place, &definition, reading, request);
+        }
+    }
+    EncodeError::Memory
 }
 
 /// The data that a line gives as they are, for a message that no definition matches.
 fn unmatched<'a>(known: &KnownPgn<'a>, request: &Request<'_, 'a>) -> Result<Payload, Refusal<'a>>
-    requires { is_some_with (λ text. bytes_eq text (codes "Unmatched")) (request_parts request.now).description ≡ true }
-    ensures { IfOk result (λ payload. (choice known.now.table known.now.pgn payload.items ≡ None)
+    requires { is_unmatched (request_parts request.now).description ≡ true }
+    ensures reads { IfOk result (λ payload. (choice known.now.table known.now.pgn payload.items ≡ None)
         × (reads_unmatched (request_parts request.now) payload.items ≡ true)) }
+    ensures refused { IfErr result (λ refusal. IsCause
+        (option_map field (first_unknown is_data (request_parts request.now).fields)) (cause refusal)) }
 {
     if let Some(name) = unknown_beside(DATA, request.fields) {
         return Err(Refusal::Field(name));
@@ -225,7 +263,7 @@ fn unmatched<'a>(known: &KnownPgn<'a>, request: &Request<'_, 'a>) -> Result<Payl
 
 /// Whether a line asks for a message that no definition matches.
 fn is_unmatched(description: Option<&str>) -> bool
-    ensures { result ≡ is_some_with (λ text. bytes_eq text (codes "Unmatched")) (option_map (λ text. text.now) description.entry) }
+    ensures { result ≡ is_unmatched (option_map (λ text. text.now) description.entry) }
 {
     match description {
         Some(text) => text == UNMATCHED,
@@ -236,33 +274,45 @@ fn is_unmatched(description: Option<&str>) -> bool
 /// The data that a line asks for: those that show exactly what is given, or, if there are none, those to which the values
 /// are added that a definition asks for.
 fn payload_of<'a>(
+    alloc: Global,
     known: &KnownPgn<'a>,
     nearest: bool,
     request: &Request<'_, 'a>,
-) -> Result<Payload, Refusal<'a>>
-    ensures { IfOk result (λ payload. reads_as nearest
+) -> Result<Payload, EncodeError<'a>>
+    requires { known.now.pgn ≡ request.now.id.pgn }
+    ensures reads { IfOk result (λ payload. reads_as nearest
         (choice known.now.table known.now.pgn payload.items) (request_parts request.now) payload.items ≡ true) }
+    ensures refused { IfErr result (λ error. IfRefused error (IsCause (data_cause known.now.table (request_parts request.now)))) }
 {
     if is_unmatched(request.description) {
-        return unmatched(known, request);
+        return Ok(unmatched(known, request)?);
     }
     let exactly = Reading {
         nearest,
         adding: false,
     };
-    if let Ok(payload) = first_from(known, exactly, request) {
-        return Ok(payload);
-    }
     let adding = Reading {
         nearest,
         adding: true,
     };
-    first_from(known, adding, request)
+    for reading in [exactly, adding] {
+        match first_data(alloc, known, reading, request) {
+            Ok(Some(payload)) => return Ok(payload),
+            Ok(None) => {}
+            Err(AllocError) => return Err(EncodeError::Memory),
+        }
+    }
+    Err(first_cause(alloc, known, adding, request))
 }
 
 /// The message of a request with these data.
 fn packet_of(request: &Request<'_, '_>, data: &[u8]) -> Option<Packet>
-    ensures { IfSome result (λ packet. packet
+    requires stamp { is_stamp request.now.stamp.now ≡ true }
+    requires prio { request.now.id.prio ≤ 7 }
+    requires pgn { request.now.id.pgn ≤ 131071 }
+    requires fits { length «data».now ≤ 223 }
+    ensures some { is_some result ≡ true }
+    ensures packet { IfSome result (λ packet. packet
         ≡ record { stamp = request.now.stamp.now; id = request.now.id; payload = «data».now }) }
 {
     Packet::new(request.stamp.as_bytes(), request.id, data)
@@ -270,21 +320,23 @@ fn packet_of(request: &Request<'_, '_>, data: &[u8]) -> Option<Packet>
 
 /// The message that an object asks for.
 fn encode_object<'a>(
+    alloc: Global,
     table: &'a Table,
     nearest: bool,
     object: &Value<'a>,
-) -> Result<Packet, Refusal<'a>>
-    ensures { IfOk result (λ packet. IsEncoded table.now nearest (value_view object.now) packet) }
+) -> Result<Packet, EncodeError<'a>>
+    ensures encoded { IfOk result (λ packet. IsEncoded table.now nearest (value_view object.now) packet) }
+    ensures refused { IfErr result (λ error. IfRefused error (IsCause (object_cause table.now (value_view object.now)))) }
 {
     let request = request_of(object)?;
     let known = table.find(request.id.pgn).ok_or(Refusal::Unknown)?;
     if join_id(&request.id).is_none() {
-        return Err(Refusal::Address);
+        return Err(EncodeError::Refused(Refusal::Address));
     }
-    let payload = payload_of(&known, nearest, &request)?;
+    let payload = payload_of(alloc, &known, nearest, &request)?;
     match packet_of(&request, payload.as_slice()) {
         Some(packet) => Ok(packet),
-        None => Err(Refusal::Member),
+        None => Err(EncodeError::Refused(Refusal::Member)),
     }
 }
 
@@ -294,7 +346,8 @@ fn parse<'a>(
     line: &'a [u8],
     scratch: &'a mut Scratch,
 ) -> Result<Value<'a>, EncodeError<'a>>
-    ensures { IfOk result (λ object. IsObjectOf line.now (value_view object)) }
+    ensures object { IfOk result (λ object. IsObjectOf line.now (value_view object)) }
+    ensures refused { IfErr result (λ error. IfRefused error (λ c. IsNoObject line.now × (c ≡ not_json))) }
 {
     let Ok(text) = std::str::from_utf8(line) else {
         return Err(EncodeError::Refused(Refusal::Json));
@@ -326,6 +379,7 @@ pub fn encode_line<'a>(
 ) -> Result<Packet, EncodeError<'a>>
     ensures reads_back { IfOk result (λ packet. IsEncodedLine table.now nearest line.now packet) }
     ensures long { longest_request < length line.now → result ≡ Err (EncodeError.Refused Refusal.Long) }
+    ensures refused { length line.now ≤ longest_request → IfErr result (λ error. IfRefused error (IsLineCause table.now line.now)) }
 {
     if line.len() > LONGEST_REQUEST {
         return Err(EncodeError::Refused(Refusal::Long));
@@ -334,8 +388,5 @@ pub fn encode_line<'a>(
         Ok(object) => object,
         Err(error) => return Err(error),
     };
-    match encode_object(table, nearest, &object) {
-        Ok(packet) => Ok(packet),
-        Err(refusal) => Err(EncodeError::Refused(refusal)),
-    }
+    encode_object(alloc, table, nearest, &object)
 }

@@ -22,6 +22,7 @@
 //! handed, `alloc` its allocator, `rt.alloc()`, and `sample_table` reads a table of three messages.
 #![tactic(auto)]
 
+mod coded;
 mod draft;
 mod encode;
 mod given;

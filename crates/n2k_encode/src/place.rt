@@ -1,5 +1,8 @@
 //! Where the bits and bytes of fields go.
 ghost use Rattle.std.specs.Prelude.{◌≡◌, ◌≤◌, length, IfSome};
+ghost use Rattle.n2k_table.specs.Bits.{has_bit};
+ghost use Rattle.n2k_encode.specs.Place.{end_of, put_bits, put_bytes, put_code, set_bit, start};
+ghost use Rattle.n2k_encode.specs.Views.{code_parts};
 
 use crate::value::Code;
 use n2k_table::Field;
@@ -8,7 +11,9 @@ use n2k_table::Field;
 pub(crate) const MOST_DATA: usize = 223;
 
 /// Sets a bit, if the data have it.
-fn set_bit(data: &mut [u8], at: usize, one: bool) {
+fn set_bit(data: &mut [u8], at: usize, one: bool)
+    ensures { «data».new ≡ set_bit «data».old at one }
+{
     if at / 8 >= data.len() {
         return;
     }
@@ -17,39 +22,57 @@ fn set_bit(data: &mut [u8], at: usize, one: bool) {
     data[at / 8] = if one {
         byte | mask
     } else {
-        byte & (0xff ^ mask)
+        byte & (0xff - mask)
     };
+}
+
+/// Whether a bit of a raw value is 1.
+fn has_bit(raw: u64, bit: u32) -> bool
+    requires { bit ≤ 63 }
+    ensures { result ≡ has_bit raw bit }
+{
+    (raw >> bit) % 2 == 1
 }
 
 /// Sets so many bits from one on to a raw value.
 fn put_bits(data: &mut [u8], at: usize, bits: u32, raw: u64)
     requires room { bits ≤ 64 }
     requires place { at ≤ 100000 }
+    ensures { «data».new ≡ put_bits «data».old at bits raw }
 {
     for j in 0..bits {
-        set_bit(data, at + j as usize, raw >> j & 1 == 1);
+        set_bit(data, at + j as usize, has_bit(raw, j));
     }
 }
 
 /// Sets bytes from one on, those that the data have.
-pub(crate) fn put_bytes(data: &mut [u8], at: usize, bytes: &[u8]) {
-    if let Some(room) = data.get_mut(at..) {
-        let count = bytes.len().min(room.len());
-        room[..count].copy_from_slice(&bytes[..count]);
+#[tactic(auto, using(crate::proofs::Places::past_end))]
+pub(crate) fn put_bytes(data: &mut [u8], at: usize, bytes: &[u8])
+    ensures { «data».new ≡ put_bytes «data».old at bytes.now }
+{
+    let mut place = at;
+    for byte in bytes {
+        if place >= data.len() {
+            return;
+        }
+        data[place] = *byte;
+        place += 1;
     }
 }
 
 /// The byte from which a field's place counts, if each string before it has an end.
 fn start(field: &Field, data: &[u8]) -> Option<usize>
-    ensures { IfSome result (λ start. start ≤ length «data».now) }
+    ensures value { result ≡ start field.now «data».now }
+    ensures inside { IfSome result (λ start. start ≤ length «data».now) }
 {
     let rest = field.rest(data)?;
-    data.len().checked_sub(rest.len())
+    Some(data.len().saturating_sub(rest.len()))
 }
 
 /// Sets a field to a code, if its place is known.
 pub(crate) fn put_code(field: &Field, code: &Code, data: &mut [u8])
     requires { length «data».old ≤ 223 }
+    ensures { «data».new ≡ put_code field.now (code_parts code.now) «data».old }
 {
     let Some(start) = start(field, data) else {
         return;
@@ -61,52 +84,23 @@ pub(crate) fn put_code(field: &Field, code: &Code, data: &mut [u8])
     }
 }
 
-/// The byte after a field of that code.
+/// The byte after a field of that code, if its place is known.
 pub(crate) fn end_of(field: &Field, code: &Code, data: &[u8]) -> Option<usize>
     requires { length «data».now ≤ 223 }
+    ensures value { result ≡ end_of field.now (code_parts code.now) «data».now }
+    ensures bound { IfSome result (λ end. end ≤ 10000) }
 {
     let start = start(field, data)?;
     let at = field.at() as usize;
     match code {
         Code::Bits(_) => Some(start + (at + field.bits() as usize + 7) / 8),
-        Code::Bytes(bytes) => (start + at / 8).checked_add(bytes.len()),
+        Code::Bytes(bytes) => Some(start + at / 8 + bytes.len()),
     }
-}
-
-/// Whether a bit is 1; a bit past the data is not.
-fn has_bit(data: &[u8], at: usize) -> bool {
-    match data.get(at / 8) {
-        Some(byte) => *byte >> (at % 8) as u32 & 1 == 1,
-        None => false,
-    }
-}
-
-/// Whether so many bits from one on are those of a raw value.
-fn has_bits(data: &[u8], at: usize, bits: u32, raw: u64) -> bool
-    requires room { bits ≤ 64 }
-    requires place { at ≤ 100000 }
-{
-    for j in 0..bits {
-        if has_bit(data, at + j as usize) != (raw >> j & 1 == 1) {
-            return false;
-        }
-    }
-    true
 }
 
 /// Whether the data have a field's code at its place.
-pub(crate) fn has_code(field: &Field, code: &Code, data: &[u8]) -> bool
-    requires { length «data».now ≤ 223 }
-{
-    let Some(start) = start(field, data) else {
-        return false;
-    };
-    let at = field.at() as usize;
-    match code {
-        Code::Bits(raw) => has_bits(data, 8 * start + at, field.bits().min(64), *raw),
-        Code::Bytes(bytes) => match data.get(start + at / 8..) {
-            Some(rest) => rest.starts_with(bytes.as_slice()),
-            None => false,
-        },
-    }
+pub(crate) fn has_code(field: &Field, code: &Code, data: &[u8; MOST_DATA]) -> bool {
+    let mut same = *data;
+    put_code(field, code, &mut same);
+    same.as_slice() == data.as_slice()
 }

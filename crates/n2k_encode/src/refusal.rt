@@ -76,3 +76,14 @@ pub enum EncodeError<'a> {
     /// The line cannot be encoded.
     Refused(Refusal<'a>),
 }
+
+impl<'a> From<Refusal<'a>> for EncodeError<'a> {
+    ghost use Rattle.std.specs.Prelude.{◌≡◌};
+    ghost use Rattle.n2k_encode.specs.declared.refusal.EncodeError.TheVariants.{Refused};
+
+    ghost from_gives = { λ refusal error. error ≡ Refused refusal };
+
+    fn from(refusal: Refusal<'a>) -> EncodeError<'a> {
+        EncodeError::Refused(refusal)
+    }
+}

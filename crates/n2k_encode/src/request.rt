@@ -1,8 +1,9 @@
 //! What a line asks for: who sends which fields to whom.
-ghost use Rattle.std.specs.Prelude.{◌≡◌, ◌≤◌, option_map, is_ok, IfSome};
+ghost use Rattle.std.specs.Prelude.{◌≡◌, ◌≤◌, true, option_map, is_ok, IfErr, IfOk, IfSome};
 ghost use Rattle.json.specs.Value.{value_view, members_view};
 ghost use Rattle.n2k_wire.specs.Packet.{is_stamp};
-ghost use Rattle.n2k_encode.specs.Request.{fields_of, has_known, id_of, is_member, is_object, members_known, number_or, optional_text};
+ghost use Rattle.n2k_encode.specs.Refusal.{cause};
+ghost use Rattle.n2k_encode.specs.Request.{fields_of, has_known, id_of, is_member, is_object, members_known, no_request, number_or, optional_text};
 ghost use Rattle.n2k_encode.specs.Request.{request, stamp_of, whole_number, whole_to};
 ghost use Rattle.n2k_encode.specs.Steps.{Yields};
 ghost use Rattle.n2k_encode.specs.Views.{request_parts};
@@ -59,7 +60,9 @@ fn has_known(members: &[(&str, Value<'_>)]) -> bool
 
 /// Refuses what is not an object, or has another member.
 fn check_members<'a>(object: &Value<'a>) -> Result<(), Refusal<'a>>
-    ensures { is_ok result ≡ members_known (value_view object.now) }
+    ensures known { is_ok result ≡ members_known (value_view object.now) }
+    ensures object { IfOk result (λ _. is_object (value_view object.now) ≡ true) }
+    ensures refused { IfErr result (λ refusal. cause refusal ≡ no_request (value_view object.now)) }
 {
     match object {
         Value::Object(members) if has_known(members) => Ok(()),
@@ -146,7 +149,8 @@ fn is_stamp(text: &[u8], id: Id) -> bool
 fn stamp_of<'a>(object: &Value<'a>, id: Id) -> Option<&'a str>
     requires prio { id.prio ≤ 7 }
     requires pgn { id.pgn ≤ 131071 }
-    ensures { option_map (λ text. text.now) result ≡ stamp_of (value_view object.now) }
+    ensures value { option_map (λ text. text.now) result ≡ stamp_of (value_view object.now) }
+    ensures stamp { IfSome result (λ text. is_stamp text.now ≡ true) }
 {
     let stamp = optional_text(object.get("timestamp"))?.unwrap_or("1970-01-01T00:00:00.000Z");
     if is_stamp(stamp.as_bytes(), id) {
@@ -179,7 +183,11 @@ fn fields_of<'v, 'a>(object: &'v Value<'a>) -> Option<&'v Value<'a>>
 /// What the object of a line asks for.
 #[tactic(auto, unfolding(crate::specs::Request::request))]
 pub(crate) fn request_of<'v, 'a>(object: &'v Value<'a>) -> Result<Request<'v, 'a>, Refusal<'a>>
-    ensures { Yields request_parts result (request (value_view object.now)) }
+    ensures asked { Yields request_parts result (request (value_view object.now)) }
+    ensures refused { IfErr result (λ refusal. cause refusal ≡ no_request (value_view object.now)) }
+    ensures stamp { IfOk result (λ request. is_stamp request.stamp.now ≡ true) }
+    ensures prio { IfOk result (λ request. request.id.prio ≤ 7) }
+    ensures pgn { IfOk result (λ request. request.id.pgn ≤ 131071) }
 {
     check_members(object)?;
     let fields = fields_of(object).ok_or(Refusal::Member)?;

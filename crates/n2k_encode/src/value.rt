@@ -1,14 +1,31 @@
 //! The bits or bytes that show a value.
-ghost use Rattle.std.specs.Prelude.{◌≡◌, ◌≤◌, ◌-◌, ◌^◌};
+ghost use Rattle.std.specs.Prelude.{◌≡◌, ◌≤◌, ◌≤ℤ◌, ◌-◌, ◌^◌, pos, neg_ℤ, true, option_map, IfSome};
+ghost use Rattle.json.specs.Find.{as_number, as_str};
+ghost use Rattle.json.specs.Value.{value_view};
 ghost use Rattle.n2k_table.specs.Bits.{greatest};
+ghost use Rattle.std.specs.Option.{option_and_then};
+ghost use Rattle.n2k_encode.specs.Value.{bytes as byte_code, IsCode, IsLookupRaw, IsString, all_ones, are_there, bits_for};
+ghost use Rattle.n2k_encode.specs.Value.{bytes_for, empty_string, if_there, is_there, not_available, number_raw};
+ghost use Rattle.n2k_encode.specs.Value.{raw_number, reserved, shorter_of, text_bytes, units_of, unnamed, with_sign};
+ghost use Rattle.n2k_encode.specs.Views.{code_parts};
 
 use crate::numeral::{is_negative, multiples, scaled};
 use crate::request::whole_number;
 use crate::texts::{
-    FieldBytes, digit_pairs, ends_full, filled, hex_bytes, latin1, string_of, utf16_string,
+    FieldBytes, digit_pairs, ends_full, filled, hex_bytes, latin1, latin1_string, narrow_string,
+    ones, utf16_string,
 };
 use json::Value;
 use n2k_table::{Coding, Field, Form, Lookup, Resolution};
+
+/// How values are written.
+#[derive(Clone, Copy)]
+pub(crate) struct Style {
+    /// Whether a number may be the nearest that its field can show.
+    pub(crate) nearest: bool,
+    /// Whether a string has its shortest encoding.
+    pub(crate) shortest: bool,
+}
 
 /// What a field is set to.
 #[derive(Drop)]
@@ -20,7 +37,10 @@ pub(crate) enum Code {
 }
 
 /// How many of the greatest values of so many bits mean "not available".
-fn reserved_values(bits: u32) -> u64 {
+fn reserved(bits: u32) -> u64
+    ensures value { result ≡ reserved bits }
+    ensures few { result ≤ 2 }
+{
     match bits {
         0..=1 => 0,
         2..=3 => 1,
@@ -47,108 +67,177 @@ fn greatest(signed: bool, bits: u32) -> u64
     if signed { half - 1 } else { half - 1 + half }
 }
 
-/// The raw value of so many bits that shows a number, if one does.
-fn raw_of(signed: bool, bits: u32, negative: bool, size: u128) -> Option<u64>
+/// The raw value of so many bits that shows a negative number in two's complement, if one does.
+#[tactic(auto, unfolding(crate::specs::Value::raw_number))]
+fn raw_below(bits: u32, size: u128) -> Option<u64>
     requires some { 1 ≤ bits }
     requires room { bits ≤ 64 }
+    requires below { 1 ≤ size }
+    ensures { result ≡ raw_number true bits true size }
 {
-    let greatest_value = greatest(signed, bits);
-    if !negative || size == 0 {
-        let most = greatest_value.saturating_sub(reserved_values(bits));
-        return if size <= u128::from(most) {
-            u64::try_from(size).ok()
-        } else {
-            None
-        };
-    }
-    if !signed || size > u128::from(greatest_value) + 1 {
+    let half = half(bits);
+    if size > u128::from(half) {
         return None;
     }
-    let below = u64::try_from(size - 1).ok()?;
-    greatest(false, bits).checked_sub(below)
+    Some(half - size as u64 + half)
+}
+
+/// The raw value of so many bits that shows a number, if one does.
+#[tactic(auto, unfolding(crate::specs::Value::raw_number))]
+fn raw_number(signed: bool, bits: u32, negative: bool, size: u128) -> Option<u64>
+    requires some { 1 ≤ bits }
+    requires room { bits ≤ 64 }
+    ensures { result ≡ raw_number signed bits negative size }
+{
+    if negative && size > 0 {
+        return if signed { raw_below(bits, size) } else { None };
+    }
+    let most = greatest(signed, bits);
+    let reserved = reserved(bits);
+    if size > u128::from(most) || most - (size as u64) < reserved {
+        return None;
+    }
+    Some(size as u64)
 }
 
 /// The number of units of a resolution that a JSON number is.
-fn units_of(nearest: bool, parity: u64, resolution: Resolution, text: &[u8]) -> Option<u128> {
+#[tactic(auto, unfolding(crate::specs::Value::units_of))]
+fn units_of(nearest: bool, parity: u64, resolution: Resolution, text: &[u8]) -> Option<u128>
+    ensures { result ≡ units_of nearest parity resolution text.now }
+{
     let size = scaled(text, u16::from(resolution.decimals) + 1)?;
     multiples(nearest, parity, resolution.mantissa, size)
 }
 
 /// The raw value of a number.
+#[tactic(auto, unfolding(crate::specs::Value::number_raw))]
 fn number_raw(
     nearest: bool,
     signed: bool,
     bits: u32,
     resolution: Resolution,
-    text: &[u8],
+    value: &Value<'_>,
 ) -> Option<u64>
     requires some { 1 ≤ bits }
     requires room { bits ≤ 64 }
+    ensures { result ≡ option_and_then (number_raw nearest signed bits resolution) (as_number (value_view value.now)) }
 {
+    let text = value.as_number()?.as_bytes();
     let units = units_of(nearest, 0, resolution, text)?;
-    raw_of(signed, bits, is_negative(text), units)
+    raw_number(signed, bits, is_negative(text), units)
+}
+
+/// A number of so many units, with its sign.
+fn with_sign(negative: bool, units: u128) -> i128
+    requires { units ≤ 2 ^ 100 }
+    ensures value { result ≡ with_sign negative units }
+    ensures low { neg_ℤ (pos (2 ^ 100)) ≤ℤ result }
+    ensures high { result ≤ℤ pos (2 ^ 100) }
+{
+    let size = units as i128;
+    if negative { -size } else { size }
+}
+
+/// The raw value of a whole number that has no sign bit.
+fn raw_of_whole(bits: u32, whole: i128) -> Option<u64>
+    requires some { 1 ≤ bits }
+    requires room { bits ≤ 64 }
+{
+    if whole < 0 {
+        return None;
+    }
+    raw_number(false, bits, false, whole as u128)
 }
 
 /// The raw value of a number to which an offset is added.
+#[tactic(auto, using(crate::proofs::Units::units_bounded))]
 fn shifted_raw(
     nearest: bool,
     bits: u32,
     offset: i64,
     resolution: Resolution,
-    text: &[u8],
+    value: &Value<'_>,
 ) -> Option<u64>
     requires some { 1 ≤ bits }
     requires room { bits ≤ 64 }
 {
+    let text = value.as_number()?.as_bytes();
     let units = units_of(nearest, offset.unsigned_abs(), resolution, text)?;
-    let size = i128::try_from(units).ok()?;
-    let value = if is_negative(text) {
-        size.checked_neg()?
+    let number = with_sign(is_negative(text), units);
+    raw_of_whole(bits, number - i128::from(offset))
+}
+
+/// A number that has no name.
+#[tactic(auto, unfolding(crate::specs::Value::unnamed))]
+fn unnamed(lookup: &Lookup, text: &[u8]) -> Option<u64>
+    ensures { result ≡ unnamed lookup.now.entries text.now }
+{
+    let number = u64::try_from(whole_number(text)?).ok()?;
+    if lookup.text_of(number).is_some() {
+        return None;
+    }
+    Some(number)
+}
+
+/// Whether a value of a lookup is one that is there. The greatest that has no name means "not available".
+fn is_there(lookup: &Lookup, bits: u32, raw: u64) -> bool
+    requires some { 1 ≤ bits }
+    requires room { bits ≤ 64 }
+    ensures { result ≡ is_there lookup.now.entries bits raw }
+{
+    let greatest = greatest(false, bits);
+    raw <= greatest && !(raw == greatest && bits >= 2 && lookup.text_of(raw).is_none())
+}
+
+/// A value of a lookup, if it is one that is there.
+fn if_there(lookup: &Lookup, bits: u32, found: Option<u64>) -> Option<u64>
+    requires some { 1 ≤ bits }
+    requires room { bits ≤ 64 }
+    ensures { result ≡ if_there lookup.now.entries bits found }
+{
+    let raw = found?;
+    if is_there(lookup, bits, raw) {
+        Some(raw)
     } else {
-        size
-    };
-    let raw = value.checked_sub(i128::from(offset))?;
-    raw_of(false, bits, false, u128::try_from(raw).ok()?)
+        None
+    }
+}
+
+/// The raw value of a lookup.
+fn lookup_raw(lookup: &Lookup, bits: u32, value: &Value<'_>) -> Option<u64>
+    requires some { 1 ≤ bits }
+    requires room { bits ≤ 64 }
+    ensures { IsLookupRaw lookup.now.entries bits (value_view value.now) result }
+{
+    match value {
+        Value::String(name) => if_there(lookup, bits, lookup.value_of(name)),
+        Value::Number(text) => if_there(lookup, bits, unnamed(lookup, text.as_bytes())),
+        _ => None,
+    }
 }
 
 /// A value of a lookup by its name, or by its number if it has no name.
 fn named_value(lookup: &Lookup, value: &Value<'_>) -> Option<u64> {
     match value {
         Value::String(name) => lookup.value_of(name),
-        Value::Number(text) => {
-            let number = u64::try_from(whole_number(text.as_bytes())?).ok()?;
-            if lookup.text_of(number).is_some() {
-                None
-            } else {
-                Some(number)
-            }
-        }
+        Value::Number(text) => unnamed(lookup, text.as_bytes()),
         _ => None,
     }
 }
 
-/// The raw value of a lookup. The greatest that has no name means "not available".
-fn lookup_raw(lookup: &Lookup, bits: u32, value: &Value<'_>) -> Option<u64>
+/// The raw value of flags: bits that are named in an array, each once.
+fn flags_raw(lookup: &Lookup, bits: u32, value: &Value<'_>) -> Option<u64>
     requires some { 1 ≤ bits }
     requires room { bits ≤ 64 }
+    ensures { IfSome result (λ raw. are_there bits raw ≡ true) }
 {
-    let raw = named_value(lookup, value)?;
-    let greatest = greatest(false, bits);
-    if raw > greatest || raw == greatest && bits >= 2 && lookup.text_of(raw).is_none() {
+    let Value::Array(values) = value else {
         return None;
-    }
-    Some(raw)
-}
-
-/// The raw value of bits that are named in an array, each once.
-fn flags_raw(lookup: &Lookup, bits: u32, values: &[Value<'_>]) -> Option<u64>
-    requires some { 1 ≤ bits }
-    requires room { bits ≤ 64 }
-{
+    };
     let mut raw = 0u64;
     for value in values {
         let bit = named_value(lookup, value)?;
-        if bit >= u64::from(bits) || raw >> bit & 1 == 1 {
+        if bit >= u64::from(bits) || (raw >> bit) % 2 == 1 {
             return None;
         }
         raw |= 1 << bit;
@@ -160,16 +249,22 @@ fn flags_raw(lookup: &Lookup, bits: u32, values: &[Value<'_>]) -> Option<u64>
 }
 
 /// The bytes of a text, filled up.
-fn text_bytes(width: usize, text: &str) -> Option<FieldBytes> {
-    let bytes = latin1(text)?;
+#[tactic(auto, unfolding(crate::specs::Value::text_bytes))]
+fn text_bytes(width: usize, value: &Value<'_>) -> Option<FieldBytes>
+    requires { width ≤ 255 }
+    ensures { option_map (λ bytes. bytes.items) result ≡ option_and_then (text_bytes width) (as_str (value_view value.now)) }
+{
+    let text = value.as_str()?;
+    let bytes = latin1(text.as_bytes())?;
     if !ends_full(bytes.as_slice()) {
         return None;
     }
-    filled(bytes, width)
+    filled(bytes.as_slice(), width)
 }
 
 /// The bytes of a field of bytes: all of them, or fewer if it may be short.
-fn plain_bytes(width: usize, short: bool, text: &str) -> Option<FieldBytes> {
+fn plain_bytes(width: usize, short: bool, value: &Value<'_>) -> Option<FieldBytes> {
+    let text = value.as_str()?;
     let bytes = hex_bytes(text.as_bytes())?;
     if bytes.len() == width || short && bytes.len() < width {
         Some(bytes)
@@ -179,116 +274,135 @@ fn plain_bytes(width: usize, short: bool, text: &str) -> Option<FieldBytes> {
 }
 
 /// The bytes of digits, filled up.
-fn digit_bytes(width: usize, text: &str) -> Option<FieldBytes> {
+fn digit_bytes(width: usize, value: &Value<'_>) -> Option<FieldBytes>
+    requires { width ≤ 255 }
+{
+    let text = value.as_str()?;
     let bytes = digit_pairs(text.as_bytes())?;
     if bytes.is_empty() {
         return None;
     }
-    filled(bytes, width)
+    filled(bytes.as_slice(), width)
 }
 
-/// A string of these characters, which says how long it is.
-fn narrow_string(form: Form, characters: &[u8]) -> Option<FieldBytes> {
-    let length = u8::try_from(characters.len()).ok()?;
-    match form {
-        Form::Lau => string_of(&[length.checked_add(2)?, 1], characters),
-        Form::Lz => string_of(&[length], characters),
-    }
-}
-
-/// A string of one byte for each character, which must not be UTF-8 by chance.
-fn latin1_string(form: Form, text: &str) -> Option<FieldBytes> {
-    let bytes = latin1(text)?;
-    if std::str::from_utf8(bytes.as_slice()).is_ok() {
-        return None;
-    }
-    narrow_string(form, bytes.as_slice())
-}
-
-/// A string of the first encoding that shows a text.
-fn string_bytes(form: Form, text: &str) -> Option<FieldBytes> {
-    if let Some(bytes) = narrow_string(form, text.as_bytes()) {
-        return Some(bytes);
-    }
-    if let Some(bytes) = latin1_string(form, text) {
-        return Some(bytes);
-    }
+/// A string of UTF-16, if the form has one.
+fn wide_string(form: Form, text: &str) -> Option<FieldBytes> {
     match form {
         Form::Lau => utf16_string(text),
         Form::Lz => None,
     }
 }
 
-/// A field's bytes from the text that it is to show.
-fn bytes_of(field: &Field, text: &str) -> Option<FieldBytes> {
-    let width = field.bits() as usize / 8;
-    match field.coding() {
-        Coding::Text => text_bytes(width, text),
-        Coding::Bytes => plain_bytes(width, field.is_short(), text),
-        Coding::Digits => digit_bytes(width, text),
-        Coding::String(form) => string_bytes(form, text),
-        _ => None,
+/// The shorter of two strings that are there.
+fn shorter_of(utf8: Option<FieldBytes>, wide: Option<FieldBytes>) -> Option<FieldBytes>
+    ensures { option_map (λ bytes. bytes.items) result
+        ≡ shorter_of (option_map (λ bytes. bytes.items) utf8) (option_map (λ bytes. bytes.items) wide) }
+{
+    match (utf8, wide) {
+        (None, other) => other,
+        (Some(first), None) => Some(first),
+        (Some(first), Some(second)) => {
+            if second.len() < first.len() {
+                Some(second)
+            } else {
+                Some(first)
+            }
+        }
     }
 }
 
-/// A field's raw value from the value that it is to show.
-fn raw_value(nearest: bool, field: &Field, value: &Value<'_>) -> Option<u64> {
-    let bits = field.bits();
-    match field.coding() {
-        Coding::Number(signed, resolution) => {
-            number_raw(
-                nearest,
-                signed,
-                bits,
-                resolution,
-                value.as_number()?.as_bytes(),
-            )
-        }
-        Coding::Shifted(offset, resolution) => {
-            shifted_raw(
-                nearest,
-                bits,
-                offset,
-                resolution,
-                value.as_number()?.as_bytes(),
-            )
-        }
-        Coding::Lookup(lookup) => lookup_raw(lookup, bits, value),
-        Coding::Flags(lookup) => match value {
-            Value::Array(values) => flags_raw(lookup, bits, values),
-            _ => None,
-        },
-        _ => None,
+/// A string of the first encoding that shows a text.
+fn first_string(form: Form, text: &str) -> Option<FieldBytes>
+    ensures { IsString form text.now (option_map (λ bytes. bytes.items) result) }
+{
+    if let Some(bytes) = narrow_string(form, text.as_bytes()) {
+        return Some(bytes);
+    }
+    if let Some(bytes) = latin1_string(form, text) {
+        return Some(bytes);
+    }
+    wide_string(form, text)
+}
+
+/// A string of the shortest encoding that shows a text.
+fn shortest_string(form: Form, text: &str) -> Option<FieldBytes> {
+    if let Some(bytes) = latin1_string(form, text) {
+        return Some(bytes);
+    }
+    shorter_of(
+        narrow_string(form, text.as_bytes()),
+        wide_string(form, text),
+    )
+}
+
+/// A string, if the value is a text.
+fn string_value(shortest: bool, form: Form, value: &Value<'_>) -> Option<FieldBytes> {
+    let text = value.as_str()?;
+    if shortest {
+        shortest_string(form, text)
+    } else {
+        first_string(form, text)
     }
 }
 
-/// What a field is set to, to show a value. A field that asks for a value has that one.
-pub(crate) fn code_of(nearest: bool, field: &Field, value: &Value<'_>) -> Option<Code> {
-    if let Value::String(text) = value {
-        if let Some(bytes) = bytes_of(field, text) {
-            return Some(Code::Bytes(bytes));
-        }
-    }
-    let raw = raw_value(nearest, field, value)?;
+/// The code of a raw value. A field that asks for a value has that one.
+fn bits_for(field: &Field, raw: Option<u64>) -> Option<Code>
+    ensures { option_map code_parts result ≡ bits_for field.now raw }
+{
+    let raw = raw?;
     match field.match_value() {
         Some(asked) if asked != raw => None,
         _ => Some(Code::Bits(raw)),
     }
 }
 
-/// Bytes that are all FF.
-fn all_ones(count: u32) -> FieldBytes {
-    let mut bytes = FieldBytes::new();
-    for _one in 0..count {
-        if !bytes.is_full() {
-            bytes.push(0xff);
+/// The code of bytes.
+fn bytes_for(found: Option<FieldBytes>) -> Option<Code>
+    ensures { option_map code_parts result ≡ bytes_for (option_map (λ bytes. bytes.items) found) }
+{
+    Some(Code::Bytes(found?))
+}
+
+/// What a field is set to, to show a value.
+pub(crate) fn code_of(style: Style, field: &Field, value: &Value<'_>) -> Option<Code>
+    ensures { IsCode style field.now (value_view value.now) field.now.meaning (option_map code_parts result) }
+{
+    let bits = field.bits();
+    let width = bits as usize / 8;
+    match field.coding() {
+        Coding::Number(signed, resolution) => {
+            bits_for(
+                field,
+                number_raw(style.nearest, signed, bits, resolution, value),
+            )
         }
+        Coding::Shifted(offset, resolution) => {
+            bits_for(
+                field,
+                shifted_raw(style.nearest, bits, offset, resolution, value),
+            )
+        }
+        Coding::Lookup(lookup) => bits_for(field, lookup_raw(lookup, bits, value)),
+        Coding::Flags(lookup) => bits_for(field, flags_raw(lookup, bits, value)),
+        Coding::Text => bytes_for(text_bytes(width, value)),
+        Coding::Bytes => bytes_for(plain_bytes(width, field.is_short(), value)),
+        Coding::Digits => bytes_for(digit_bytes(width, value)),
+        Coding::String(form) => bytes_for(string_value(style.shortest, form, value)),
     }
-    bytes
+}
+
+/// Bytes that are all FF.
+fn all_ones(count: u32) -> Code
+    requires { count ≤ 255 }
+    ensures { code_parts result ≡ all_ones count }
+{
+    Code::Bytes(ones(count as usize))
 }
 
 /// The empty string.
-fn empty_string(form: Form) -> FieldBytes {
+fn empty_string(form: Form) -> Code
+    ensures { code_parts result ≡ byte_code (empty_string form) }
+{
     let mut bytes = FieldBytes::new();
     match form {
         Form::Lau => {
@@ -297,19 +411,20 @@ fn empty_string(form: Form) -> FieldBytes {
         }
         Form::Lz => bytes.push(0),
     }
-    bytes
+    Code::Bytes(bytes)
 }
 
 /// What a field is set to that is not available.
-pub(crate) fn not_available(field: &Field) -> Code {
+pub(crate) fn not_available(field: &Field) -> Code
+    ensures { code_parts result ≡ not_available field.now.bits field.now.meaning }
+{
+    let bits = field.bits();
     match field.coding() {
-        Coding::Number(signed, _) => Code::Bits(greatest(signed, field.bits())),
-        Coding::Shifted(_, _) => Code::Bits(greatest(false, field.bits())),
-        Coding::Lookup(_) => Code::Bits(greatest(false, field.bits())),
-        Coding::Flags(_) => Code::Bits(greatest(false, field.bits())),
-        Coding::Text => Code::Bytes(all_ones(field.bits() / 8)),
-        Coding::Bytes => Code::Bytes(all_ones(field.bits() / 8)),
-        Coding::Digits => Code::Bytes(all_ones(field.bits() / 8)),
-        Coding::String(form) => Code::Bytes(empty_string(form)),
+        Coding::Number(signed, _) => Code::Bits(greatest(signed, bits)),
+        Coding::Shifted(_, _) | Coding::Lookup(_) | Coding::Flags(_) => Code::Bits(greatest(
+            false, bits,
+        )),
+        Coding::Text | Coding::Bytes | Coding::Digits => all_ones(bits / 8),
+        Coding::String(form) => empty_string(form),
     }
 }

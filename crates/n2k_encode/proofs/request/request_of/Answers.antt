@@ -5,8 +5,8 @@ use Rattle.n2k_encode.specs.Request.{members_known, fields_of, id_of, stamp_of, 
 use Rattle.n2k_encode.proofs.Requests.{request_found}
 use Rattle.n2k_encode.proofs.request.request_of.Goals as goal
 
-pub returns : goal.returns
-returns c =
+pub returns-clause-asked : goal.returns-clause-asked
+returns-clause-asked c =
     let j = value_view c.args.object.now in
     let known : members_known (value_view c.args.object.now) ≡ true = search rules in
     let f : fields_of (value_view c.args.object.now) ≡ Some (value_view c.in_ok-fields.fields.now) = search rules in
