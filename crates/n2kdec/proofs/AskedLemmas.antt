@@ -98,8 +98,9 @@ module _ (words : List Text) (e : Error) (kind : ErrorKind) (is : kind ≡ kind_
   asked_by_refusal (to.Help help) fails answers = grind arith
   asked_by_refusal (to.Command command) fails answers = absurd answers
   asked_by_refusal (to.Refused fault.Words lines) (inl memory) answers = absurd (answers.2 (is ∙ memory))
-  asked_by_refusal (to.Refused fault.Words lines) (inr among) answers =
-      (inl (kind, subst (λ k. IsAmong k (fault_of program_app words)) (sym is) among, answers.0, answers.1),
-      subst (λ said. HasLines fault.Words said lines) (sym (said_at_fault (fault_of program_app words) (kind_of e) among)) answers.3)
+  asked_by_refusal (to.Refused fault.Words lines) (inr among) answers = (
+    inl (kind, subst (λ k. IsAmong k (fault_of program_app words)) (sym is) among, answers.0, answers.1),
+    subst (λ said. HasLines fault.Words said lines) (sym (said_at_fault (fault_of program_app words) (kind_of e) among)) answers.3,
+  )
   asked_by_refusal (to.Refused (fault.Memory read) lines) fails answers = answers
   asked_by_refusal (to.Refused _ lines) fails answers = absurd answers

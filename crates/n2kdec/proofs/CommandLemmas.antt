@@ -207,8 +207,11 @@ module _ (task : Task) (bytes : List ℕ) (handed : Option (List ℕ)) (before a
       ran_frames = subst (runs_by (table_of bytes)) is_told (subst (λ t. runs_by t told) read.1 ran)
 
       pub performs_frames : performs_with had had task
-      performs_frames = subst (performs_with had had) (sym is) (refl, by_table (faults bytes) (frames_effect (table_of bytes) interface) before after r read.0
-          (ended_whole before after errors (frames_output (table_of bytes) interface) (frame_counts_of (kind (table_of bytes)) interface) counts ended r ran_frames closes))
+      performs_frames = subst (performs_with had had) (sym is) (
+        refl,
+        by_table (faults bytes) (frames_effect (table_of bytes) interface) before after r read.0
+            (ended_whole before after errors (frames_output (table_of bytes) interface) (frame_counts_of (kind (table_of bytes)) interface) counts ended r ran_frames closes),
+      )
 
       told_frames : runs_by (table_of bytes) interface → tells_by (Frames interface)
       told_frames its = grind arith

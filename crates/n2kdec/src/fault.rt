@@ -26,16 +26,16 @@ pub enum Reading {
 #[derive(Clone, Copy, Debug, thiserror::Error)]
 pub enum Fault {
     /// The words of the command line are not those of a command.
-    #[error("the words are refused")]
+    #[error("the arguments are refused")]
     Words,
     /// The interface of the frames that were asked for isn't one.
-    #[error("an interface has a name of 1 to 15 of the characters from ! to ~")]
+    #[error("an interface name has 1 to 15 characters from ! to ~")]
     Interface,
     /// The file of the table has more bytes than a table may have.
-    #[error("it has more than the 16777216 bytes of the longest table")]
+    #[error("over 16777216 bytes, too large for a table")]
     TableSize,
     /// The file of the state has more bytes than a state may have.
-    #[error("it has more than the 16777216 bytes of the longest state")]
+    #[error("over 16777216 bytes, too large for a state")]
     StateSize,
     /// The table is refused.
     #[error("{0}")]
@@ -45,26 +45,26 @@ pub enum Fault {
     #[error("{0}")]
     State(StateFault, Result<Option<Difference>, AllocError>),
     /// The file of the table can't be opened or read, by this error.
-    #[error("it can't be read")]
+    #[error("can't be read")]
     TableFile(Option<Error>),
     /// The file of the state can't, by this error.
-    #[error("it can't be read")]
+    #[error("can't be read")]
     StateFile(Option<Error>),
     /// The log can't be opened or read, by this error, or its end was not found: so many lines were taken of it, those
     /// before a state too. Why the state after them could not be kept, where it could not.
-    #[error("it can't be read")]
+    #[error("can't be read")]
     Read(u64, Option<Error>, Option<Unkept>),
     /// The output can't be written, by this error.
-    #[error("it can't be written")]
+    #[error("can't be written")]
     Write(Option<Error>),
     /// A report or the summary can't be written.
-    #[error("it can't be written")]
+    #[error("can't be written")]
     Report,
     /// Memory is refused where this is read, or the command line.
-    #[error("there is no memory for it")]
+    #[error("out of memory")]
     Memory(Option<Reading>),
     /// The log has more lines than are counted.
-    #[error("it has more lines than are counted")]
+    #[error("over 999999999999999 lines")]
     Lines,
     /// The state can't be kept, for this.
     #[error("{0}")]

@@ -114,7 +114,7 @@ fn push_cause(command: Option<&Command>, fault: Fault, text: &mut Vec<u8>) -> Re
 fn table_advice(fault: TableFault) -> &'static str {
     match fault {
         TableFault::Memory => "",
-        _ => "; n2kdec-table-check says in which line",
+        _ => "; n2kdec-table-check names the line",
     }
 }
 
@@ -123,21 +123,21 @@ fn state_advice(fault: StateFault) -> &'static str {
     match fault {
         StateFault::Memory => "",
         StateFault::TableDiffers | StateFault::WindowDiffers => {
-            "; decode with that one, or begin without --resume"
+            "; use the saved one, or start without --resume"
         }
-        _ => "; begin without --resume",
+        _ => "; start without --resume",
     }
 }
 
 /// What became of a file to which a state could not be saved.
 const UNSURE: &str =
-    "; the file has what it had, or the new state, unless it is written over in place";
+    "; the file still has the old state, or already the new one, unless it was being overwritten in place";
 
 /// What became of a log whose state can't be saved.
 fn save_advice(why: Unkept) -> &'static str {
     match why {
         Unkept::Failed(_) =>
-            "; the log was decoded; the file has what it had, or the new state, unless it is written over in place",
+            "; the log was decoded; the file still has the old state, or already the new one, unless it was being overwritten in place",
         Unkept::Unfound(_) => "; nothing was decoded",
         Unkept::Harm => "; nothing was decoded: name another file for --save",
     }
@@ -149,7 +149,7 @@ fn advice_of(fault: Fault) -> &'static str {
         Fault::Table(fault) => table_advice(fault),
         Fault::State(fault, _) => state_advice(fault),
         Fault::Save(why) => save_advice(why),
-        Fault::Write(_) => "; the rest is not printed",
+        Fault::Write(_) => "; the rest was not printed",
         Fault::Memory(_) => "; nothing was saved",
         _ => "",
     }

@@ -22,7 +22,7 @@ use std::io::Error;
 #[derive(Clone, Copy, Debug, thiserror::Error)]
 pub enum Unkept {
     /// It would harm a file that the run reads or prints to. The log is not read then.
-    #[error("this run reads it or prints to it, or to the new file beside it")]
+    #[error("this run reads or prints to this file, or to the new file beside it")]
     Harm,
     /// Where it goes can't be found out. The log is not read then.
     #[error("the state can't be saved")]

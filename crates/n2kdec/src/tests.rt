@@ -526,7 +526,7 @@ const SAID: [(&[&str], u64, &str); 5] = [
         0,
         "n2kdec: zeros: the state was saved under another table (SHA-256 \
             0000000000000000000000000000000000000000000000000000000000000000; that of t is \
-            6b85e2b24165c1cf1b657bbddd71b3850cd65dafaf42319db5372fef7b615284); decode with that one, or begin \
+            6b85e2b24165c1cf1b657bbddd71b3850cd65dafaf42319db5372fef7b615284); use the saved one, or start \
             without --resume\nn2kdec: state 4 TableDiffers\n",
     ),
     (
@@ -586,7 +586,7 @@ fn words_of<E: Error>(alloc: Global, fault: &E) -> Result<String, AllocError> {
 #[test]
 fn each_fault_has_words(rt: HostRuntime) -> Result<(), Fail> {
     for (fault, words) in [
-        (Fault::Lines, "it has more lines than are counted"),
+        (Fault::Lines, "over 999999999999999 lines"),
         (
             Fault::Table(TableFault::Mixed),
             "two definitions of one PGN have different kinds",
@@ -597,7 +597,7 @@ fn each_fault_has_words(rt: HostRuntime) -> Result<(), Fail> {
         ),
         (
             Fault::Save(Unkept::Harm),
-            "this run reads it or prints to it, or to the new file beside it",
+            "this run reads or prints to this file, or to the new file beside it",
         ),
     ] {
         let said = words_of(rt.alloc(), &fault)?;

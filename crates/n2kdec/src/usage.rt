@@ -19,7 +19,7 @@ fn log_argument<'a>(alloc: Global) -> Arg<'a>
 {
     Arg::new(alloc, "log")
         .value_name("LOG")
-        .help("The log; without it standard input is read")
+        .help("Log to read [default: standard input]")
 }
 
 /// An option with a value.
@@ -56,7 +56,7 @@ fn table_argument<'a>(alloc: Global) -> Arg<'a>
     ensures rule { rule_of result ≡ table_rule }
     ensures own { result.global ≡ false }
 {
-    let help = "The table of PGNs and fields, a TOML file";
+    let help = "TOML file with the table of PGNs and fields";
     option(alloc, "table", "F", true, help)
 }
 
@@ -65,7 +65,7 @@ fn plain_command<'a>(alloc: Global) -> Result<Command<'a>, AllocError>
     ensures own { IfOk result (λ command. (fields_of command).has_globals ≡ false) }
 {
     Command::new(alloc, "plain")
-        .about("Prints each frame of a log as a plain line")
+        .about("Print each frame of a log as a plain line")
         .arg(log_argument(alloc))
 }
 
@@ -76,9 +76,8 @@ fn with_files<'a>(alloc: Global, command: Command<'a>) -> Result<Command<'a>, Al
         ≡ with_rule (with_rule (with_rule (app_of command.entry) table_rule) resume_rule) save_rule) }
     ensures own { IfOk result (λ added. (fields_of added).has_globals ≡ false) }
 {
-    let resume = "Goes on from the state in this file";
-    let save =
-        "Writes the state after the log to this file, over what it has; it may be the file of --resume";
+    let resume = "Continue from the state in this file";
+    let save = "Replace this file by the state after the log (may be the file of --resume)";
     command
         .arg(table_argument(alloc))?
         .arg(option(alloc, "resume", "F", false, resume))?
@@ -92,9 +91,10 @@ fn with_window<'a>(alloc: Global, command: Command<'a>) -> Result<Command<'a>, A
         ≡ with_rule (with_rule (app_of command.entry) window_rule) in_order_rule) }
     ensures own { IfOk result (λ added. (fields_of added).has_globals ≡ false) }
 {
-    let window = "Gives a message so many lines to come whole: 32 to 1000000; without it 10000";
+    let window =
+        "Discard a message that is not complete within W lines [32..1000000, default: 10000]";
     let in_order =
-        "Gives up a message at a frame out of order: for a log that was taken at the bus";
+        "Discard a message when a frame is out of order (for logs recorded on the bus itself)";
     command
         .arg(option(alloc, "window", "W", false, window))?
         .arg(flag(alloc, "in-order", in_order))
@@ -108,8 +108,8 @@ fn with_flags<'a>(alloc: Global, command: Command<'a>) -> Result<Command<'a>, Al
     ensures own { IfOk result (λ added. (fields_of added).has_globals ≡ false) }
 {
     command
-        .arg(flag(alloc, "empty", "Prints absent fields as null"))?
-        .arg(flag(alloc, "whole", "Reads every plain line as a whole message"))
+        .arg(flag(alloc, "empty", "Print absent fields as null"))?
+        .arg(flag(alloc, "whole", "Read every plain line as a whole message"))
 }
 
 fn decode_command<'a>(alloc: Global) -> Result<Command<'a>, AllocError>
@@ -117,7 +117,7 @@ fn decode_command<'a>(alloc: Global) -> Result<Command<'a>, AllocError>
     ensures own { IfOk result (λ command. (fields_of command).has_globals ≡ false) }
 {
     let command = Command::new(alloc, "decode").about(
-        "Prints each message of a log as a line of JSON",
+        "Print each message of a log as a line of JSON",
     );
     let command = with_window(alloc, with_files(alloc, command)?)?;
     with_flags(alloc, command)?.arg(log_argument(alloc))
@@ -127,9 +127,9 @@ fn frames_command<'a>(alloc: Global) -> Result<Command<'a>, AllocError>
     ensures app { IfOk result (λ command. app_of command ≡ frames_app) }
     ensures own { IfOk result (λ command. (fields_of command).has_globals ≡ false) }
 {
-    let candump = "Writes candump lines of this interface in place of plain lines";
+    let candump = "Print candump lines of this interface instead of plain lines";
     Command::new(alloc, "frames")
-        .about("Writes the whole messages of a log as the frames of the bus")
+        .about("Print the whole messages of a log as frames of the bus")
         .arg(table_argument(alloc))?
         .arg(option(alloc, "candump", "IFACE", false, candump))?
         .arg(log_argument(alloc))
@@ -141,7 +141,7 @@ fn top<'a>(alloc: Global) -> Command<'a>
     ensures own { (fields_of result).has_globals ≡ false }
 {
     Command::new(alloc, "n2kdec")
-        .about("Decodes recorded NMEA 2000 traffic")
+        .about("Decode NMEA 2000 logs and live buses")
         .version(VERSION)
         .subcommand_required(true)
         .arg_required_else_help(true)
