@@ -2,6 +2,7 @@
 """Made-up logs of a bus, healthy or with one fault, for `n2k --health`:
 
     bus.py healthy [MINUTES]     a bus without a fault, 60 minutes unless told
+    bus.py busy                  ten minutes of a bus without a fault whose devices also send in bursts, in turns and packets that overlap
     bus.py FAULT                 ten minutes of the same bus with this fault
     bus.py changed [MINUTES]     the healthy bus after changes, for `n2k --compare`
     bus.py --list                each fault, with the kind of finding and the addresses that it has to name
@@ -19,7 +20,7 @@ DEVICES = {1: (1851, 130, 120, "Axiom 9", "E70363"), 3: (229, 145, 60, "GPS 24xd
            6: (135, 130, 60, "DST810 Triducer", "6012774"), 8: (135, 130, 85, "220WX WeatherStation", "5881203"), 22: (137, 140, 50, "J2K100 port", "412377"),
            23: (137, 140, 50, "J2K100 starboard", "412378"), 41: (137, 150, 75, "TLA100 Fuel", "1420331"), 43: (358, 170, 35, "BMV-712", "HQ2138YQK5C"),
            44: (358, 170, 35, "BMV-700", "HQ1901ABCDE")}
-FAST = {126208, 126996, 127489, 127506, 128275, 129029}
+FAST = {126208, 126996, 127489, 127506, 128275, 129029, 129038, 129285}
 
 
 def claim(sender, unique=None):
@@ -360,6 +361,62 @@ def cut_lines(bus):
     return [line if place % 400 else line[:30] for place, line in enumerate(lines(bus.frames()), 1)]
 
 
+def tanks(bus):
+    """The tank sender has a second tank, 0.9 seconds after the first."""
+    bus.every(2.5, 1.1, 6, 127505, 41, lambda t, n: struct.pack("<BhIB", 0x10, 9000 + n, 500, 0xFF))
+
+
+def busy(bus):
+    """Two tanks in turn; the plotter's waypoints and what it says to its like, in bursts; ships, whose packets begin before the last one ended."""
+    tanks(bus)
+    for burst in range(20, bus.seconds, 35):
+        for place in range(20):
+            bus.put(burst + .02 * place, 6, 129285, 1, struct.pack("<HHHHB", 0, 1, 1, 1, 0) + b"\x05\x01abc" + bytes(12))
+            bus.put(burst + 3 + .011 * place, 7, 65305, 1, struct.pack("<HHI", 0x9F41, place, burst))
+    for at in range(10, bus.seconds, 3):
+        for ship in range(3):
+            bus.put(at + .0017 * ship, 4, 129038, 5, struct.pack("<BI", 1, 219000000 + ship) + bytes(22))
+    return bus.frames()
+
+
+@fault(("loss", 5))
+def loses_of_overlapping_packets(bus):
+    busy(bus)
+    return drop(bus.frames(), 0.03, lambda it: pgn_of(it) == 129038)
+
+
+@fault(("silence", 41))
+def silent_with_two_tanks(bus):
+    tanks(bus)
+    return [it for it in bus.frames() if sender_of(it) != 41 or not 200 < it[0] < 245]
+
+
+@fault(("stopped", 41))
+def two_tanks_stop(bus):
+    tanks(bus)
+    bus.every(2, .4, 5, 130316, 41, lambda t, n: struct.pack("<BBB", n % 253, 0, 0) + struct.pack("<I", 291350)[:3] + b"\xff\xff")
+    return [it for it in bus.frames() if pgn_of(it) != 127505 or it[0] < 400]
+
+
+@fault(("gone", 8))
+def gone_while_others_send_in_bursts(bus):
+    busy(bus)
+    return [it for it in bus.frames() if sender_of(it) != 8 or it[0] < 400]
+
+
+@fault(("no power", None))
+def no_power_for_six_seconds(bus):
+    bus.messages = [it for it in bus.messages if not 300 < it[0] < 306]
+    for place, sender in enumerate(DEVICES):
+        bus.put(306 + .01 * place, 6, 60928, sender, claim(sender))
+    return bus.frames()
+
+
+@fault(("hole", None))
+def short_hole(bus):
+    return [it for it in bus.frames() if not 200 < it[0] < 207]
+
+
 def changed(bus):
     """Eight changes and no fault: 8 is gone, 44 moved to 50 and is battery 2, 41 has other software, 5 sends each second, 3 sends no course, 6 a
     temperature, 22 has an alarm, and 43 has 11.90 V."""
@@ -392,6 +449,8 @@ def main(words):
     if words[0] in ("healthy", "changed"):
         bus = Bus(60 * int(words[1]) if len(words) > 1 else 3600)
         made = bus.frames() if words[0] == "healthy" else changed(bus)
+    elif words[0] == "busy":
+        made = busy(Bus(600))
     else:
         made = FAULTS[words[0]][0](Bus(600))
     for line in made if made and isinstance(made[0], str) else lines(made):

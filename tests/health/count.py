@@ -79,11 +79,12 @@ def main(log, report, table):
         lane, of = (sender, pgn, receiver), (sender, pgn, receiver, sequence)
         if place == 0:
             starts[key].append(at)
-        had = sequences.get(lane)
-        if place == 0 or had is None or had != sequence:
-            if had is not None:
-                steps[key + ((sequence - had) % 8,)] += 1
-            sequences[lane] = sequence
+        # The last two numbers of this lane: the ends of two messages may overlap.
+        had = sequences.get(lane, [])
+        if place == 0 or sequence not in had:
+            if had:
+                steps[key + ((sequence - had[-1]) % 8,)] += 1
+            sequences[lane] = [*had[-1:], sequence]
         group = groups.get(of)
         if group and place <= max(group["places"]):
             broken[key] += 1

@@ -7,7 +7,8 @@ All is counted line by line, in memory that does not grow with the log. The coun
 - A gap is the time between two beginnings, rounded to two significant digits of milliseconds. The usual interval is the median gap.
 - A hole is a time of more than HOLE seconds without a line of the log, or a step back by more than a second. No gap goes over a hole.
 - A step is the difference of the sequence numbers of two successive fast packets of a flow and destination, modulo 8, with the gap
-  between them if it is not 1. No step goes over a claim of its address, nor over PAUSE seconds without a line of the log.
+  between them if it is not 1. No step goes over a claim of its address, nor over PAUSE seconds without a line of the log. A frame other
+  than frame 0 begins a packet only if its number differs from those of the last two packets: the ends of two packets may overlap.
 - A window is one of the 10 seconds that a stamp divided by 10 gives. The load is the share of 2,500,000 bits that its frames take.
 """
 import array
@@ -112,12 +113,12 @@ class Device:
 
 
 class Lane:
-    """An identifier: its flow and device, and the last sequence number there."""
+    """An identifier: its flow and device, and the last two sequence numbers there."""
 
-    __slots__ = ("flow", "device", "identifier", "is_fast", "is_claim", "sequence", "last")
+    __slots__ = ("flow", "device", "identifier", "is_fast", "is_claim", "sequence", "before", "last")
 
     def __init__(self, flow, device, identifier, is_fast):
-        self.flow, self.device, self.identifier, self.is_fast, self.sequence, self.last = flow, device, identifier, is_fast, None, 0.0
+        self.flow, self.device, self.identifier, self.is_fast, self.sequence, self.before, self.last = flow, device, identifier, is_fast, None, None, 0.0
         self.is_claim = flow.pgn == 60928
 
 
@@ -206,7 +207,7 @@ class Facts:
         """No step goes over this time."""
         for lane in self.lanes.values():
             if lane:
-                lane.sequence = None
+                lane.sequence = lane.before = None
         for device in self.devices.values():
             device.sequence = None
 
@@ -353,7 +354,7 @@ class Facts:
                 if not data[0] & 31:
                     flow.gaps.add(at)
                     self.step(lane, sequence, at)
-                elif sequence != lane.sequence:
+                elif sequence != lane.sequence and sequence != lane.before:
                     self.step(lane, sequence, at)
         self.all_lines += number - self.lines
         self.lines = number
@@ -367,14 +368,14 @@ class Facts:
                 it.steps[by, 0 if by == 1 else rounded(at - lane.last)] += 1
                 if by > 1:
                     spread(it.jumps, at)
-        lane.sequence, lane.last, device.sequence = sequence, at, sequence
+        lane.before, lane.sequence, lane.last, device.sequence = lane.sequence, sequence, at, sequence
 
     def restarted(self, device):
         """The device counts anew: it claims its address."""
         device.sequence = None
         for lane in self.lanes.values():
             if lane and lane.device is device:
-                lane.sequence = None
+                lane.sequence = lane.before = None
 
     def error(self, number, data):
         """An error frame."""
@@ -429,8 +430,8 @@ class Facts:
 
     # -- Messages.
 
-    def message(self, line, is_of_log=False):
-        """A line of JSON: its time, or None if it is no message. It may be a line of the log itself."""
+    def message(self, line, is_of_log=False, it=None):
+        """A line of JSON: its time, or None if it is no message. It may be a line of the log itself. `it` is what JSON says, if that is known."""
         head = HEAD.match(line)
         if not head:
             return None
@@ -446,13 +447,13 @@ class Facts:
         self.messages += 1
         self.device(sender).messages += 1
         if head[4] in READ or b'nstance":' in line or not flow.description:
-            self.read(line, flow, head[1])
+            self.read(line, flow, head[1], it)
         return self.at
 
-    def read(self, line, flow, stamp):
+    def read(self, line, flow, stamp, it):
         """A message whose fields are read."""
         try:
-            it = page.DECODE(line.decode("utf-8", "replace"))
+            it = it or page.DECODE(line.decode("utf-8", "replace"))
             fields, flow.description = it["fields"], str(it["description"])
             fields.items()
         except (ValueError, KeyError, AttributeError):

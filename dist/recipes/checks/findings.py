@@ -2,13 +2,14 @@
 import math
 
 from screen import page
-from checks.facts import HOLE, RATE, WINDOW
+from checks.facts import PAUSE, RATE, WINDOW, rounded
 from checks.text import lasts, many, seldom, share, text_of
 
 # From here on there is a finding.
 LEAST_LOST, LEAST_SHARE = 3, 0.001  # fast packets of a device
 LEAST_MISSED, LEAST_MISSED_SHARE = 5, 0.01  # messages of one frame
 OVERLOAD = 0.8  # of the bus, in a window
+QUIET = 5.0  # seconds without a frame
 CLOCK = 5.0  # seconds by which a clock may be off
 LEAST_BAD, LEAST_BAD_SHARE = 10, 0.001  # lines
 WEEKS = 1024 * 7 * 86400  # seconds after which a GPS's number of the week is the same
@@ -18,19 +19,34 @@ HARM = ["no power", "bus off", "no acknowledgement", "overload", "recording lose
         "restart", "moved", "errors", "instance", "missed", "stopped", "paused", "device clock", "log clock", "clock jump", "set back", "hole", "bad", "no clock"]
 
 
+def turns(lengths, count):
+    """The seconds in which a few gaps take turns, for a minute at least: each has a tenth of all, and together they have nine tenths; or None."""
+    kinds = []
+    for length, often in sorted(lengths.items()):
+        if kinds and length <= 1.3 * kinds[-1][0] + 20:
+            kinds[-1][1] += often
+            kinds[-1][2] += often * length
+        else:
+            kinds.append([length, often, often * length])
+    kinds = [it for it in kinds if 10 * it[1] >= count]
+    most, all_of_them = sum(it[1] for it in kinds), sum(it[2] for it in kinds)
+    return rounded(all_of_them / min(it[1] for it in kinds) / 1000) / 1000 if 10 * most >= 9 * count and all_of_them >= 60000 else None
+
+
 class Judged:
     """A flow by its gaps: whether they are regular, and how many messages are missing then.
 
     It is regular if it has 20 gaps or more, half of them are the usual one (within a fifth of it), and nine tenths are that or a
-    multiple: what loses messages has multiples, what sends by events has not."""
+    multiple: what loses messages has multiples, what sends by events has not. It has a period if it is regular, or if its gaps are a few
+    that take turns, as of a device that sends two tanks in turn. What is sent in bursts has neither: it is silent nine tenths of the time."""
 
     def __init__(self, flow):
         self.flow, self.usual = flow, flow.gaps.usual()
-        self.is_regular, self.missed, self.limit = False, 0, math.inf
+        self.is_regular, self.missed, self.period = False, 0, None
         count = sum(flow.gaps.lengths.values())
         if count < 20 or not self.usual:
             return
-        self.limit = max(5.0, 10 * self.usual)
+        limit = max(5.0, 10 * self.usual)
         ones = multiples = missed = 0
         for length, often in flow.gaps.lengths.items():
             times = max(1, round(length / 1000 / self.usual))
@@ -38,10 +54,21 @@ class Judged:
                 multiples += often
                 if times == 1:
                     ones += often
-                elif length / 1000 <= self.limit:
+                elif length / 1000 <= limit:
                     missed += (times - 1) * often
-        self.is_regular = 2 * ones >= count and 10 * multiples >= 9 * count
+        is_even = 2 * ones >= count and 10 * multiples >= 9 * count
+        self.period = self.usual if is_even else turns(flow.gaps.lengths, count)
+        self.limit = max(5.0, 10 * self.period) if self.period else math.inf
+        if 10 * sum(length * often for length, often in flow.gaps.lengths.items() if length <= 1000 * self.limit) < sum(
+                length * often for length, often in flow.gaps.lengths.items()):
+            self.period, self.limit = None, math.inf
+        self.is_regular = is_even and self.period is not None
         self.missed = missed if self.is_regular else 0
+
+
+def within(begin, end, times):
+    """Whether more than half of a time is within one of these."""
+    return any(min(end, to) - max(begin, since) > 0.5 * (end - begin) for since, to in times)
 
 
 class Loss:
@@ -90,6 +117,8 @@ class Findings:
         self.judged = {key: Judged(flow) for key, flow in facts.flows.items()}
         self.losses = {sender: Loss(facts, it, self.judged) for sender, it in facts.devices.items()}
         self.moved, self.silences = set(), {}
+        # When the whole bus was silent: that is no device's silence.
+        self.quiets = [(end - length, end) for length, end in facts.quiet.longest if length >= PAUSE]
         if facts.begin is not None:
             self.names()
             self.restarts()
@@ -194,7 +223,8 @@ class Findings:
         self.restarted = times
         for sender, had in times.items():
             if len(had) == 1:
-                text = f"{self.label(sender)} restarted at {self.when(had[0])}."
+                quiet = max((length for length, end in facts.devices[sender].gaps.longest if length >= 2 and abs(end - had[0]) <= 1), default=0)
+                text = f"{self.label(sender)} restarted at {self.when(had[0])}{f', after {lasts(quiet)} of silence' if quiet else ''}."
             else:
                 text = f"{self.label(sender)} restarted {len(had)} times, first at {self.when(had[0])}, last at {self.when(had[-1])}."
             self.add("restart", text, sender, len(had), had[0], had[-1], count=len(had))
@@ -224,7 +254,7 @@ class Findings:
     def device_silences(self):
         facts = self.facts
         for sender, device in sorted(facts.devices.items()):
-            usual = min((it.usual for (of, _), it in self.judged.items() if of == sender and it.is_regular), default=None)
+            usual = min((it.period for (of, _), it in self.judged.items() if of == sender and it.period), default=None)
             if usual is None or sender in self.moved:
                 continue
             limit = max(5.0, 10 * usual)
@@ -237,7 +267,7 @@ class Findings:
             if facts.at - since > limit:
                 self.add("gone", f"{self.label(sender)} has been silent since {self.when(since)}, {lasts(facts.at - since)} before the log's end. Before, it "
                          f"sent every {seldom(usual)}.", sender, facts.at - since, since, None, seconds=round(facts.at - since, 3))
-            pauses = [it for it in pauses if it not in has_restarted or it[1] - it[0] > 60]
+            pauses = [it for it in pauses if (it not in has_restarted or it[1] - it[0] > 60) and not within(*it, self.quiets)]
             if pauses:
                 begin, end = max(pauses, key=lambda it: it[1] - it[0])
                 count = max(len(pauses), count - len(has_restarted))
@@ -252,13 +282,12 @@ class Findings:
         facts, stopped, paused = self.facts, {}, {}
         for (sender, _), it in self.judged.items():
             flow, silences = it.flow, self.silences.get(sender, ())
-            if not it.is_regular or sender in self.moved:
+            if not it.period or sender in self.moved:
                 continue
             since = flow.gaps.newest
             if facts.at - since > it.limit and not any(begin <= since + it.limit and end == facts.at for begin, end in silences):
                 stopped.setdefault(sender, []).append((since, it))
-            pauses = [(length, end) for length, end in flow.gaps.longest
-                      if length > it.limit and not any(min(end, to) - max(end - length, begin) > 0.5 * length for begin, to in silences)]
+            pauses = [(length, end) for length, end in flow.gaps.longest if length > it.limit and not within(end - length, end, silences)]
             if pauses:
                 paused.setdefault(sender, []).append((*max(pauses), it))
         for sender, flows in stopped.items():
@@ -266,12 +295,12 @@ class Findings:
             since, it = flows[0]
             more = f", and {many(len(flows) - 1, 'more PGN')}" if len(flows) > 1 else ""
             self.add("stopped", f"{self.label(sender)} goes on, but has not sent {self.title(it.flow)}{more} since {self.when(since)}. Before, it sent it every "
-                     f"{seldom(it.usual)}.", sender, len(flows), since, None, pgn=it.flow.pgn, pgns=[one.flow.pgn for _, one in flows])
+                     f"{seldom(it.period)}.", sender, len(flows), since, None, pgn=it.flow.pgn, pgns=[one.flow.pgn for _, one in flows])
         for sender, flows in paused.items():
             length, end, it = max(flows, key=lambda one: one[0])
             more = f", and {many(len(flows) - 1, 'more PGN')} paused" if len(flows) > 1 else ""
             self.add("paused", f"{self.label(sender)} sent no {self.title(it.flow)} for {lasts(length)} from {self.when(end - length)} on, usually every "
-                     f"{seldom(it.usual)}{more}.", sender, length, end - length, end, pgn=it.flow.pgn, pgns=[one.flow.pgn for *_, one in flows], seconds=round(length, 3))
+                     f"{seldom(it.period)}{more}.", sender, length, end - length, end, pgn=it.flow.pgn, pgns=[one.flow.pgn for *_, one in flows], seconds=round(length, 3))
 
     # -- Loss.
 
@@ -308,10 +337,10 @@ class Findings:
                          of=missed + sent, pgn=worst.flow.pgn)
 
     def missed(self, it):
-        """The messages that are missing of a flow, without those of a restart."""
+        """The messages that are missing of a flow, without those of a restart, or of a time when the whole bus was silent."""
         restarts = self.restarted.get(it.flow.sender, ())
         return it.missed - sum(max(0, round(length / it.usual) - 1) for length, end in it.flow.gaps.longest
-                               if length <= it.limit and any(end - length <= at <= end + 1 for at in restarts))
+                               if length <= it.limit and (any(end - length <= at <= end + 1 for at in restarts) or within(end - length, end, self.quiets)))
 
     # -- The bus.
 
@@ -383,12 +412,12 @@ class Findings:
             self.add("set back", f"The log's clock was set back by {lasts(before - after)} at {self.when(before)}" +
                      (f", and {many(len(facts.set_back) - 1, 'time')} more." if len(facts.set_back) > 1 else "."), None, before - after, before, after,
                      count=len(facts.set_back))
-        holes = [it for it in facts.holes if not any(it[0] <= one["from"] + 1 and one["to"] <= it[1] + 4 for one in self.power)]
+        holes = [it for it in sorted([*facts.holes, *self.quiets]) if it[1] - it[0] >= QUIET and not any(it[0] <= one["from"] + 1 and one["to"] <= it[1] + 4 for one in self.power)]
         # A bus on which little comes has no holes.
         if holes and facts.frames + facts.messages >= facts.recorded:
             begin, end = max(holes, key=lambda it: it[1] - it[0])
             told = f"No frame came for {lasts(end - begin)} from {self.when(begin)} on" if len(holes) == 1 else \
-                f"No frame came {len(holes)} times for more than {HOLE:g} s, longest for {lasts(end - begin)} from {self.when(begin)} on"
+                f"No frame came {len(holes)} times for {QUIET:g} s or more, longest for {lasts(end - begin)} from {self.when(begin)} on"
             self.add("hole", f"{told}: the recording paused, or the bus had no power.", None, end - begin, holes[0][0], holes[0][1], count=len(holes),
                      seconds=round(end - begin, 3))
         bad = sum(facts.bad.values())

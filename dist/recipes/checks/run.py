@@ -1,5 +1,6 @@
 """Reads logs: their lines go to the facts and to the decoder, and what the decoder prints and reports goes to the facts too."""
 import os
+import re
 import select
 import sys
 
@@ -19,9 +20,13 @@ def facts_of(command):
     return Facts(lambda numbers: kinds_of(command, numbers) if command else {}, "--whole" in command, window)
 
 
-def read(facts, file, command, output=None):
-    """Reads the log of this open file to its end. Its messages go to `output` too, a line each."""
-    first = os.read(file, 1 << 16)
+def read(facts, log, command, output=None):
+    """Reads a log to its end: a file, one that is open already (/dev/fd/N), or standard input (-). Its messages go to `output` too, a line each."""
+    file = 0 if log == "-" else int(log[8:]) if re.fullmatch(r"/dev/fd/\d+", log) else os.open(log, os.O_RDONLY)
+    try:
+        first = os.read(file, 1 << 16)
+    except OSError as fault:
+        raise OSError(fault.errno, fault.strerror, log) from None
     # A log of messages is decoded already.
     decoder = None if first.lstrip()[:1] == b"{" else Decoder(command)
     facts.part()
@@ -74,6 +79,7 @@ def read(facts, file, command, output=None):
     finally:
         if decoder and decoder.stdin is not None:
             decoder.end()
+    os.close(file)
     facts.end()
     for text in notes[:20]:
         print(text, file=sys.stderr)

@@ -177,7 +177,8 @@ class Trip:
             if speed is not None and (had is None and len(self.wind) < MOST_THINGS or had and speed > had[0]):
                 self.wind[reference] = speed, at, self.way.place(at), sender
         else:
-            name = str(get("Instance", 0))
+            # A device may leave out which of one engine or battery it speaks of.
+            name = str(get("Instance", ""))
             if pgn == 127488:
                 self.thing(self.speeds, name, Over).add(sender, at, amount(get("Speed")))
             elif pgn == 127489:
@@ -239,10 +240,10 @@ class Trip:
         for one in it["engines"]:
             told = [f"{page.span(one['seconds'])} running" if one["seconds"] is not None else "", f"{page.fixed(one['litres'], 1)} L" if one["litres"] is not None else ""]
             name = ENGINES.get(one["engine"], one["engine"])
-            rows.append((f"Engine {name}", ", ".join(part for part in told if part) or "no hours, no litres"))
+            rows.append((f"Engine {name}".rstrip(), ", ".join(part for part in told if part) or "no hours, no litres"))
         for one in it["batteries"]:
             volts = f", {one['volts'][0]:.2f} to {one['volts'][1]:.2f} V" if one["volts"] else ""
-            rows.append((f"Battery {one['battery']}", f"{page.fixed(one['charged'], 1)} Ah charged, {page.fixed(one['discharged'], 1)} Ah discharged{volts}"))
+            rows.append((f"Battery {one['battery']}".rstrip(), f"{page.fixed(one['charged'], 1)} Ah charged, {page.fixed(one['discharged'], 1)} Ah discharged{volts}"))
         for reference, (value, at, place, _) in it["wind"].items():
             told = f"{page.fixed(value / speed, 1)} {'knots' if speed != 1 else 'm/s'}"
             rows.append((f"Strongest wind, {reference.lower()}", f"{told} {at_place(at, place)}"))

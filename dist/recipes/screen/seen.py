@@ -411,7 +411,7 @@ class Bus:
     # -- Messages.
 
     def message(self, text):
-        """A line of JSON."""
+        """A line of JSON; gives what it says, or None if it is no message."""
         try:
             it = page.DECODE(text)
             fields, sender, pgn, description = it["fields"], it["src"], it["pgn"], it["description"]
@@ -422,7 +422,7 @@ class Bus:
         except (ValueError, KeyError, TypeError, AttributeError, RecursionError):
             # Of a log of messages.
             self.bad += 1
-            return
+            return None
         if at is None:
             at = self.at or 0.0
         if len(things) == 1:
@@ -475,6 +475,7 @@ class Bus:
             if told.get(sender) != fields:
                 told[sender] = fields
                 self.version += 1
+        return it
 
     def enter(self, key):
         """A new message, if there is a place for it. Other ships give way to newer ones. Of own devices none is forgotten; but if invented
