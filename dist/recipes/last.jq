@@ -26,11 +26,12 @@ def ranks:
     | reduce range($first | length) as $at ({}; .[$first[$at] | tostring] = $at) | reduce range($last | length) as $at (.; .[$last[$at] | tostring] = 100 + $at);
 
 ranks as $ranks | things as $things | ($things | keys) as $names | ($ARGS.named.own // $known::known)[0] as $units | ($ARGS.named.units | unit_names) as $called
-| reduce lines as $m ({last: {}};
+# The days stand beside the messages, whose keys begin with a bracket: jq copies what lies deeper.
+| reduce lines as $m ({};
       (if .has_days then . elif .day == null then .day = $m.timestamp[:10] else .has_days = .day != $m.timestamp[:10] end)
-      | setpath(["last", ($m | [.pgn, .src, .description, (.fields | .[keys_unsorted[] | select($things[.])])] | tojson)]; $m))
+      | setpath([$m | [.pgn, .src, .description, (.fields | .[keys_unsorted[] | select($things[.])])] | tojson]; $m))
 | (.has_days and (.day | test("^\\d{4}-\\d\\d-\\d\\d$"))) as $has_days
-| [.last[]] | sort_by($ranks[.pgn | tostring] // 50, .pgn, .src, .description)
+| del(.day, .has_days) | [.[]] | sort_by($ranks[.pgn | tostring] // 50, .pgn, .src, .description)
 | [.[] as $m | ($units[$m.pgn | tostring][$m.description] // {}) as $mine
     | ([$m.fields[$names[]] | values | shown] | join(", ")) as $thing
     | $m.fields | to_entries[] | select((.key != "list" or (.value | type != "array" or any(.[]; type != "object"))) and .value != null and $things[.key] == null)

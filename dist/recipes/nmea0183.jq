@@ -162,4 +162,4 @@ spread as $spread | (alone + many) as $wanted
                   | if $m.pgn == 129025 then .is_due = (.second == null or .second != .told) | .told = .second else . end
               else . end
         end;
-      if .says then said($m) | select(length < 77) | sentence($spread) else empty end)
+      if .says then said($m) | select(length < 77 and (test("[^ -~]") | not)) | sentence($spread) else empty end)

@@ -226,7 +226,7 @@ class Pgn(Stream):
 
 def alert(fields):
     told = page.alert(fields)
-    yield told, told, fields.get("Alert State") in page.STATES
+    yield told, told, str(fields.get("Alert State")) in page.STATES
 
 
 def seatalk_alarm(fields):
