@@ -18,7 +18,7 @@ import re
 
 from screen import page
 from screen.bits import Frames
-from screen.seen import CANDUMP, END, MOST_PGNS, TIMESTAMP
+from screen.seen import CANDUMP, END, TIMESTAMP
 
 HOLE, PAUSE = 10.0, 2.0  # seconds
 WINDOW = 10  # seconds
@@ -108,18 +108,19 @@ class Device:
     def __init__(self, sender):
         self.sender, self.frames, self.bits, self.window, self.messages = sender, 0, 0, 0, 0
         self.gaps, self.sequence, self.steps, self.jumps = Gaps(), None, collections.Counter(), []
+        self.era = 0  # another one where no step goes over: a claim, a pause
         self.product, self.installed, self.claim = {}, {}, {}
         self.heartbeat = None  # its last counter and time
 
 
 class Lane:
-    """An identifier: its flow and device, and the last two sequence numbers there."""
+    """An identifier: its flow and device, and the last two sequence numbers there, of an era of its device."""
 
-    __slots__ = ("flow", "device", "identifier", "is_fast", "is_claim", "sequence", "before", "last")
+    __slots__ = ("flow", "device", "identifier", "is_fast", "is_claim", "sequence", "before", "last", "era")
 
     def __init__(self, flow, device, identifier, is_fast):
         self.flow, self.device, self.identifier, self.is_fast, self.sequence, self.before, self.last = flow, device, identifier, is_fast, None, None, 0.0
-        self.is_claim = flow.pgn == 60928
+        self.is_claim, self.era = flow.pgn == 60928, device.era
 
 
 class Loads:
@@ -151,7 +152,7 @@ class Facts:
 
     def __init__(self, kinds, is_whole=False, window=10000):
         self.kinds, self.is_whole = kinds, is_whole
-        self.known, self.lanes, self.flows, self.devices = {}, {}, {}, {}
+        self.known, self.lanes, self.flows, self.devices = None, {}, {}, {}
         self.left_out = 0
         self.bits_of = Frames()
         self.begin = self.at = None
@@ -205,11 +206,8 @@ class Facts:
 
     def forget_sequences(self):
         """No step goes over this time."""
-        for lane in self.lanes.values():
-            if lane:
-                lane.sequence = lane.before = None
         for device in self.devices.values():
-            device.sequence = None
+            self.restarted(device)
 
     def finish_window(self):
         if self.window_bits:
@@ -255,22 +253,16 @@ class Facts:
                 self.all_lines += 1
                 self.stamps[self.lines % self.size] = self.at or 0.0
 
-    def ask(self, words):
-        """Asks how the PGNs of new identifiers are sent."""
-        pgns = set()
-        for word in words:
-            number = int(word, 16)
-            if len(word) == 8 and number < 1 << 29:
-                pgns.add(number >> 8 & (0x3FFFF if number >> 16 & 0xFF >= 240 else 0x3FF00))
-        new = [pgn for pgn in pgns if pgn not in self.known]
-        if new and len(self.known) < MOST_PGNS:
-            told = self.kinds(new)
-            self.known.update((pgn, told.get(pgn, "unknown")) for pgn in new)
+    def kind(self, pgn):
+        """How the table says that a PGN is sent. All are asked for at once: each question takes a run of the program."""
+        if self.known is None:
+            self.known = self.kinds([of << 16 | low for of in range(4) for low in (*range(0, 0xF000, 256), *range(0xF000, 0x10000))])
+        return self.known.get(pgn, "unknown")
 
     def flow(self, sender, pgn):
         found = self.flows.get((sender, pgn))
         if found is None:
-            found = Flow(sender, pgn, self.known.get(pgn))
+            found = Flow(sender, pgn, self.kind(pgn) if self.has_frames or self.has_wholes else None)
             if len(self.flows) < MOST_FLOWS:
                 self.flows[sender, pgn] = found
             else:
@@ -291,15 +283,12 @@ class Facts:
         pgn, sender = number >> 8 & (0x3FFFF if number >> 16 & 0xFF >= 240 else 0x3FF00), number & 0xFF
         if len(self.lanes) > 10 * MOST_FLOWS:
             self.lanes = {}
-        lane = self.lanes[word] = Lane(self.flow(sender, pgn), self.device(sender), word.decode(), self.known.get(pgn) == "fast")
+        lane = self.lanes[word] = Lane(self.flow(sender, pgn), self.device(sender), word.decode(), self.kind(pgn) == "fast")
         return lane
 
     def take(self, found):
         """Frames, each with stamp, identifier and data."""
         lanes, stamps, mask, bits_of, unhex = self.lanes, self.stamps, self.size - 1, self.bits_of.bits, binascii.unhexlify
-        new = {word for _, word, _ in found if word not in lanes}
-        if new:
-            self.ask(new)
         self.has_frames = True
         number, now, window_end = self.lines, self.at, self.window_end
         for stamp, word, digits in found:
@@ -351,6 +340,8 @@ class Facts:
                     self.restarted(device)
             elif data:
                 sequence = data[0] >> 5
+                if lane.era != device.era:
+                    lane.sequence, lane.before, lane.era = None, None, device.era
                 if not data[0] & 31:
                     flow.gaps.add(at)
                     self.step(lane, sequence, at)
@@ -371,11 +362,9 @@ class Facts:
         lane.before, lane.sequence, lane.last, device.sequence = lane.sequence, sequence, at, sequence
 
     def restarted(self, device):
-        """The device counts anew: it claims its address."""
+        """The device counts anew, as after a claim of its address."""
         device.sequence = None
-        for lane in self.lanes.values():
-            if lane and lane.device is device:
-                lane.sequence = lane.before = None
+        device.era += 1
 
     def error(self, number, data):
         """An error frame."""
@@ -401,8 +390,7 @@ class Facts:
             self.take([(f"{at:.6f}".encode(), identifier, b"".join(words[6:]))])
             return at
         self.has_wholes = True
-        self.ask([identifier] if pgn < 1 << 18 else [])
-        count = 1 + length // 7 if length > 8 or self.known.get(pgn) == "fast" else 1
+        count = 1 + length // 7 if length > 8 or self.kind(pgn) == "fast" else 1
         bits = count * self.bits_of.bits(identifier.decode(), bytes(8) if count > 1 else data)
         self.whole(at, sender, pgn, count, bits)
         return at
