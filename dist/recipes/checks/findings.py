@@ -77,8 +77,9 @@ class Loss:
     a regular flow is missing only if its time was skipped too; for the others eight steps of ten have to be 1. A step over a silence
     says nothing, the device may have been off."""
 
-    def __init__(self, facts, device, judged):
-        flows = [it for (sender, _), it in facts.flows.items() if sender == device.sender and (it.kind == "fast" or it.broken)]
+    def __init__(self, device, judged):
+        flows = [it.flow for it in judged if it.flow.kind == "fast" or it.flow.broken]
+        judged = {it.flow.pgn: it for it in judged}
         self.complete, self.broken = sum(it.messages for it in flows), sum(it.broken for it in flows)
         self.times = [at for it in flows for at in it.lost]
         ways = []
@@ -88,7 +89,7 @@ class Loss:
         best, way = max(ways, key=lambda it: it[0])
         self.counts, self.skipped = "" if best < 0.5 else "each PGN" if way is flows else "all PGNs", 0
         for it in way if self.counts else ():
-            its = judged.get((device.sender, getattr(it, "pgn", None)))
+            its = judged.get(getattr(it, "pgn", None))
             is_regular = its is not None and its.is_regular
             skipped = sum((by - 1) * often for (by, gap), often in it.steps.items()
                           if by > 1 and (1500 * its.usual <= gap <= 1000 * its.limit if is_regular else best >= 0.8 and gap <= 5000))
@@ -115,7 +116,10 @@ class Findings:
     def __init__(self, facts):
         self.facts, self.found = facts, []
         self.judged = {key: Judged(flow) for key, flow in facts.flows.items()}
-        self.losses = {sender: Loss(facts, it, self.judged) for sender, it in facts.devices.items()}
+        self.of = {sender: [] for sender in facts.devices}
+        for (sender, _), it in self.judged.items():
+            self.of.setdefault(sender, []).append(it)
+        self.losses = {sender: Loss(it, self.of[sender]) for sender, it in facts.devices.items()}
         self.moved, self.silences = set(), {}
         # When the whole bus was silent: that is no device's silence.
         self.quiets = [(end - length, end) for length, end in facts.quiet.longest if length >= PAUSE]
@@ -254,7 +258,7 @@ class Findings:
     def device_silences(self):
         facts = self.facts
         for sender, device in sorted(facts.devices.items()):
-            usual = min((it.period for (of, _), it in self.judged.items() if of == sender and it.period), default=None)
+            usual = min((it.period for it in self.of[sender] if it.period), default=None)
             if usual is None or sender in self.moved:
                 continue
             limit = max(5.0, 10 * usual)
@@ -328,7 +332,7 @@ class Findings:
         if usual < math.inf:
             return
         for sender in facts.devices:
-            mine = [it for (of, _), it in self.judged.items() if of == sender and it.is_regular and it.flow.kind != "fast"]
+            mine = [it for it in self.of[sender] if it.is_regular and it.flow.kind != "fast"]
             missed, sent = sum(self.missed(it) for it in mine), sum(it.flow.gaps.count for it in mine)
             if missed >= LEAST_MISSED and missed >= LEAST_MISSED_SHARE * (missed + sent):
                 worst = max(mine, key=lambda it: it.missed)
