@@ -108,7 +108,7 @@ def fail(status, text):
 def take_terminal():
     """The terminal becomes standard input, and the log gets another number, which is given."""
     if not os.isatty(1):
-        fail(2, "it takes the whole screen, and standard output is no terminal; recipes/last.jq prints the last values")
+        fail(2, "it needs the whole screen, but standard output is not a terminal; recipes/last.jq prints the last values")
     if os.isatty(0):
         fail(2, "there is no log on standard input: candump -L can0 | n2k --live")
     try:
