@@ -106,7 +106,7 @@ class Job(NamedTuple):
 
     def key(self, before: str, log: Log) -> str:
         """What a part is made of: the parts before it, its log, the table, the program and the columns."""
-        own = [before, log.mark, hashlib.sha256(self.toml).hexdigest(), self.program.digest, *self.columns, *["parquet"][:self.has_parquet]]
+        own = [before, log.mark, digest_of(self.toml), self.program.digest, *self.columns, *["parquet"][:self.has_parquet]]
         return hashlib.sha256("\n".join(own).encode()).hexdigest()
 
 
@@ -129,6 +129,11 @@ class Lost(Exception):
 
 class Busy(Exception):
     """Another call works in the folder."""
+
+
+@functools.lru_cache(1)
+def digest_of(toml: bytes) -> str:
+    return hashlib.sha256(toml).hexdigest()
 
 
 @functools.lru_cache(None)
