@@ -1,6 +1,7 @@
 """Decodes the logs of many boats side by side: on the processors of this computer, or on a cluster of Dask.
 
     n2k-fleet [--scheduler ADDRESS] [--table FILE] [--also FILE] [--columns PGN/FIELD,.. [--joined]] --out FOLDER LOG..
+    n2k-fleet [--scheduler ADDRESS] [--table FILE] [--also FILE] --parquet FOLDER LOG..
 
 LOG and FOLDER are names of this computer, or of fsspec, as s3://bucket/boats/*.
 
@@ -14,13 +15,15 @@ counts; of a folder of days BOAT/DATE.json.gz, BOAT/DATE.reports, and BOAT/DATE.
 written under another name and renamed when it is whole. FOLDER/.n2k-fleet records what each file was made of: a file is made
 again if its log, a day before it, the table or the program has changed. One call at a time works in a FOLDER.
 
-    --scheduler ADDRESS   the address of a dask-scheduler, as tcp://10.0.0.2:8786 [default: DASK_SCHEDULER_ADDRESS or Dask's
+    --scheduler ADDRESS   the address of a scheduler of Dask, as tcp://10.0.0.2:8786 [default: DASK_SCHEDULER_ADDRESS or Dask's
                           configuration; if neither has one, or ADDRESS is empty, this computer works]
     --table FILE          the table [default: the installed table]
     --also FILE           add the messages and names of your own table, as n2k --also does; may be given several times
     --columns LIST        instead of JSON a table NAME.csv for each boat, as `n2k --csv` makes it of these columns,
                           each of the first thing that comes
     --joined              with --columns: also all boats in one table, fleet.csv, whose first column is the boat
+    --parquet FOLDER      instead of JSON Parquet files boat=BOAT/pgn=PGN/day=DATE/BOAT.parquet, with a row for each message;
+                          reports and states are in FOLDER/.n2k-fleet. It needs pyarrow, here and on each worker
 
 If a day cannot be read, n2k-fleet names it and decodes the next day from no state. At the end a table has days, lines and
 counts of each boat. The status is 1 if lines were bad, 2 if an argument or the table is refused, 3 if a log failed or the
@@ -34,13 +37,14 @@ import argparse
 import collections
 import contextlib
 import copy
+import datetime
 import fcntl
 import functools
 import getpass
 import gzip
 import hashlib
-import importlib.machinery
 import importlib.util
+import itertools
 import json
 import logging
 import multiprocessing
@@ -55,15 +59,16 @@ import socket
 import subprocess
 import sys
 import tempfile
-import threading
 import time
+import types
+import urllib.parse
 import uuid
-import zipfile
 from collections.abc import Callable, Iterator, Sequence
-from typing import Any, BinaryIO, NamedTuple, Optional, Union
+from typing import Any, BinaryIO, NamedTuple, Optional
 
 try:
     import n2kdec
+    from n2kdec._frame import STAMP, text_of, types_of
     from n2kdec._logs import Boat, Chain, Log, LogError, boats_of, is_remote, messages_of, names_of, store_of
     MISSING = ""
 except ImportError as _error:  # a worker gets this file even if it has no library, and says so
@@ -72,8 +77,13 @@ except ImportError as _error:  # a worker gets this file even if it has no libra
 HERE = pathlib.Path(__file__).resolve().parent
 # The folder of records within a folder of results, and the names of files that are not whole yet.
 OWN = ".n2k-fleet"
-UNFINISHED = re.compile(r"\..+\.(json|json\.gz|reports|state|csv)\.new-.+-\d+-\d+")
+# On a worker, the text of the recipe that makes CSV.
+CONVERT = globals().get("CONVERT", "")
+UNFINISHED = re.compile(r"\..+\.new-.+-\d+-\d+")
+NUMBERS = itertools.count()
 TRIES = 3
+# How many rows of Parquet files wait at most.
+MOST_ROWS = 50_000
 
 
 class Program(NamedTuple):
@@ -92,10 +102,11 @@ class Job(NamedTuple):
     folder: str
     columns: tuple[str, ...]
     call: str
+    has_parquet: bool = False
 
     def key(self, before: str, log: Log) -> str:
         """What a part is made of: the parts before it, its log, the table, the program and the columns."""
-        own = [before, log.mark, hashlib.sha256(self.toml).hexdigest(), self.program.digest, *self.columns]
+        own = [before, log.mark, digest_of(self.toml), self.program.digest, *self.columns, *["parquet"][:self.has_parquet]]
         return hashlib.sha256("\n".join(own).encode()).hexdigest()
 
 
@@ -112,19 +123,17 @@ class Done(NamedTuple):
     stop: Optional[tuple[str, str]]
 
 
-class Wrong(NamedTuple):
-    """A worker that has another program, or none."""
-
-    worker: str
-    text: str
-
-
 class Lost(Exception):
     """The scheduler does not answer, or no longer answers."""
 
 
 class Busy(Exception):
     """Another call works in the folder."""
+
+
+@functools.lru_cache(1)
+def digest_of(toml: bytes) -> str:
+    return hashlib.sha256(toml).hexdigest()
 
 
 @functools.lru_cache(None)
@@ -141,8 +150,9 @@ def program() -> Program:
     return Program(n2kdec.__version__, platform.machine(), digest.hexdigest())
 
 
-def difference(wanted: Program) -> str:
-    """Why this computer cannot work for one with the program `wanted`, or nothing."""
+def difference(job: Job) -> str:
+    """Why this computer cannot do such a job, or nothing."""
+    wanted = job.program
     try:
         own = program()
     except Exception as error:  # also those of an n2kdec that is not here
@@ -151,6 +161,8 @@ def difference(wanted: Program) -> str:
         return f"has n2kdec {own.version}, and this computer {wanted.version}"
     if own.machine == wanted.machine and own.digest != wanted.digest:
         return f"has other files of n2kdec {own.version} than this computer"
+    if job.has_parquet and not importlib.util.find_spec("pyarrow"):
+        return "has no pyarrow"
     return ""
 
 
@@ -182,9 +194,9 @@ class Folder:
     @contextlib.contextmanager
     def new(self, name: str, is_kept: bool = True) -> Iterator[BinaryIO]:
         """A file that gets its name when it is whole; if `is_kept`, a power cut after that does not undo it."""
-        folder, base = os.path.split(self.path(name))
-        os.makedirs(folder, exist_ok=True)
-        new = os.path.join(folder, f".{base}.new-{socket.gethostname()}-{os.getpid()}-{threading.get_ident()}")
+        new = self.path(unfinished(name))
+        for it in (new, self.path(name)):
+            os.makedirs(os.path.dirname(it), exist_ok=True)
         try:
             with open(new, "w+b") as file:
                 yield file
@@ -196,12 +208,14 @@ class Folder:
             with contextlib.suppress(FileNotFoundError):
                 os.unlink(new)
 
-    def clean(self, folders: Sequence[str]) -> None:
-        """Removes the files that a process which was killed has left in these folders of it."""
-        for folder in folders:
-            for name in filter(UNFINISHED.fullmatch, self.names(folder)):
-                with contextlib.suppress(FileNotFoundError):
-                    os.unlink(self.path(os.path.join(folder, name)))
+    def remove(self, name: str) -> None:
+        with contextlib.suppress(FileNotFoundError):
+            os.unlink(self.path(name))
+
+    def clean(self) -> None:
+        """Removes the files that a process which was killed has left."""
+        for name in filter(UNFINISHED.fullmatch, self.names(OWN)):
+            self.remove(f"{OWN}/{name}")
 
     @contextlib.contextmanager
     def held(self, call: str) -> Iterator[None]:
@@ -226,7 +240,7 @@ class Folder:
             try:
                 yield
             finally:
-                os.unlink(name)
+                self.remove(f"{OWN}/lock")
 
 
 class RemoteFolder(Folder):
@@ -268,21 +282,20 @@ class RemoteFolder(Folder):
     @contextlib.contextmanager
     def new(self, name: str, is_kept: bool = True) -> Iterator[BinaryIO]:
         """It is made here, sent under another name, and renamed there."""
-        folder, base = os.path.split(self.path(name))
-        new = f"{folder}/.{base}.new-{socket.gethostname()}-{os.getpid()}-{threading.get_ident()}"
+        new = self.path(unfinished(name))
         with tempfile.NamedTemporaryFile() as file:
             yield file  # type: ignore[misc]
             file.flush()
             with self.asked():
-                self.store.makedirs(folder, exist_ok=True)
+                for it in (new, self.path(name)):
+                    self.store.makedirs(os.path.dirname(it), exist_ok=True)
                 self.store.put_file(file.name, new)
                 self.store.mv(new, self.path(name))
 
-    def clean(self, folders: Sequence[str]) -> None:
-        for folder in folders:
-            for name in filter(UNFINISHED.fullmatch, self.names(folder)):
-                with self.asked():
-                    self.store.rm_file(self.path(f"{folder}/{name}".lstrip("/")))
+    def remove(self, name: str) -> None:
+        if self.has(name):
+            with self.asked():
+                self.store.rm_file(self.path(name))
 
     @contextlib.contextmanager
     def held(self, call: str) -> Iterator[None]:
@@ -297,8 +310,12 @@ class RemoteFolder(Folder):
         try:
             yield
         finally:
-            with self.asked():
-                self.store.rm_file(self.path(name))
+            self.remove(name)
+
+
+def unfinished(name: str) -> str:
+    """The name of a file of a folder until it is whole."""
+    return f"{OWN}/.{os.path.basename(name)}.new-{socket.gethostname()}-{os.getpid()}-{next(NUMBERS)}"
 
 
 def folder_of(name: str) -> Folder:
@@ -338,7 +355,7 @@ def holder_of(lock: Optional[bytes]) -> str:
 
 
 class Record:
-    """What the files of a boat were made of: of each part its key and its counts."""
+    """What the files of a boat were made of: of each part its key, its counts and the names of its tables."""
 
     def __init__(self, folder: Folder, name: str) -> None:
         self.folder, self.name = folder, f"{OWN}/{name}.json"
@@ -350,16 +367,18 @@ class Record:
 
     def counts(self, part: str, key: str) -> Optional[n2kdec.Counts]:
         """The counts of a part if it was made of this."""
-        known, counts = self.parts.get(part, ("", None))
+        known, counts, _ = self.parts.get(part, ("", None, ()))
         return n2kdec.Counts(*counts) if known == key else None
 
     def forget(self, part: str) -> None:
         """A part is made anew: while its files change, the record does not name them."""
-        if self.parts.pop(part, None):
+        if old := self.parts.pop(part, None):
             self.save()
+            for name in old[2]:
+                self.folder.remove(name)
 
-    def put(self, part: str, key: str, counts: n2kdec.Counts) -> None:
-        self.parts[part] = key, counts
+    def put(self, part: str, key: str, counts: n2kdec.Counts, tables: Sequence[str] = ()) -> None:
+        self.parts[part] = key, counts, tables
         # A boat may have thousands of short days. A killed worker's last second is done again.
         if time.monotonic() - self.saved > 1:
             self.save()
@@ -396,13 +415,20 @@ class Work:
     def __init__(self, boat: Boat, job: Job) -> None:
         self.boat, self.job, self.start = boat, job, time.monotonic()
         self.folder = folder_of(job.folder)
-        self.record = Record(self.folder, f"{boat.name}.csv" if job.columns else boat.name)
+        self.record = Record(self.folder, boat.name + (".csv" if job.columns else ".parquet" if job.has_parquet else ""))
         self.chain = Chain(job.toml)
         self.days = self.lines = 0
         # The counts of the part before, and of what ended with a part that cannot be read.
         self.counts = self.ended = n2kdec.Counts(0, 0, 0, 0, 0, 0)
         self.faults: list[str] = []
         self.is_broken = False
+        # The Parquet files of the part that is made.
+        self.tables: list[str] = []
+
+    def base(self, log: Log) -> str:
+        """What the names of a part's files begin with."""
+        own = [OWN][:self.job.has_parquet]
+        return "/".join([*own, *[self.boat.name][:self.boat.has_days], log.part])
 
     def done(self, stop: Optional[tuple[str, str]] = None) -> Done:
         self.chain.end()
@@ -430,12 +456,13 @@ def stop_of(error: Exception, where: str) -> tuple[str, str]:
 
 def decode_boat(boat: Boat, job: Job, may_work: bool = True) -> Optional[Done]:
     """Makes the files of a boat that are not made yet; None if there are some and it may not work."""
-    work, key, before = Work(boat, job), "", ""
-    names = work.folder.names(boat.name if boat.has_days else "")
+    work, key, before, names = Work(boat, job), "", "", None
     try:
         for log in boat.logs:
-            base = f"{boat.name}/{log.part}" if boat.has_days else boat.name
-            files = [f"{log.part}{end}" for end in (".json.gz", ".reports", *[".state"][:boat.has_days])]
+            base = work.base(log)
+            if names is None:
+                names = work.folder.names(os.path.dirname(base))
+            files = [f"{log.part}{end}" for end in (*[".json.gz"][job.has_parquet:], ".reports", *[".state"][:boat.has_days])]
             key = job.key(key, log)
             counts = None if log.fault else work.record.counts(log.part, key)
             if counts is not None and names.issuperset(files):
@@ -448,7 +475,7 @@ def decode_boat(boat: Boat, job: Job, may_work: bool = True) -> Optional[Done]:
                     if counts is None:
                         work.record.forget(log.part)
                     counts = decode_part(work, log, base, before)
-                    work.record.put(log.part, key, counts)
+                    work.record.put(log.part, key, counts, work.tables)
                     work.put(log, counts, counts.lines - work.counts.lines)
                 except LogError as error:
                     work.fail(error)
@@ -467,32 +494,120 @@ def decode_part(work: Work, log: Log, base: str, before: str) -> n2kdec.Counts:
     folder, chain = work.folder, work.chain
     if chain.decoder is None:
         chain.begin(folder.read(before) if before else None)
-    with folder.new(f"{base}.json.gz") as out, folder.new(f"{base}.reports") as reports, packed(out) as text:
+    with folder.new(f"{base}.reports") as reports, messages_file(work, log) as put:
         for printed, told in chain.decode(log):
-            text.write(printed)
+            put(printed)
             reports.write("".join(f"{it}\n" for it in told).encode())
         reports.write(line_of(chain.counts))
-        text.close()
         check_call(folder, work.job.call)
-        if work.boat.has_days:
-            with folder.new(f"{base}.state") as state:
-                state.write(chain.save())
+    if work.boat.has_days:
+        with folder.new(f"{base}.state") as state:
+            state.write(chain.save())
     return chain.counts
 
 
+@contextlib.contextmanager
+def messages_file(work: Work, log: Log) -> Iterator[Callable[[bytes], Any]]:
+    """Takes the lines of a part, of which the files get their names at the end."""
+    if work.job.has_parquet:
+        with Tables(work, log) as tables:
+            yield tables.put
+    else:
+        with work.folder.new(f"{work.base(log)}.json.gz") as out, packed(out) as text:
+            yield text.write
+
+
+class Tables:
+    """The Parquet files of a part of a log, one for each PGN. A log without days has them for each of its days."""
+
+    def __init__(self, work: Work, log: Log) -> None:
+        self.work, self.day = work, log.part if work.boat.has_days else ""
+        self.pyarrow, self.parquet = importlib.import_module("pyarrow"), importlib.import_module("pyarrow.parquet")
+        self.rows: dict[int, list[dict[str, Any]]] = {}
+        self.writers: dict[int, Any] = {}
+        self.files = contextlib.ExitStack()
+        self.waiting = 0
+        work.tables = []
+
+    def __enter__(self) -> Tables:
+        return self
+
+    def __exit__(self, *error: Any) -> None:
+        try:
+            if not error[0]:
+                self.finish()
+        except BaseException:
+            error = sys.exc_info()
+            raise
+        finally:
+            if error[0]:
+                self.files.__exit__(*error)
+                for name in self.work.tables:
+                    self.work.folder.remove(name)
+
+    def put(self, printed: bytes) -> None:
+        for line in printed.split(b"\n"):
+            if line:
+                message = json.loads(line)
+                time_of, day = when(message["timestamp"])
+                if not self.work.boat.has_days and day != self.day:
+                    self.finish()
+                    self.day = day
+                pgn, texts = message["pgn"], {"src": message["src"], "description": message["description"], "time": time_of}
+                self.rows.setdefault(pgn, []).append({**message["fields"], **texts})
+                self.waiting += 1
+                if self.waiting == MOST_ROWS:
+                    self.write(max(self.rows, key=lambda it: len(self.rows[it])))
+
+    def write(self, pgn: int) -> None:
+        """Writes the rows of a PGN that wait."""
+        rows, types = self.rows.pop(pgn), types_of(self.work.job.toml, pgn, None)
+        self.waiting -= len(rows)
+        if pgn not in self.writers:
+            kinds, text = {"float64": self.pyarrow.float64(), "Int64": self.pyarrow.int64()}, self.pyarrow.string()
+            schema = self.pyarrow.schema([("time", self.pyarrow.timestamp("ns", tz="UTC")), ("src", self.pyarrow.int16()), ("description", text),
+                                          *((name, kinds.get(its, text)) for name, its in types.items())])
+            file = self.files.enter_context(self.work.folder.new(self.name_of(pgn)))
+            self.writers[pgn] = schema, self.files.enter_context(self.parquet.ParquetWriter(file, schema))
+        schema, writer = self.writers[pgn]
+        columns = {it: [row.get(it) for row in rows] for it in schema.names}
+        for name, its in types.items():
+            if its not in ("float64", "Int64"):
+                columns[name] = [text_of(it, its) for it in columns[name]]
+        writer.write_table(self.pyarrow.table(columns, schema=schema))
+
+    def name_of(self, pgn: int) -> str:
+        """The name of the next file of a PGN and day."""
+        boat = urllib.parse.quote(self.work.boat.name, safe=" ")
+        folder = f"boat={boat}/pgn={pgn}/day={self.day}/"
+        name = f"{folder}part.{sum(it.startswith(folder) for it in self.work.tables)}.parquet"
+        self.work.tables.append(name)
+        return name
+
+    def finish(self) -> None:
+        """Writes what waits; the files get their names."""
+        for pgn in list(self.rows):
+            self.write(pgn)
+        self.files.close()
+        self.writers = {}
+
+
+def when(stamp: str) -> tuple[Optional[int], str]:
+    """A stamp in nanoseconds since 1970, and its day as Parquet's partitions have it; what is no time is missing."""
+    with contextlib.suppress(ValueError):
+        if it := STAMP.fullmatch(stamp):
+            clock, _, fraction = it[4].partition(".")
+            whole = datetime.datetime.fromisoformat(f"{it[1]}-{it[2]}-{it[3]}T{clock}+00:00")
+            return int(whole.timestamp()) * 10**9 + int(fraction.ljust(9, "0")), str(whole.date())
+    return None, "__HIVE_DEFAULT_PARTITION__"
+
+
+@functools.lru_cache(None)
 def convert() -> Any:
-    """The recipe that makes CSV: beside this file, or in what was sent to a worker."""
-    if "n2k_convert" in sys.modules:
-        return sys.modules["n2k_convert"]
-    if importlib.util.find_spec("n2k_convert"):
-        import n2k_convert
-        return n2k_convert
-    loader = importlib.machinery.SourceFileLoader("n2k_convert", str(HERE / "convert"))
-    spec = importlib.util.spec_from_loader("n2k_convert", loader)
-    assert spec
-    module = importlib.util.module_from_spec(spec)
-    sys.modules["n2k_convert"] = module
-    loader.exec_module(module)
+    """The recipe that makes CSV: beside this file, or as it was sent to a worker."""
+    module = types.ModuleType("n2k_convert")
+    module.__file__ = str(HERE / "convert")
+    exec(compile(CONVERT or (HERE / "convert").read_text(encoding="utf-8"), module.__file__, "exec"), module.__dict__)
     return module
 
 
@@ -592,16 +707,6 @@ def bag(logs: Sequence[str], table: Any = None) -> Any:
     return dask.bag.from_sequence(boats, npartitions=len(boats)).map(messages_of, toml).flatten()
 
 
-def send_recipes(client: Any) -> None:
-    """Workers get this file and the recipe that makes CSV; so do workers that come later."""
-    with tempfile.TemporaryDirectory() as folder:
-        archive = pathlib.Path(folder) / "n2k_fleet.zip"
-        with zipfile.ZipFile(archive, "w") as file:
-            file.write(HERE / "fleet.py", "fleet.py")
-            file.write(HERE / "convert", "n2k_convert.py")
-        client.upload_file(str(archive))
-
-
 def say(text: str) -> None:
     print(f"n2k-fleet: {text}", file=sys.stderr)
 
@@ -666,12 +771,27 @@ def on_this_computer(boats: Sequence[Boat], job: Job) -> Iterator[Done]:
             process.join()
 
 
-def by_worker(boat: bytes, job: Job) -> Union[Done, Wrong]:
-    """What a worker of a cluster does. It may have no module that knows a boat, which is pickled."""
-    if text := difference(job.program):
+def by_worker(boat: bytes, handed: tuple[str, str, str, tuple[Any, ...]]) -> tuple[Any, ...]:
+    """What a worker of a cluster runs: this file, which is sent as a text, since a worker has the library alone. This function is
+    sent by its code: it uses nothing of this file."""
+    import sys
+    import types
+    name, source, convert, job = handed
+    if name not in sys.modules:
+        module = types.ModuleType(name)
+        module.__dict__.update(__file__="fleet.py", CONVERT=convert)
+        exec(compile(source, "fleet.py", "exec"), module.__dict__)
+        sys.modules.setdefault(name, module)
+    return sys.modules[name].work_for(boat, job)  # type: ignore[no-any-return]
+
+
+def work_for(boat: bytes, plain: tuple[Any, ...]) -> tuple[Any, ...]:
+    """What comes of a boat, or the worker and what it lacks. The boat is pickled: a worker may have no module that knows it."""
+    job = Job(*plain)._replace(program=Program(*plain[1]))
+    if text := difference(job):
         import distributed
-        return Wrong(distributed.get_worker().address, text)
-    return work_on(pickle.loads(boat), job)
+        return distributed.get_worker().address, text
+    return tuple(work_on(pickle.loads(boat), job))
 
 
 def on_cluster(address: str, boats: Sequence[Boat], job: Job) -> Iterator[Done]:
@@ -696,7 +816,6 @@ def on_cluster(address: str, boats: Sequence[Boat], job: Job) -> Iterator[Done]:
 
 def by_client(client: Any, boats: Sequence[Boat], job: Job) -> Iterator[Done]:
     import distributed
-    send_recipes(client)
     if not client.scheduler_info()["workers"]:
         say("the scheduler has no worker yet: waiting for one")
         while not client.scheduler_info()["workers"]:
@@ -704,23 +823,27 @@ def by_client(client: Any, boats: Sequence[Boat], job: Job) -> Iterator[Done]:
                 raise distributed.CancelledError
             time.sleep(0.2)
     # The table goes to each worker once; a worker that died with it does no harm, since it can be made again.
-    handed = client.submit(Job, *job)
-    boat_of = {client.submit(by_worker, pickle.dumps(boat), handed, pure=False): boat for boat in boats}
+    sources = [(HERE / name).read_text(encoding="utf-8") for name in ("fleet.py", "convert")]
+    digest = hashlib.sha256("".join(sources).encode()).hexdigest()
+    handed = client.submit(tuple, [f"n2k_fleet_{digest}", *sources, (job.toml, tuple(job.program), *job[2:])])
+    run = types.FunctionType(by_worker.__code__, {"__name__": "__main__"})
+    boat_of = {client.submit(run, pickle.dumps(boat), handed, pure=False): boat for boat in boats}
     wrong: dict[str, str] = {}
     results = distributed.as_completed(list(boat_of))
     for future in results:
         boat = boat_of.pop(future)
         error = future.exception()
-        done = failed(boat, fault_of(boat, error)) if error is not None else future.result()
-        if isinstance(done, Done):
-            yield done
+        found = failed(boat, fault_of(boat, error)) if error is not None else future.result()
+        if len(found) > 2:
+            yield Done(*found)
             continue
-        if done.worker not in wrong:
-            wrong[done.worker] = done.text
-            say(f"the worker {done.worker} {done.text}: it gets no boat")
+        worker, text = found
+        if worker not in wrong:
+            wrong[worker] = text
+            say(f"the worker {worker} {text}: it gets no boat")
         able = [it for it in client.scheduler_info()["workers"] if it not in wrong]
         if able:
-            again = client.submit(by_worker, pickle.dumps(boat), handed, pure=False, workers=able)
+            again = client.submit(run, pickle.dumps(boat), handed, pure=False, workers=able)
             boat_of[again] = boat
             results.add(again)
         else:
@@ -747,13 +870,15 @@ def scheduler_of(asked: Optional[str]) -> str:
 
 def parsed(words: Sequence[str]) -> argparse.Namespace:
     parser = argparse.ArgumentParser("n2k-fleet", description="Decodes the logs of many boats side by side: on this computer, or on a cluster of Dask.")
-    parser.add_argument("--scheduler", metavar="ADDRESS", help="the address of a dask-scheduler, as tcp://10.0.0.2:8786 [default: "
+    parser.add_argument("--scheduler", metavar="ADDRESS", help="the address of a scheduler of Dask, as tcp://10.0.0.2:8786 [default: "
                         "DASK_SCHEDULER_ADDRESS or Dask's configuration; else this computer works]")
     parser.add_argument("--table", metavar="FILE", default=str(shipped("n2k.toml")), help="the table [default: the installed table]")
     parser.add_argument("--also", metavar="FILE", action="append", default=[], help="add the messages and names of your own table")
     parser.add_argument("--columns", metavar="PGN/FIELD,..", default="", help="instead of JSON a CSV of these columns for each boat")
     parser.add_argument("--joined", action="store_true", help="with --columns: also all boats in fleet.csv")
-    parser.add_argument("--out", metavar="FOLDER", required=True, help="where the results go")
+    where = parser.add_mutually_exclusive_group(required=True)
+    where.add_argument("--out", metavar="FOLDER", help="where the results go")
+    where.add_argument("--parquet", metavar="FOLDER", help="where Parquet files go, instead of JSON: a folder for each boat, PGN and day")
     parser.add_argument("logs", metavar="LOG", nargs="+", help="a boat's log, or the folder of an n2k-logger --raw")
     options = parser.parse_args(words)
     options.columns = tuple(it for it in re.split(r",(?=\d+/)", options.columns) if it)
@@ -761,6 +886,8 @@ def parsed(words: Sequence[str]) -> argparse.Namespace:
         parser.error("--columns has a PGN and a field, as 128267/Depth, with commas between")
     if options.joined and not options.columns:
         parser.error("--joined goes with --columns")
+    if options.parquet and options.columns:
+        parser.error("--columns goes with --out")
     return options
 
 
@@ -775,10 +902,13 @@ def table_of(options: argparse.Namespace) -> bytes:
         for line in told:
             say(line)
         toml = joined.stdout
+    chain = Chain(toml)
     try:
-        n2kdec.Decoder(toml).close()
+        chain.begin()
     except n2kdec.ArgumentError as error:
         raise ValueError(f"{options.table}: {error}") from error
+    # The processes that are forked go on with it, so that they need not read the table.
+    chain.keep(None)
     return toml
 
 
@@ -789,11 +919,13 @@ def main(words: Sequence[str]) -> int:
         return 3
     start, call = time.monotonic(), uuid.uuid4().hex
     try:
-        own, folder = program(), folder_of(names_of(options.out)[0])
+        if options.parquet and not importlib.util.find_spec("pyarrow"):
+            raise OSError("--parquet needs pyarrow, which is not installed: pip install pyarrow (Debian 12 has no package of it)")
+        own, folder = program(), folder_of(names_of(options.parquet or options.out)[0])
         boats = boats_of(options.logs)
         if options.joined and any(it.name == "fleet" for it in boats):
             raise ValueError("a boat is called fleet, as the table of --joined is")
-        job = Job(table_of(options), own, folder.name, options.columns, call)
+        job = Job(table_of(options), own, folder.name, options.columns, call, options.parquet is not None)
         # SIGTERM ends the processes that this call has started, too.
         signal.signal(signal.SIGTERM, lambda *_: sys.exit(128 + signal.SIGTERM))
         with folder.held(call):
@@ -835,8 +967,7 @@ def decode_all(boats: Sequence[Boat], job: Job, folder: Folder, options: argpars
             lost = str(error)
             look()
         else:
-            # What a process that was killed has left.
-            folder.clean(["", OWN, *(it.name for it in boats if it.has_days)])
+            folder.clean()
     if options.joined and not lost:
         join([it.boat for it in done.values() if it.days and not it.stop], folder)
     ends = [done[it.name] for it in boats if it.name in done]

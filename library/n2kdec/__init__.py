@@ -588,7 +588,8 @@ def frame(logs: Union[Name, Iterable[Name]], pgn: int, fields: Optional[Iterable
 
     `logs` are files, or folders of `n2k-logger --raw`, of this computer or of fsspec (`s3://bucket/boats/*`). The index is the
     time. The columns are `boat`, `src`, `description`, and the fields, of which None takes all: numbers, categories for
-    lookups (a number without a name is its digits), texts for flags and everything else. `table` is that of `Decoder`.
+    lookups (a number without a name is its digits), texts for flags and everything else; sets that repeat are JSON in the column
+    `list`. `table` is that of `Decoder`.
 
     Of one boat with days, the days are the frame's divisions, and a time that is not in its day raises ValueError while it is
     computed; `divisions=False` takes any times. A part that cannot be read raises an error that names it, or is left out with

@@ -1,6 +1,7 @@
 """`n2kdec.frame`: the messages of one PGN as a Dask data frame."""
 from __future__ import annotations
 
+import functools
 import json
 import os
 import pathlib
@@ -16,10 +17,13 @@ from ._logs import Boat, Chain, Log, LogError, boats_of
 
 # A stamp as pandas can have it: to the nanosecond, the years 1678 to 2261. canboat's older forms have no T or Z.
 STAMP = re.compile(r"(16(?:7[89]|[89]\d)|1[789]\d\d|2[01]\d\d|22(?:[0-5]\d|6[01]))-(\d\d)-(\d\d)[T Z-](\d\d:\d\d:\d\d(?:\.\d{1,9})?)\d*Z?")
+# How many messages wait at most until they are rows.
+MOST_MESSAGES = 10_000
 # The values of a lookup of so many bits are all categories, also those without a name.
 FEW_BITS = 8
 
 
+@functools.lru_cache(4)
 def read_toml(toml: bytes) -> dict[str, Any]:
     found: dict[str, Any] = import_module("tomllib" if sys.version_info >= (3, 11) else "tomli").loads(toml.decode())
     return found
@@ -57,6 +61,8 @@ def types_of(toml: bytes, pgn: int, fields: Optional[Sequence[str]]) -> dict[str
             its = type_of(field, lookups)
             name = field["name"]
             known[name] = its if known.get(name, its) == its else "object"
+        if "repeat" in definition:
+            known["list"] = "sets"
     for name in [] if fields is None else fields:
         if name not in known:
             raise n2kdec.ArgumentError(f"no message {pgn} has the field {name}; they have: {', '.join(known)}")
@@ -74,17 +80,26 @@ def stamps_of(stamps: list[str]) -> Any:
     return pandas.DatetimeIndex(times, name="time").tz_localize("UTC")
 
 
+def text_of(value: Any, its: Any) -> Optional[str]:
+    """A value as a text: flags with commas between, the sets of a message that repeats as its line has them."""
+    if value is None or isinstance(value, str):
+        return value
+    if its == "sets":
+        return json.dumps(value, ensure_ascii=False, separators=(",", ":"))
+    return ", ".join(map(str, value)) if isinstance(value, list) else str(value)
+
+
 def column_of(values: list[Any], its: Any) -> Any:
     """A column of the values of JSON lines."""
     pandas = import_module("pandas")
     if isinstance(its, tuple):
         names, is_known = its
-        texts = [it if it is None or isinstance(it, str) else str(it) for it in values]
+        texts = [text_of(it, its) for it in values]
         if not is_known:
             return pandas.Categorical(texts)
         return pandas.Categorical(texts, categories=names)
-    if its == "object":
-        return pandas.array([", ".join(map(str, it)) if isinstance(it, list) else it for it in values], dtype="object")
+    if its in ("object", "sets"):
+        return pandas.array([text_of(it, its) if isinstance(it, list) else it for it in values], dtype="object")
     return pandas.array([None if it is None else float(it) for it in values] if its == "float64" else values, dtype=its)
 
 
@@ -99,25 +114,47 @@ def table_of(boat: str, boats: Sequence[str], messages: list[dict[str, Any]], ty
     return pandas.DataFrame(columns, index=stamps_of([it["timestamp"] for it in messages]))
 
 
+def joined(tables: list[Any], types: dict[str, Any]) -> Any:
+    """One data frame of several, whose categories may differ."""
+    if len(tables) == 1:
+        return tables[0]
+    for name, its in types.items():
+        if isinstance(its, tuple) and not its[1]:
+            names = sorted({it for table in tables for it in table[name].cat.categories})
+            for table in tables:
+                table[name] = table[name].cat.set_categories(names)
+    return import_module("pandas").concat(tables)
+
+
 def part_of(boat: str, boats: Sequence[str], log: Log, toml: bytes, pgn: int, types: dict[str, Any], descriptions: Sequence[str],
             state: Optional[bytes], bounds: Optional[tuple[Any, Any]], skip: bool) -> tuple[Any, Optional[bytes]]:
     """The data frame of a part of a log, and the state after it."""
     chain, mark = Chain(toml), b'"pgn":%d,' % pgn
     messages: list[dict[str, Any]] = []
+    tables: list[Any] = []
+
+    def put() -> None:
+        tables.append(table_of(boat, boats, messages, types, descriptions))
+        messages.clear()
+
     chain.begin(state)
     try:
         for printed, _ in chain.decode(log):
             found = (json.loads(it) for it in printed.split(b"\n") if mark in it)
             messages += [it for it in found if it["pgn"] == pgn]
+            if len(messages) > MOST_MESSAGES:
+                put()
         after = chain.save()
+        chain.keep(after)
     except LogError as error:
         if not skip:
             raise
         warnings.warn(f"{error}; the next part begins from no state")
-        messages, after = [], None
+        tables, messages, after = [], [], None
     finally:
         chain.end()
-    table = table_of(boat, boats, messages, types, descriptions)
+    put()
+    table = joined(tables, types)
     if bounds is not None and len(table):
         table = table.sort_index(kind="stable")
         if table.index.hasnans or table.index[0] < bounds[0] or table.index[-1] >= bounds[1]:

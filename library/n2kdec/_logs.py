@@ -6,11 +6,13 @@ change.
 """
 from __future__ import annotations
 
+import errno
 import glob
 import gzip
 import io
 import os
 import re
+import threading
 import zlib
 from collections.abc import Iterator, Sequence
 from importlib import import_module
@@ -44,13 +46,15 @@ class Boat(NamedTuple):
     fault: Optional[str] = None
 
 
-class LogError(Exception):
+class LogError(OSError):
     """A log that cannot be read. The text names its file."""
 
 
 def said(error: BaseException, file: str) -> str:
     """What an error says, with the name of the file, once."""
-    text = error.strerror if isinstance(error, OSError) and error.strerror else str(error) or type(error).__name__
+    text = getattr(error, "strerror", None) or str(error) or type(error).__name__
+    if isinstance(error, FileNotFoundError):
+        text = os.strerror(errno.ENOENT)
     return text if file in text else f"{file}: {text}"
 
 
@@ -242,6 +246,9 @@ def pieces(log: Log) -> Iterator[bytes]:
 class Chain:
     """The decoder of a boat, which goes from one part of its log to the next. The table is read once."""
 
+    # Of this thread a table, a state and an open decoder that has both. A process that is forked has it too.
+    kept = threading.local()
+
     def __init__(self, toml: bytes) -> None:
         self.toml = toml
         self.decoder: Optional[n2kdec.Decoder] = None
@@ -249,7 +256,18 @@ class Chain:
     def begin(self, state: Optional[bytes] = None) -> None:
         """What is decoded next begins a log, or goes on from a state."""
         self.end()
-        self.decoder = n2kdec.Decoder(self.toml, state=state, in_order=True)
+        toml, its_state, decoder = getattr(self.kept, "it", (None, None, None))
+        if (toml, its_state) == (self.toml, state):
+            self.decoder, self.kept.it = decoder, (None, None, None)
+        else:
+            self.decoder = n2kdec.Decoder(self.toml, state=state, in_order=True)
+
+    def keep(self, state: Optional[bytes]) -> None:
+        """Ends, but the decoder, which has this state, is the next one of this thread that begins with it."""
+        before = getattr(self.kept, "it", (None, None, None))[2]
+        if before is not None:
+            before.close()
+        self.kept.it, self.decoder = (self.toml, state, self.decoder), None
 
     def end(self) -> None:
         if self.decoder is not None:
