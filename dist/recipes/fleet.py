@@ -3,31 +3,31 @@
     n2k-fleet [--scheduler ADDRESS] [--table FILE] [--also FILE] [--columns PGN/FIELD,.. [--joined]] --out FOLDER LOG..
     n2k-fleet [--scheduler ADDRESS] [--table FILE] [--also FILE] --parquet FOLDER LOG..
 
-LOG and FOLDER are names of this computer, or of fsspec, as s3://bucket/boats/*.
+LOG and FOLDER are local names, or names that fsspec knows, such as s3://bucket/boats/*.
 
-LOG is a boat's log (a file, maybe compressed by gzip or zstd), or the folder of an `n2k-logger --raw`, whose days are parts of
-one log: each day is decoded after the day before it, from the state that the day before left. Boats are decoded side by side.
-Without a scheduler each boat gets a process of this computer, and nothing listens. On a cluster each worker must see LOG and
+LOG is a boat's log (a file, which may be compressed by gzip or zstd), or the folder of an `n2k-logger --raw`, whose days are
+parts of one log: each day is decoded from the state after the day before. Boats are decoded side by side.
+Without a scheduler each boat gets a process on this computer, and nothing listens. On a cluster each worker must see LOG and
 FOLDER under the same names, and must have the library (python3-n2kdec); n2k-fleet sends the rest.
 
-FOLDER gets of each log NAME.json.gz, what `n2kdec decode --in-order` prints, and NAME.reports, its reports and the line of
-counts; of a folder of days BOAT/DATE.json.gz, BOAT/DATE.reports, and BOAT/DATE.state, the state after the day. Each file is
-written under another name and renamed when it is whole. FOLDER/.n2k-fleet records what each file was made of: a file is made
+For each log FOLDER gets NAME.json.gz, the output of `n2kdec decode --in-order`, and NAME.reports, its reports and summary;
+for a folder of days BOAT/DATE.json.gz, BOAT/DATE.reports, and BOAT/DATE.state, the state after the day. Each file is
+written under another name and renamed when it is complete. FOLDER/.n2k-fleet records what each file was made of: a file is made
 again if its log, a day before it, the table or the program has changed. One call at a time works in a FOLDER.
 
     --scheduler ADDRESS   the address of a scheduler of Dask, as tcp://10.0.0.2:8786 [default: DASK_SCHEDULER_ADDRESS or Dask's
                           configuration; if neither has one, or ADDRESS is empty, this computer works]
     --table FILE          the table [default: the installed table]
-    --also FILE           add the messages and names of your own table, as n2k --also does; may be given several times
-    --columns LIST        instead of JSON a table NAME.csv for each boat, as `n2k --csv` makes it of these columns,
-                          each of the first thing that comes
-    --joined              with --columns: also all boats in one table, fleet.csv, whose first column is the boat
+    --also FILE           add the messages and names of your own table, as n2k --also does (may be repeated)
+    --columns LIST        write a table NAME.csv for each boat instead of JSON, as `n2k --csv` does with these columns,
+                          each of the first thing in the log
+    --joined              with --columns: also write all boats into one table, fleet.csv, whose first column is the boat
     --parquet FOLDER      instead of JSON Parquet files boat=BOAT/pgn=PGN/day=DATE/BOAT.parquet, with a row for each message;
                           reports and states are in FOLDER/.n2k-fleet. It needs pyarrow, here and on each worker
 
-If a day cannot be read, n2k-fleet names it and decodes the next day from no state. At the end a table has days, lines and
+If a day cannot be read, n2k-fleet names it and decodes the next day from no state. At the end a table lists days, lines and
 counts of each boat. The status is 1 if lines were bad, 2 if an argument or the table is refused, 3 if a log failed or the
-work stopped; n2k-fleet names each fault, and does the other boats.
+work stopped; n2k-fleet names each fault and continues with the other boats.
 
 In a notebook `bag(logs)` is a Dask bag of messages; `n2kdec.frame` gives a Dask data frame of one PGN.
 """
