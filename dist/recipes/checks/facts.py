@@ -167,8 +167,8 @@ class Facts:
         self.most = (0, 0.0, {})
         self.requests, self.claims, self.names = collections.deque(maxlen=100), [], {}
         self.instances, self.clocks, self.restarts = {}, {}, []
-        # The stamps of the last lines, by number: a report names a line.
-        self.size = 1 << (window + 300000).bit_length()
+        # The stamps of the last lines, one for 16: a report names a line by its number.
+        self.size = 1 << (window + 300000).bit_length() - 4
         self.stamps = array.array("d", bytes(8 * self.size))
         self.has_frames = self.has_wholes = self.has_messages = False
 
@@ -251,7 +251,7 @@ class Facts:
             if at is None:
                 self.lines += 1
                 self.all_lines += 1
-                self.stamps[self.lines % self.size] = self.at or 0.0
+                self.stamps[self.lines >> 4 & self.size - 1] = self.at or 0.0
 
     def kind(self, pgn):
         """How the table says that a PGN is sent. All are asked for at once: each question takes a run of the program."""
@@ -308,7 +308,7 @@ class Facts:
             if at >= window_end:
                 self.finish_window()
                 window_end = self.window_end = (at // WINDOW + 1) * WINDOW
-            stamps[number & mask] = self.at = now = at
+            stamps[number >> 4 & mask] = self.at = now = at
             lane = lanes.get(word)
             if not lane:
                 lane = self.lane(word)
@@ -404,7 +404,7 @@ class Facts:
         if at >= self.window_end:
             self.finish_window()
             self.window_end = (at // WINDOW + 1) * WINDOW
-        self.stamps[self.lines % self.size] = self.at = at
+        self.stamps[self.lines >> 4 & self.size - 1] = self.at = at
         device, flow = self.device(sender), self.flow(sender, pgn)
         self.bits += bits
         self.window_bits += bits
@@ -516,8 +516,8 @@ class Facts:
     # -- Reports.
 
     def time_of(self, line):
-        """The stamp of a line, by its number."""
-        return self.stamps[line % self.size] if line > self.lines - self.size else self.begin or 0.0
+        """The stamp of a line, by its number, or of one that follows within 16."""
+        return self.stamps[line >> 4 & self.size - 1] if line > self.lines - 16 * (self.size - 1) else self.begin or 0.0
 
     def report(self, text):
         """A line of standard error. False if it is no report."""
