@@ -2,9 +2,7 @@
 ghost use Rattle.std.specs.Prelude.{◌≡◌, ◌≤◌, ◌<◌, ◌^◌, IfSome, IfOk, length, not, position, option_map};
 ghost use Rattle.std.specs.Char.{is_ascii_hexdigit};
 ghost use Rattle.std.specs.List.{list_all};
-ghost use Rattle.n2k_wire.specs.Candump.{candump, frame_payload, is_interface_byte, is_interface, stamped, framed};
-ghost use Rattle.n2k_wire.specs.Candump.{of_number, identifier, is_end, is_ending, digits_len, payload, is_other_frame};
-ghost use Rattle.n2k_wire.specs.Candump.{frame_or_skip};
+ghost use Rattle.n2k_wire.specs.Candump.{candump, frame_payload, is_interface_byte, is_interface, stamped, framed, of_number, identifier, is_end, is_ending, digits_len, payload, is_other_frame, frame_or_skip};
 ghost use Rattle.std.specs.Int.{w32, from_be_bytes};
 ghost use Rattle.std.specs.Result.{result_ok};
 ghost use Rattle.hex.specs.Hex.{decode_of};

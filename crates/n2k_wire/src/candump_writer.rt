@@ -1,7 +1,6 @@
 //! Packets as candump lines, `(0000000010.300000) can0 1DFF0405#000BA39901414243`, written where they go as plain lines
 //! are. Of the packet before these are kept: how its stamps and lines begin, and the digits of its identifier.
-ghost use Rattle.std.specs.Prelude.{◌≡◌, ◌+◌, ◌-◌, ◌*◌, ◌<◌, ◌≤◌, ◌++◌, [], codes, length, take, IfSome, IfNone, None, true, false};
-ghost use Rattle.std.specs.Prelude.{IsTrue, OnErr};
+ghost use Rattle.std.specs.Prelude.{◌≡◌, ◌+◌, ◌-◌, ◌*◌, ◌<◌, ◌≤◌, ◌++◌, [], codes, length, take, IfSome, IfNone, None, true, false, IsTrue, OnErr};
 ghost use Rattle.hex.specs.Hex.{encode_upper};
 ghost use Rattle.n2k_wire.specs.Candump.{frame_payload, is_interface, longest_interface};
 ghost use Rattle.n2k_wire.specs.Identifier.{join};
@@ -255,7 +254,9 @@ impl<'a> CandumpLines<'a> {
     /// Lines at an interface of 1 to 15 bytes from `!` to `~`; `is_interface` is the test.
     ///
     /// ```rust
-    /// let packet = frame_in("(10.3) can0 18EAFF01#14F001")?;
+    /// let id = split_id(0x18EA_FF01);
+    /// let stamp = "1970-01-01T00:00:10.300Z".as_bytes();
+    /// let packet = Packet::new(stamp, id, &[0x14, 0xf0, 0x01]).ok_or("a packet")?;
     /// assert!(rt; is_interface(b"can0"));
     /// let mut lines = CandumpLines::new("can0");
     /// let mut text = Vec::new(alloc);
@@ -283,7 +284,9 @@ impl<'a> CandumpLines<'a> {
     /// not come.
     ///
     /// ```rust
-    /// let packet = frame_in("(10.3) can0 18EAFF01#14F001")?;
+    /// let id = split_id(0x18EA_FF01);
+    /// let stamp = "1970-01-01T00:00:10.300Z".as_bytes();
+    /// let packet = Packet::new(stamp, id, &[0x14, 0xf0, 0x01]).ok_or("a packet")?;
     /// assert!(rt; is_interface(b"can0"));
     /// let mut lines = CandumpLines::new("can0");
     /// let mut text = Vec::new(alloc);
@@ -332,7 +335,9 @@ impl<'a> CandumpLines<'a> {
 /// `NoId` where `join_id` has no identifier for it. `out` is as it was where the answer is a fault.
 ///
 /// ```rust
-/// let packet = frame_in("(10.3) can0 18EAFF01#14F001")?;
+/// let id = split_id(0x18EA_FF01);
+/// let stamp = "1970-01-01T00:00:10.300Z".as_bytes();
+/// let packet = Packet::new(stamp, id, &[0x14, 0xf0, 0x01]).ok_or("a packet")?;
 /// assert!(rt; is_interface(b"can0"));
 /// let mut text = Vec::new(alloc);
 /// candump_text(alloc, &packet, "can0", &mut text)?;

@@ -2,8 +2,7 @@
 ghost use Rattle.std.specs.Prelude.{◌≡◌, ◌≤◌, length, take};
 ghost use Rattle.std.specs.List.{list_all};
 ghost use Rattle.std.specs.Option.{SomeIff};
-ghost use Rattle.n2k_wire.specs.Packet.{IsPacket, IsPacketParts, is_stamp, is_stamp_byte, is_stamp_start};
-ghost use Rattle.n2k_wire.specs.Packet.{longest_message, longest_stamp};
+ghost use Rattle.n2k_wire.specs.Packet.{IsPacket, IsPacketParts, is_stamp, is_stamp_byte, is_stamp_start, longest_message, longest_stamp};
 
 use crate::candump::FRAME_PAYLOAD;
 use crate::identifier::Id;

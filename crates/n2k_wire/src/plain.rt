@@ -1,7 +1,6 @@
 //! Plain lines: `stamp,prio,pgn,src,dst,len,b0,b1,..`, the format that canboat's programs read and write.
 ghost use Rattle.std.specs.Prelude.{◌≡◌, ◌≤◌, [], ◌∷◌, length, IfSome, IfOk};
-ghost use Rattle.n2k_wire.specs.Plain.{plain, plain_packet, columns, number_to, pair, header, id_of, bytes_of};
-ghost use Rattle.n2k_wire.specs.Plain.{is_frame, packed};
+ghost use Rattle.n2k_wire.specs.Plain.{plain, plain_packet, columns, number_to, pair, header, id_of, bytes_of, is_frame, packed};
 ghost use Rattle.n2k_wire.specs.Inner.Plain.{columns_left, plain_header};
 ghost use Rattle.n2k_wire.specs.Views.{Finds, Gives};
 ghost use Rattle.n2k_wire.specs.Entry.{IsEntry, settled};

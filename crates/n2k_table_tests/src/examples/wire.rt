@@ -151,7 +151,9 @@ fn interfaces(rt: HostRuntime) {
 #[test]
 fn candump_texts(rt: HostRuntime) -> Result<(), Fail> {
     let alloc = rt.alloc();
-    let packet = frame_in("(10.3) can0 18EAFF01#14F001")?;
+    let id = split_id(0x18EA_FF01);
+    let stamp = "1970-01-01T00:00:10.300Z".as_bytes();
+    let packet = Packet::new(stamp, id, &[0x14, 0xf0, 0x01]).ok_or("a packet")?;
     assert!(rt; is_interface(b"can0"));
     let mut text = Vec::new(alloc);
     candump_text(alloc, &packet, "can0", &mut text)?;
@@ -164,7 +166,9 @@ fn candump_texts(rt: HostRuntime) -> Result<(), Fail> {
 #[test]
 fn candump_texts_in_a_row(rt: HostRuntime) -> Result<(), Fail> {
     let alloc = rt.alloc();
-    let packet = frame_in("(10.3) can0 18EAFF01#14F001")?;
+    let id = split_id(0x18EA_FF01);
+    let stamp = "1970-01-01T00:00:10.300Z".as_bytes();
+    let packet = Packet::new(stamp, id, &[0x14, 0xf0, 0x01]).ok_or("a packet")?;
     assert!(rt; is_interface(b"can0"));
     let mut lines = CandumpLines::new("can0");
     let mut text = Vec::new(alloc);
