@@ -22,7 +22,7 @@ again if its log, a day before it, the table or the program has changed. One cal
     --columns LIST        write a table NAME.csv for each boat instead of JSON, as `n2k --csv` does with these columns,
                           each of the first thing in the log
     --joined              with --columns: also write all boats into one table, fleet.csv, whose first column is the boat
-    --parquet FOLDER      instead of JSON Parquet files boat=BOAT/pgn=PGN/day=DATE/BOAT.parquet, with a row for each message;
+    --parquet FOLDER      instead of JSON Parquet files boat=BOAT/pgn=PGN/day=DATE/part.0.parquet, with a row for each message;
                           reports and states are in FOLDER/.n2k-fleet. It needs pyarrow, here and on each worker
 
 If a day cannot be read, n2k-fleet names it and decodes the next day from no state. At the end a table lists days, lines and
