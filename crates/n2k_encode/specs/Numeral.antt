@@ -5,7 +5,7 @@ use Rattle.std.specs.Str.Parse.{digits_value}
 use Rattle.fast_float.specs.Text.{Parts}
 use Rattle.n2k_encode.specs.declared.numeral.Magnitude.{Magnitude}
 
--- a minus sign stands first
+-- a minus sign comes first
 abbrev pub is_negative : List ℕ → Bool
 is_negative [] = false
 is_negative (b ∷ bs) = b == 45

@@ -56,7 +56,7 @@ digits_byte high low = do
   b ← digit low
   Some (10 * a + b)
 
--- bytes filled up with FF to a length, if they are no longer
+-- bytes padded with FF to a length; none if they are longer
 abbrev pub filled : ℕ → List ℕ → Option (List ℕ)
 filled n bs = some_if (nat_le (length bs) n) (bs ++ replicate (n - length bs) 255)
 

@@ -136,7 +136,7 @@ pub(crate) fn ones(count: usize) -> FieldBytes
     bytes
 }
 
-/// Bytes filled up with FF to a length, if they are no longer.
+/// Bytes padded with FF to a length; none if they are longer.
 #[tactic(auto, using(crate::proofs::Fronts::fill_rules))]
 pub(crate) fn filled(bytes: &[u8], length: usize) -> Option<FieldBytes>
     requires { length ≤ most_bytes }
