@@ -1,27 +1,49 @@
-"""Makes the wheel that `pip install ./library` installs (PEP 517): the package n2kdec, with its table and the library that it calls.
+"""Makes the wheel that `pip install ./library` installs, and the sdist (PEP 517): the package n2kdec, with its table and the library that it calls.
 
-The library is the file that the variable N2KDEC_LIBRARY names; else what library/build makes, where the command rt of the
-Rattle kit is there. Where it is not, the wheel has none, and the package calls the system's libn2kdec.so.1: where that
-is missing too, there is no wheel, and an error says why.
+The library is the file that the variable N2KDEC_LIBRARY names; otherwise the one that library/build makes, if the command rt of the
+Rattle kit is installed. Without both the wheel contains no library, and the package calls the system's libn2kdec.so.1; if that is
+missing too, no wheel is made, and an error says why. The sdist never contains the library.
 """
 import base64
 import ctypes
+import gzip
 import hashlib
+import io
 import os
 import pathlib
-import platform
 import re
 import shutil
+import struct
 import subprocess
+import tarfile
 import tempfile
 import zipfile
 
 HERE = pathlib.Path(__file__).resolve().parent
+# The processors of an ELF file.
+PROCESSORS = {62: "x86_64", 183: "aarch64"}
 
 
 def _version():
-    source = (HERE.parent / "crates/n2kdec/src/usage.rt").read_text(encoding="utf-8")
-    return re.search(r'^pub const VERSION: .* = "([0-9.]+)";$', source, re.M)[1]
+    return re.search(r'^__version__ = "([0-9.]+)"$', (HERE / "n2kdec/__init__.py").read_text(encoding="utf-8"), re.M)[1]
+
+
+def _package():
+    """The files of the package, by name. In the repository the table is elsewhere."""
+    names = [*sorted(it.name for it in HERE.glob("n2kdec/*.py")), "py.typed"]
+    files = {f"n2kdec/{name}": (HERE / "n2kdec" / name).read_bytes() for name in names}
+    tables = [it for it in (HERE / "n2kdec/n2k.toml", HERE.parent / "tables/n2k.toml") if it.exists()]
+    if not tables:
+        raise SystemExit(f"{HERE}/n2kdec/n2k.toml is missing: copy tables/n2k.toml of the repository there")
+    return {**files, "n2kdec/n2k.toml": tables[0].read_bytes()}
+
+
+def _platform(library):
+    """The platform of a library, by the rule of PEP 600: which glibc it needs, if it needs nothing else."""
+    processor = PROCESSORS[struct.unpack_from("<H", library, 18)[0]]
+    needs = set(re.findall(rb"\0(lib[^\0/]+\.so[.0-9]*)(?=\0)", library)) - {b"libn2kdec.so.1"}
+    glibc = [int(it) for it in re.findall(rb"\0GLIBC_2\.([0-9]+)[.0-9]*(?=\0)", library)]
+    return f"manylinux_2_{max(17, *glibc)}_{processor}" if needs == {b"libc.so.6"} and glibc else f"linux_{processor}"
 
 
 def _library():
@@ -29,7 +51,7 @@ def _library():
     named = os.environ.get("N2KDEC_LIBRARY")
     if named:
         return pathlib.Path(named).read_bytes()
-    if shutil.which("rt"):
+    if shutil.which("rt") and (HERE / "build").exists():
         with tempfile.TemporaryDirectory() as folder:
             subprocess.run([HERE / "build", folder], check=True)
             return pathlib.Path(folder, "libn2kdec.so.1").read_bytes()
@@ -62,11 +84,8 @@ def _digest(content):
 
 def build_wheel(wheel_directory, config_settings=None, metadata_directory=None):
     """Writes the wheel into a folder, and gives its name. The same files make the same bytes."""
-    version, library = _version(), _library()
-    tag = "py3-none-any" if library is None else f"py3-none-linux_{platform.machine()}"
-    names = sorted(it.name for it in HERE.glob("n2kdec/*.py"))
-    files = {f"n2kdec/{name}": (HERE / "n2kdec" / name).read_bytes() for name in (*names, "py.typed")}
-    files["n2kdec/n2k.toml"] = (HERE.parent / "tables/n2k.toml").read_bytes()
+    version, library, files = _version(), _library(), _package()
+    tag = "py3-none-any" if library is None else f"py3-none-{_platform(library)}"
     if library is not None:
         files["n2kdec/libn2kdec.so.1"] = library
     about = f"n2kdec-{version}.dist-info"
@@ -83,4 +102,19 @@ def build_wheel(wheel_directory, config_settings=None, metadata_directory=None):
             entry.external_attr = 0o644 << 16
             entry.compress_type = zipfile.ZIP_DEFLATED
             wheel.writestr(entry, content)
+    return name
+
+
+def build_sdist(sdist_directory, config_settings=None):
+    """Writes the sdist into a folder, and gives its name. The same files make the same bytes."""
+    version = _version()
+    files = {name: (HERE / name).read_bytes() for name in ("build_wheel.py", "pyproject.toml")}
+    files = {"PKG-INFO": _metadata(version), **files, **_package()}
+    name, time = f"n2kdec-{version}.tar.gz", int(os.environ.get("SOURCE_DATE_EPOCH") or 0)
+    with open(pathlib.Path(sdist_directory, name), "wb") as out, gzip.GzipFile("", "wb", mtime=time, fileobj=out) as packed, \
+            tarfile.open(fileobj=packed, mode="w", format=tarfile.PAX_FORMAT) as sdist:
+        for path, content in files.items():
+            entry = tarfile.TarInfo(f"n2kdec-{version}/{path}")
+            entry.size, entry.mtime = len(content), time
+            sdist.addfile(entry, io.BytesIO(content))
     return name

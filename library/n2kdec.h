@@ -18,8 +18,8 @@
    - A `struct n2k_decoder` is zeros before its first n2k_open. Only these calls read or write it and what it points to.
      Do not copy it: a decoder that was copied and closed would be freed twice.
    - Make one call at a time on a decoder, and each from the thread that opened it. Other decoders are independent.
-   - No pointer is null, unless its size is 0, and each points to as many bytes as its size says. What a call may write
-     (a decoder, a room, a size, counts) overlaps nothing else that the call gets.
+   - No pointer is null, unless its size is 0 or its call says so, and each points to as many bytes as its size says. What
+     a call may write (a decoder, a room, a size, counts) overlaps nothing else that the call gets.
    - Make no call from a signal handler, and no call in a child that a process with threads has forked.
    - malloc, realloc and free are the C library's, or a matching set that aligns to 16 bytes.
 
@@ -72,18 +72,27 @@ enum n2k_status {
     N2K_OPEN = 6,     /* a decoder is open */
     N2K_ENDED = 7,    /* the log has ended */
     N2K_RESERVED = 8, /* a reserved byte of the settings is not 0 */
+    N2K_FRAME = 9,    /* no CAN frame has this identifier, these data or this time */
+    N2K_UNFINISHED = 10, /* bytes of an unfinished line wait: feed its rest first */
     N2K_TABLE = 100,  /* plus the number of the fault line, 1 to 9: `n2kdec: table 3 Key` is 103 */
     N2K_STATE = 200   /* plus the number of the fault line, 1 to 7: `n2kdec: state 4 TableDiffers` is 204 */
 };
 
-/* Reads a table and opens a decoder with it. If `resumes` is true the decoder continues from this state, otherwise it
-   begins a log. If the call is refused, a decoder that was open is still open. */
+/* Reads a table and opens a decoder with it. If the table is null, it is the one of n2k_table. If `resumes` is true the
+   decoder continues from this state, otherwise it begins a log. If the call is refused, a decoder that was open is still
+   open. */
 int32_t n2k_open(const uint8_t *table, size_t table_size, bool resumes, const uint8_t *state, size_t state_size,
                  const struct n2k_settings *settings, struct n2k_decoder *decoder);
 
 /* Feeds more of the log. After N2K_MEMORY and N2K_TOO_MUCH the decoder is closed, and what waited in it is lost. An
    unfinished line is kept whole until its line feed comes, however long it is: input without line feeds fills the memory. */
 int32_t n2k_feed(struct n2k_decoder *decoder, const uint8_t *bytes, size_t size);
+
+/* Takes one CAN frame: the 29 bits of its identifier (without flags), its data of at most 8 bytes, and its time, seconds
+   since 1970 in UTC and the nanoseconds after them. The decoder prints what it prints for the line that `candump -L` writes
+   of the frame. After N2K_MEMORY and N2K_TOO_MUCH the decoder is closed; other refusals change nothing. */
+int32_t n2k_frame(struct n2k_decoder *decoder, uint32_t identifier, const uint8_t *data, size_t data_size, uint64_t seconds,
+                  uint32_t nanoseconds);
 
 /* Ends the log: its last line is taken even without a line feed. Afterwards the output can still be taken, and state and
    counts are those of the whole log. Returns the same refusals as n2k_feed. */
@@ -93,6 +102,10 @@ int32_t n2k_end(struct n2k_decoder *decoder);
    waits and occupies memory: take both, even if nobody reads the reports. */
 int32_t n2k_take(struct n2k_decoder *decoder, uint8_t *room, size_t room_size, size_t *size);
 int32_t n2k_take_reports(struct n2k_decoder *decoder, uint8_t *room, size_t room_size, size_t *size);
+
+/* Moves the next message of the waiting output to the start of the room: its line of JSON with the line feed. If no message
+   waits, the size is 0. */
+int32_t n2k_next(struct n2k_decoder *decoder, uint8_t *room, size_t room_size, size_t *size);
 
 /* Returns the counts. */
 int32_t n2k_counts(struct n2k_decoder *decoder, struct n2k_counted *counted);
@@ -107,6 +120,9 @@ int32_t n2k_save(struct n2k_decoder *decoder, uint8_t *room, size_t room_size, s
 
 /* Closes the decoder if it is open, and frees its memory. Null is allowed. */
 void n2k_close(struct n2k_decoder *decoder);
+
+/* The table that the library contains, tables/n2k.toml of the sources, and the number of its bytes. */
+const uint8_t *n2k_table(size_t *size);
 
 /* The text of a status: the words of the program's fault line if there is one, for example "table 3 Key". */
 const char *n2k_status_text(int32_t status);

@@ -3,7 +3,7 @@ _n2k() {
     local now=${COMP_WORDS[COMP_CWORD]} bus buses=''
     case $now in
     -*)
-        mapfile -t COMPREPLY < <(compgen -W '--degrees --knots --named --last --csv --page --health --compare --and --trip --json --local --gpx --nmea0183 --live --speed --table --also --print-table --any-order
+        mapfile -t COMPREPLY < <(compgen -W '--degrees --knots --named --last --csv --page --health --compare --and --trip --share --move --json --local --gpx --nmea0183 --live --speed --from --to --jobs --table --also --print-table --any-order
             --whole --empty --window --resume --save --anyway --help --version' -- "$now")
         ;;
     *)

@@ -3,7 +3,7 @@ _n2kdec() {
     local now=${COMP_WORDS[COMP_CWORD]} before=${COMP_WORDS[COMP_CWORD - 1]} words
     COMPREPLY=()
     if [ "$COMP_CWORD" -eq 1 ]; then
-        mapfile -t COMPREPLY < <(compgen -W 'plain decode frames --help --version' -- "$now")
+        mapfile -t COMPREPLY < <(compgen -W 'plain decode frames encode --help --version' -- "$now")
         return
     fi
     case $before in
@@ -21,6 +21,7 @@ _n2kdec() {
     plain) words='--help' ;;
     decode) words='--table --resume --save --window --in-order --empty --whole --help' ;;
     frames) words='--table --candump --help' ;;
+    encode) words='--table --nearest --help' ;;
     *) return ;;
     esac
     case $now in

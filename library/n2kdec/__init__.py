@@ -8,7 +8,7 @@
 A log is what `candump -L` or canboat's readers write, or CAN frames of python-can. A message is one line of JSON of
 `n2kdec decode`, as a dict: `Message` has its members. A number with a point is a float, or with `decimals=True` a Decimal
 with exactly the printed digits. Numbers are in the units of the table, which the table's units.json names: metres,
-seconds, radians, kelvins and so on. The default table is the one in this package.
+seconds, radians, kelvins and so on. The default table is the one in the library.
 
 The module calls the library libn2kdec.so.1: the file that the variable N2KDEC_LIBRARY names, or the one in this package,
 or the system's. It needs only that and Python 3.9 or newer.
@@ -69,7 +69,7 @@ Source = Union[BinaryIO, Iterable[Data], Bytes, Name]
 Table = Union[bytes, Name]
 
 # Statuses of n2kdec.h.
-_DONE, _ROOM, _WINDOW, _ENDED, _TABLE = 0, 1, 3, 7, 100
+_DONE, _ROOM, _WINDOW, _ENDED, _FRAME, _TABLE = 0, 1, 3, 7, 9, 100
 
 
 class Error(Exception):
@@ -97,6 +97,16 @@ class Counts(NamedTuple):
     unknown: int
     broken: int
     open: int
+
+
+class _Frame(NamedTuple):
+    """The arguments of n2k_frame after the decoder."""
+
+    identifier: int
+    data: bytes
+    size: int
+    seconds: int
+    nanoseconds: int
 
 
 class _Settings(ctypes.Structure):
@@ -135,6 +145,7 @@ def _load() -> ctypes.CDLL:
     calls: dict[str, list[Any]] = {
         "n2k_open": [text, size, ctypes.c_bool, text, size, ctypes.POINTER(_Settings), handle],
         "n2k_feed": [handle, text, size],
+        "n2k_frame": [handle, ctypes.c_uint32, text, size, ctypes.c_uint64, ctypes.c_uint32],
         "n2k_end": [handle],
         "n2k_take": moves,
         "n2k_take_reports": moves,
@@ -142,11 +153,12 @@ def _load() -> ctypes.CDLL:
         "n2k_counts": [handle, ctypes.POINTER(_Counted)],
         "n2k_waiting": [handle, ctypes.POINTER(size)],
         "n2k_close": [handle],
+        "n2k_table": [ctypes.POINTER(size)],
         "n2k_status_text": [ctypes.c_int32],
     }
     for name, types in calls.items():
         call = getattr(library, name)
-        call.argtypes, call.restype = types, {"n2k_close": None, "n2k_status_text": text}.get(name, ctypes.c_int32)
+        call.argtypes, call.restype = types, {"n2k_close": None, "n2k_status_text": text, "n2k_table": ctypes.c_void_p}.get(name, ctypes.c_int32)
     return library
 
 
@@ -165,10 +177,9 @@ def _loaded() -> ctypes.CDLL:
 
 
 def _own_table() -> bytes:
-    """The table that comes with the package, or that of the sources."""
-    here = pathlib.Path(__file__).resolve()
-    within = here.with_name("n2k.toml")
-    return (within if within.is_file() else here.parents[2] / "tables/n2k.toml").read_bytes()
+    """The table in the library."""
+    size = ctypes.c_size_t()
+    return ctypes.string_at(_loaded().n2k_table(size), size.value)
 
 
 def _bytes_of(data: Data) -> bytes:
@@ -190,10 +201,29 @@ def _line_of(frame: CanFrame) -> bytes:
     return f"({frame.timestamp:.6f}) can0 {identifier}#{content}\n".encode()
 
 
+def _frame_of(identifier: int, data: Union[bytes, bytearray], timestamp: float) -> Optional[_Frame]:
+    """The arguments of n2k_frame, of which C takes no others, or None: the time is the one that `candump -L` prints."""
+    seconds, _, micros = f"{timestamp:.6f}".partition(".")
+    if not (0 <= identifier < 1 << 29 and len(data) <= 8 and seconds.isdigit() and int(seconds) <= 253_402_300_799):
+        return None
+    return _Frame(identifier, bytes(data), len(data), int(seconds), 1000 * int(micros))
+
+
+def _frame_in(data: Union[Data, _Frame]) -> Optional[_Frame]:
+    """The frame that C takes without text. Others are fed as what `candump -L` prints of them."""
+    if isinstance(data, _Frame):
+        return data
+    if isinstance(data, (bytes, bytearray, memoryview)) or not hasattr(data, "arbitration_id"):
+        return None
+    if not data.is_extended_id or data.is_error_frame or data.is_remote_frame or data.is_fd:
+        return None
+    return _frame_of(data.arbitration_id, data.data, data.timestamp)
+
+
 def _check(status: int) -> None:
     if status:
         text = _loaded().n2k_status_text(status).decode()
-        raise (ArgumentError if status > _TABLE else Error)(f"n2kdec: {text}", status)
+        raise (ArgumentError if status > _TABLE or status == _FRAME else Error)(f"n2kdec: {text}", status)
 
 
 def _read(source: Union[BinaryIO, Iterable[Data], Bytes]) -> Iterator[Data]:
@@ -215,13 +245,13 @@ def _read(source: Union[BinaryIO, Iterable[Data], Bytes]) -> Iterator[Data]:
 class _Input(NamedTuple):
     """The part of the log that was handed in and is not fed yet."""
 
-    #: How many bytes were handed in so far.
+    #: How many bytes and frames were handed in so far.
     received: int
     #: Those that are not fed yet.
     rest: memoryview
     #: The status of feeding the next piece of them, and the next bytes of the source, once there is one.
     fed: collections.deque[int]
-    arrived: collections.deque[Data]
+    arrived: collections.deque[Union[Data, _Frame]]
 
 
 def _input(received: int, rest: Bytes = b"") -> _Input:
@@ -295,7 +325,7 @@ class Decoder:
                  empty: bool = False, whole: bool = False) -> None:
         """Reads a table, and begins a log or continues from a state.
 
-        `table` is a file name or the bytes of a table; the default is the table in this package. `state` is what `save`
+        `table` is a file name or the bytes of a table; the default is the table in the library. `state` is what `save`
         returned or `n2kdec decode --save` wrote, with the same table, window and order. `window` is 32 to 1,000,000 lines;
         `window`, `in_order`, `empty` and `whole` are the options of `n2kdec decode`.
 
@@ -311,10 +341,10 @@ class Decoder:
         # The statuses of ending the log.
         self._ends: collections.deque[int] = collections.deque()
         self._handle = _Handle()
-        toml = _own_table() if table is None else table if isinstance(table, bytes) else pathlib.Path(table).read_bytes()
+        toml = None if table is None else table if isinstance(table, bytes) else pathlib.Path(table).read_bytes()
         saved = b"" if state is None else bytes(memoryview(state))
         settings = _Settings(window if 0 <= window < 1 << 32 else 0, in_order, empty, whole)
-        status = self._calls.n2k_open(toml, len(toml), state is not None, saved, len(saved), settings, self._handle)
+        status = self._calls.n2k_open(toml, len(toml or b""), state is not None, saved, len(saved), settings, self._handle)
         if status == _WINDOW:
             raise ArgumentError(f"a window has 32 to 1,000,000 lines, and not {window:,}", status)
         _check(status)
@@ -331,9 +361,15 @@ class Decoder:
     def _feed_piece(self) -> bool:
         """Feeds a piece of the input, and says whether there was one. A small piece has few messages."""
         now = self._input
+        if now.arrived and (frame := _frame_in(now.arrived[0])):
+            if not now.fed:
+                now.fed.extend(map(self._calls.n2k_frame, (self._handle,), *((it,) for it in frame)))
+            self._input = _input(now.received + 1)
+            _check(now.fed[0])
+            return True
         if now.arrived:
             try:
-                data = _bytes_of(now.arrived[0])
+                data = _bytes_of(now.arrived[0])  # type: ignore[arg-type]
             except TypeError:
                 self._input = _input(now.received)
                 raise
@@ -365,6 +401,21 @@ class Decoder:
         self._feed_rest()
         self._input = _input(self._input.received + len(piece), piece)
         self._feed_rest()
+
+    def frame(self, identifier: int, data: Union[bytes, bytearray], timestamp: float) -> None:
+        """Takes a CAN frame: the 29 bits of its identifier, up to 8 bytes of data, and its time in seconds since 1970.
+
+        The decoder prints what it prints for the line that `candump -L` writes of the frame. Raises Error as `feed` does, or
+        if an unfinished line waits, and ArgumentError if there is no such frame.
+        """
+        frame = _frame_of(identifier, data, timestamp)
+        self._check_not_ended()
+        self._feed_rest()
+        if frame is None:
+            _check(_FRAME)
+        else:
+            self._input.arrived.append(frame)
+            self._feed_rest()
 
     def end(self) -> None:
         """Ends the log: its last line is decoded even without a line feed. Raises Error as `feed` does."""
@@ -518,7 +569,8 @@ class Decoder:
 
     @property
     def received(self) -> int:
-        """The number of bytes that `feed` and `decode` have taken since the decoder was made."""
+        """The number of bytes and frames that `feed`, `frame` and `decode` have taken since the decoder was made. (A frame
+        of another kind than `frame` takes counts as the bytes that `candump -L` prints of it.)"""
         return self._input.received
 
     @property

@@ -55,8 +55,10 @@ static void closed(void) {
     uint8_t room[1] = {'x'};
     size_t size = 12345;
     want(N2K_CLOSED, n2k_feed(&d, (const uint8_t *)"x\n", 2), "feed of none");
+    want(N2K_CLOSED, n2k_frame(&d, 0, room, 1, 0, 0), "frame of none");
     want(N2K_CLOSED, n2k_end(&d), "end of none");
     want(N2K_CLOSED, n2k_take(&d, room, 1, &size), "take of none");
+    want(N2K_CLOSED, n2k_next(&d, room, 1, &size), "next of none");
     want(N2K_CLOSED, n2k_take_reports(&d, room, 1, &size), "take_reports of none");
     want(N2K_CLOSED, n2k_save(&d, room, 1, &size), "save of none");
     want(N2K_CLOSED, n2k_counts(&d, &counted), "counts of none");
@@ -96,12 +98,12 @@ static void texts(void) {
     } wanted[] = {
         {N2K_DONE, "done"},  {N2K_MEMORY, "memory"},        {N2K_RESERVED, "a reserved byte of the settings is not 0"},
         {101, "table 1 NotToml"}, {109, "table 9 TooMany"}, {201, "state 1 NotJson"},
-        {206, "memory"},     {207, "state 7 WindowDiffers"},
+        {206, "memory"},     {207, "state 7 WindowDiffers"}, {N2K_UNFINISHED, "bytes of an unfinished line wait"},
     };
     for (size_t at = 0; at < sizeof wanted / sizeof *wanted; at++)
         if (strcmp(n2k_status_text(wanted[at].status), wanted[at].text) != 0) fail("another text of status", wanted[at].status);
     for (int32_t status = -300; status < 300; status++) {
-        bool is_one = (status >= 0 && status <= 8) || (status > 100 && status < 110) || (status > 200 && status < 208);
+        bool is_one = (status >= 0 && status <= 10) || (status > 100 && status < 110) || (status > 200 && status < 208);
         if (is_one == (strcmp(n2k_status_text(status), "no status of this version") == 0)) fail("a text of status", status);
     }
     if (n2k_version() != N2KDEC_VERSION) fail("the library has version", (long)n2k_version());
@@ -182,6 +184,39 @@ static void too_much(struct text table) {
     free(empty.bytes), free(full.bytes);
 }
 
+// What is no frame changes nothing, and a frame comes between two lines.
+static void refused_frames(struct n2k_decoder *d) {
+    const uint8_t data[9] = {0};
+    size_t size;
+    want(N2K_FRAME, n2k_frame(d, 0x20000000, data, 8, 0, 0), "frame of 30 bits");
+    want(N2K_FRAME, n2k_frame(d, 0, data, 9, 0, 0), "frame of 9 bytes");
+    want(N2K_FRAME, n2k_frame(d, 0, data, 8, 253402300800, 0), "frame after the year 9999");
+    want(N2K_FRAME, n2k_frame(d, 0, data, 8, 0, 1000000000), "frame of a second too many");
+    want(N2K_DONE, n2k_feed(d, (const uint8_t *)"#", 1), "feed of a line that is cut");
+    want(N2K_UNFINISHED, n2k_frame(d, 0, data, 8, 0, 0), "frame in a line");
+    want(N2K_DONE, n2k_waiting(d, &size), "waiting");
+    if (size != 1) fail("a refused frame changed what waits", (long)size);
+    want(N2K_DONE, n2k_feed(d, (const uint8_t *)"\n", 1), "feed of its rest");
+}
+
+// The table that the library contains, and a decoder of it.
+static void own_table(void) {
+    struct n2k_decoder d = {0};
+    struct n2k_counted counted;
+    size_t size;
+    const uint8_t *toml = n2k_table(&size);
+    want(N2K_DONE, n2k_open(NULL, 0, false, NULL, 0, &usual, &d), "open with no table");
+    want(N2K_DONE, n2k_frame(&d, 0x09F80203, NULL, 0, 253402300799, 999999999), "frame without data");
+    refused_frames(&d);
+    want(N2K_DONE, n2k_counts(&d, &counted), "counts");
+    if (counted.lines != 2 || counted.messages != 1) fail("other counts of frames", (long)counted.lines);
+    n2k_close(&d);
+    want(N2K_DONE, n2k_open(toml, size, false, NULL, 0, &usual, &d), "open with that table");
+    want(N2K_DONE, n2k_end(&d), "end");
+    want(N2K_ENDED, n2k_frame(&d, 0, NULL, 0, 0, 0), "frame of an ended log");
+    n2k_close(&d);
+}
+
 int main(int count, char **words) {
     if (count != 5) return 2;
     struct text table = file(words[1]), log = file(words[2]), output = file(words[3]), errors = file(words[4]);
@@ -194,6 +229,7 @@ int main(int count, char **words) {
     refused_settings(table);
     refused_tables(table);
     too_much(table);
+    own_table();
     want(N2K_DONE, open_with(&d, table, NULL, &usual), "open");
     for (size_t at = 0; at < log.size; at++) {
         if (log.bytes[at] != '\n') continue;
@@ -204,6 +240,7 @@ int main(int count, char **words) {
         closed();
         refused_windows(table);
         refused_states(table, &d);
+        take_in_small_rooms(&d, n2k_next, &printed);
         take_in_small_rooms(&d, n2k_take, &printed);
         take_in_small_rooms(&d, n2k_take_reports, &reported);
     }

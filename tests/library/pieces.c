@@ -1,4 +1,4 @@
-// Feeds a log in random pieces to a decoder, takes what waits into rooms of random size, saves, closes and goes on from
+// Feeds a log in random pieces and frames to a decoder, takes what waits, all or a line, into rooms of random size, saves, closes and goes on from
 // the state after random lines, and compares all that was printed and reported, the counts and the last state with those
 // of the program.
 //
@@ -10,7 +10,7 @@
 #include "texts.h"
 
 static unsigned long long seed;
-static long calls, opened;
+static long calls, opened, frames;
 
 // xorshift64*: a number from 0 to n - 1
 static size_t below(size_t n) {
@@ -79,6 +79,39 @@ static void feed(struct run *run, size_t at, size_t size) {
     calls++;
 }
 
+// Takes the candump line that begins there as a frame, if it has the form that candump prints. How many bytes it has.
+static size_t feed_frame(struct run *run, size_t at) {
+    char line[80] = "", printed[80], data[17] = "";
+    unsigned long long seconds = 0;
+    unsigned micros = 0, identifier = 0, byte;
+    uint8_t bytes[8];
+    size_t size = 0;
+    while (size < sizeof line - 1 && at + size < run->log.size && run->log.bytes[at + size] != '\n') {
+        line[size] = (char)run->log.bytes[at + size];
+        size++;
+    }
+    if (sscanf(line, "(%12llu.%6u) can0 %8X#%16[0-9A-F]", &seconds, &micros, &identifier, data) < 3 || strlen(data) % 2) return 0;
+    int width = (int)(strchr(line, '.') - line) - 1;
+    snprintf(printed, sizeof printed, "(%0*llu.%06u) can0 %08X#%s", width, seconds, micros, identifier, data);
+    if (strcmp(line, printed) || identifier >= 0x20000000 || at + size >= run->log.size || run->log.bytes[at + size] != '\n') return 0;
+    for (size_t i = 0; i < strlen(data) / 2; i++) sscanf(data + 2 * i, "%2X", &byte), bytes[i] = (uint8_t)byte;
+    int32_t status = n2k_frame(&run->decoder, identifier, bytes, strlen(data) / 2, seconds, 1000 * micros);
+    if (status != N2K_DONE) fail("frame", status);
+    calls++, frames++;
+    return size + 1;
+}
+
+// Takes some messages, a line at a time.
+static void take_some(struct run *run) {
+    for (size_t most = below(4); most > 0; most--) {
+        size_t before = run->printed.size;
+        take(&run->decoder, n2k_next, &run->printed);
+        size_t size = run->printed.size - before;
+        if (size > 0 && memchr(run->printed.bytes + before, '\n', size) != run->printed.bytes + run->printed.size - 1)
+            fail("not one line", (long)size);
+    }
+}
+
 // So many bytes of a line wait.
 static void is_cut(struct n2k_decoder *decoder, size_t wanted) {
     size_t size;
@@ -103,12 +136,19 @@ static void go_over(struct run *run) {
     size_t at = 0, start = 0, lines = 0, wanted = 1 + below(40), most = (size_t)1 << below(17);
     open_decoder(run, NULL);
     while (at < run->log.size) {
-        size_t size = 1 + below(most);
-        if (size > run->log.size - at) size = run->log.size - at;
-        feed(run, at, size);
+        size_t size = at == start && below(2) ? feed_frame(run, at) : 0;
+        if (size == 0) {
+            size = 1 + below(most);
+            if (size > run->log.size - at) size = run->log.size - at;
+            // Every other piece ends with a line, where a frame may come.
+            uint8_t *end = below(2) ? memchr(run->log.bytes + at, '\n', run->log.size - at) : NULL;
+            if (end != NULL) size = (size_t)(end - run->log.bytes) + 1 - at;
+            feed(run, at, size);
+        }
         for (size_t end = at + size; at < end; at++)
             if (run->log.bytes[at] == '\n') start = at + 1, lines++;
         is_cut(&run->decoder, at - start);
+        if (below(3) == 0) take_some(run);
         if (below(3) == 0) take(&run->decoder, n2k_take, &run->printed);
         if (below(5) == 0) take(&run->decoder, n2k_take_reports, &run->reported);
         if (lines >= wanted) {
@@ -157,7 +197,7 @@ int main(int count, char **words) {
         if (!same(state, end)) fail("another state, time", runs);
         free(run.printed.bytes), free(run.reported.bytes), free(state.bytes);
     }
-    printf("%ld calls, %ld times the log, %ld decoders\n", calls, runs, opened);
+    printf("%ld calls, %ld times the log, %ld decoders, %ld frames\n", calls, runs, opened, frames);
     free(table.bytes), free(log.bytes), free(output.bytes), free(errors.bytes), free(end.bytes);
     return 0;
 }

@@ -11,6 +11,7 @@ import os
 import pathlib
 import pickle
 import random
+import re
 import shutil
 import subprocess
 import sys
@@ -27,6 +28,8 @@ ROOT = pathlib.Path(__file__).resolve().parents[2]
 PROGRAM = os.environ["N2KDEC_PROGRAM"]
 TABLE, TRIP = ROOT / "tables/n2k.toml", ROOT / "examples/trip.log"
 SAMPLE = ROOT / "examples/sample.toml"
+# A line of `candump -L` that is a frame for `frame`.
+FRAME = re.compile(rb"\((\d+\.\d{6})\) can0 ([01][0-9A-F]{7})#((?:[0-9A-F]{2}){0,8})\n")
 RETURN = dis.opmap["RETURN_VALUE"]
 
 
@@ -244,12 +247,32 @@ class Decoding(unittest.TestCase):
             [message] = n2kdec.decode([bus.recv(10)])
             self.assertEqual(message["fields"], messages[0]["fields"])
 
+    def test_frames_without_text(self):
+        """`frame` gives what the line of candump gives, to the millisecond."""
+        data = bytes.fromhex("01D6A93D3200FFFF")
+        times = (0, 0.9996, 1751608800.1149996, 253402300799.0, 1.0000004)
+        with n2kdec.Decoder() as frames, n2kdec.Decoder() as lines:
+            for time in times:
+                frames.frame(0x09F80203, data, time)
+                lines.feed(f"({time:.6f}) can0 09F80203#{data.hex()}\n".encode())
+            self.assertEqual((frames.take(), frames.counts, frames.received), (lines.take(), lines.counts, len(times)))
+            for wrong in ((1 << 29, data, 0), (-1, data, 0), (4, bytes(9), 0), (4, data, -1), (4, data, 253402300800)):
+                with self.assertRaises(n2kdec.ArgumentError) as raised:
+                    frames.frame(*wrong)
+                self.assertEqual(raised.exception.status, 9)
+            frames.feed(b"(1.0")
+            with self.assertRaises(n2kdec.Error) as refused:
+                frames.frame(0x09F80203, data, 1)
+            self.assertEqual((refused.exception.status, frames.pending, frames.counts.lines), (10, 4, len(times)))
+            frames.feed(b") can0 09F80203#\n")
+            self.assertEqual(frames.counts.lines, len(times) + 1)
+
     def test_a_library_of_another_version_is_refused(self):
         for version, is_right in ((10000, False), (20100, False), (10100, True), (10200, True)):
             with tempfile.TemporaryDirectory() as folder:
                 name = str(pathlib.Path(folder, "libn2kdec.so.1"))
                 code = f"int n2k_version(void) {{ return {version}; }}\n"
-                calls = "open feed end take take_reports save counts waiting close status_text".split()
+                calls = "open feed end take frame take_reports save counts waiting close table status_text".split()
                 code += "".join(f"int n2k_{call}(void) {{ return 0; }}\n" for call in calls)
                 subprocess.run(["cc", "-shared", "-fPIC", "-o", name, "-x", "c", "-"], input=code.encode(), check=True)
                 loads = subprocess.run([sys.executable, "-c", "import n2kdec; n2kdec._load()"], env={**os.environ, "N2KDEC_LIBRARY": name},
@@ -305,7 +328,7 @@ class Decoding(unittest.TestCase):
         with self.assertRaises(FileNotFoundError):
             n2kdec.decode(b"", table="no such table")
 
-    def test_threads_decode_in_random_pieces_and_go_on_from_states(self):
+    def test_threads_decode_in_random_pieces_and_frames_and_go_on_from_states(self):
         """N2KDEC_RUNS is how many times a log is gone over, by four threads, each with decoders of its own."""
         logs = [TRIP, ROOT / "examples/two-sources.log", ROOT / "examples/repeat-breaks.log", ROOT / "examples/ten-lines-eight-bad.log"]
         wanted = {log: program("decode", "--table", SAMPLE, log) for log in logs}
@@ -316,9 +339,14 @@ class Decoding(unittest.TestCase):
             data, most, at = log.read_bytes(), 1 << chance.randrange(1, 14), 0
             decoder, printed, reports = n2kdec.Decoder(SAMPLE), b"", []
             while at < len(data):
-                piece = data[at : at + chance.randrange(1, most + 1)]
-                at += len(piece)
-                decoder.feed(piece)
+                line = FRAME.match(data, at)
+                if line and not decoder.pending and chance.random() < 0.5:
+                    decoder.frame(int(line[2], 16), bytes.fromhex(line[3].decode()), float(line[1]))
+                    at = line.end()
+                else:
+                    piece = data[at : at + chance.randrange(1, most + 1)]
+                    at += len(piece)
+                    decoder.feed(piece)
                 printed, reports = printed + decoder.take(), reports + decoder.reports()
                 if chance.random() < 0.2:
                     again, state = decoder.pending, decoder.save()

@@ -119,7 +119,7 @@ ends_at_feed bytes lines last is none passes =
 options_are : (p : Packing) (e : Bool) (w : Window) (o : Options) → p ≡ o.packing → e ≡ o.empty → w ≡ o.window → (let x : Options = record { packing = p; empty = e; window = w } in x) ≡ o
 options_are p e w o is_p is_e is_w = rw (is_p, is_e, is_w) refl
 
--- what a run over more promises, behind each front
+-- what a run over more promises, after each prefix
 More : TableParts → Options → State → List ℕ → Devices → Devices → State → Result (Unit {0}) RunFault → Type 0
 More t o old more before after new result = (front : List ℕ) → IsEmptyOrEndsWith front line_feed → old ≡ state_after t o front → EndsMore t o front more before after new result
 
@@ -183,7 +183,7 @@ module _ (t : TableParts) (o : Options) (fed printed reported : List ℕ) where
         taken = subst (λ ls. HasDecoded t o ls printed reported d') (sym whole) (to (whole_lines fed) s.taken);
       }
 
-  -- d at first, d₁ with lines to take, d₂ behind them, and d₃ with the rest
+  -- d at first, d₁ with lines to take, d₂ after them, and d₃ with the rest
   module _ (d d₁ : Decoder) (bytes lines rest : List ℕ) (last : ℕ) (is_lines : lines ≡ take (last + 1) bytes) (is_rest : rest ≡ drop (last + 1) bytes)
       (none : NoneAfter (Passes (is_byte 10) bytes) 0 (length bytes) last) (passes : Passes (is_byte 10) bytes last) (cut : d₁.cut.items ≡ d.cut.items ++ lines) (s : Stands t o fed false printed reported d) where
     front : List ℕ
@@ -264,7 +264,7 @@ spends_end d d' of_run.Read runs = λ t o fed printed reported s.
     inr (let many : most_reads ≤ length d.cut.items + 1 = runs t o (whole_lines fed) printed reported (whole_ends fed) s.taken in omega (arith, many))
 spends_end d d' _ runs = tt
 
--- ---- what is told of a decoder
+-- ---- what is reported of a decoder
 
 module _ (t : TableParts) (o : Options) (fed : List ℕ) (is_whole : Bool) (printed reported : List ℕ) (d : Decoder) (s : Stands t o fed is_whole printed reported d) where
   pub saved_is : (text : List ℕ) → text ≡ state_text d.join → text ≡ save t o (taken_of is_whole fed)
@@ -274,7 +274,7 @@ module _ (t : TableParts) (o : Options) (fed : List ℕ) (is_whole : Bool) (prin
   pub counts_are : (counted : Counts) → counted ≡ d.join.counts → counted ≡ counts o.window (kind t) (entries o.packing (taken_of is_whole fed))
   counts_are counted is = is ∙ ap (λ (x : State). x.counts) s.taken.leads_to
 
--- a decoder that was opened behind a front
+-- a decoder that was opened after a prefix
 pub opened_at : (t : TableParts) (o : Options) (front : List ℕ) (d : Decoder) → d.table ≡ t → d.packing ≡ o.packing → d.empty ≡ o.empty → d.ended ≡ false → d.cut.items ≡ [] → d.output.held ≡ [] → d.reports.held ≡ []
     → IsEmptyOrEndsWith front line_feed → d.join ≡ state_after t o front → Stands t o front false (out t o front) (reports t o front) d
 opened_at t o front d is_t is_p is_e log cut output told whole join =

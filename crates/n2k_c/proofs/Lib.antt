@@ -2,3 +2,4 @@ pub mod Feeding
 pub mod Opening
 pub mod RawBoxes
 pub mod RawDecoders
+mod Queues

@@ -1,4 +1,4 @@
--- What a call answers, from what its parts do.
+-- What a call returns, from what its parts do.
 use Rattle.std.proofs.Common.{◌≡◌, ℕ, Bool, true, false, true≢false, List, [], Option, Some, None, Result, Err, MatchResult, is_some, refl, sym, ap, ◌∙◌, subst, arith}
 use Rattle.n2k_table.specs.Table.{TableParts, faults, table}
 use Rattle.n2k_run.specs.declared.options.Options.{Options}
@@ -20,7 +20,7 @@ nothing_told : (t : TableParts) (o : Options) → reports t o [] ≡ []
 unfolding reports
 nothing_told t o = refl
 
--- and no state is that of the empty front
+-- and no state is that of the empty prefix
 first : (t : TableParts) (o : Options) → IsFront t o [] None
 first t o = record { whole_lines = λ some. absurd (omega (arith, some)); leads_to = refl }
 

@@ -15,12 +15,14 @@ use Rattle.n2k_run.specs.Entries.{entries}
 use Rattle.n2k_run.specs.Headline.{save}
 use Rattle.n2k_run.specs.Parts.{IsFront, begun}
 use Rattle.n2k_run.specs.Reading.{most_reads}
+use Rattle.n2k_c.specs.Frame.{frame_line, is_frame}
+use Rattle.n2k_c.specs.Queue.{IsNextLine}
 use Rattle.n2k_c.specs.declared.Counted.{Counted}
 use Rattle.n2k_c.specs.declared.Settings.{Settings}
 use Rattle.n2k_c.specs.declared.decoder.Decoder.{Decoder}
 use Rattle.n2k_c.specs.declared.refusal.Refusal.{Refusal}
 use Rattle.n2k_c.specs.declared.refusal.Refusal.TheVariants.{Room, Memory, Window, TooMuch, Closed, Open, Ended}
-use Rattle.n2k_c.specs.declared.refusal.Refusal.TheVariants.{Reserved}
+use Rattle.n2k_c.specs.declared.refusal.Refusal.TheVariants.{Reserved, Frame, Unfinished}
 use Rattle.n2k_c.specs.declared.refusal.Refusal.TheVariants.{Table, State}
 use Rattle.n2k_c.specs.Stands.{Stands, taken_of}
 
@@ -38,11 +40,11 @@ settings_options settings = record {
 abbrev pub are_known : Settings → Bool
 are_known settings = bytes_eq settings.reserved (replicate 25 0)
 
--- the state that is handed in, where one is
+-- the state that is handed in, if any
 abbrev pub handed_of : Bool → List ℕ → Option (List ℕ)
 handed_of resumes state = if resumes then Some state else None
 
--- A decoder of a table without a fault. It stands behind each front of a log whose saved state was handed in, and
+-- A decoder of a table without a fault. It continues after each prefix of a log whose saved state was handed in, and
 -- without a state before the first line; nothing of it waits.
 pub record IsDecoderOf (toml : List ℕ) (settings : Settings) (handed : Option (List ℕ)) (d : Decoder) : Type 0 where
   pub sound : faults toml ≡ []
@@ -126,7 +128,28 @@ abbrev pub NotTaken : List ℕ → Option Decoder → Option Decoder → Refusal
 NotTaken bytes old new refusal =
     IsNotUnderWay old new refusal ⊎ ((d : Decoder) × (old ≡ Some d) × (new ≡ None) × Spends bytes d refusal)
 
--- ---- n2k_take, n2k_take_reports, n2k_counts and n2k_save
+-- ---- n2k_frame
+
+-- so many of the bytes fed belong to no line that was taken
+abbrev pub Waits : ℕ → Decoder → Type 0
+Waits size d =
+    (t : TableParts) (o : Options) (fed : List ℕ) (ended : Bool) (printed reported : List ℕ)
+    → Stands t o fed ended printed reported d → length fed ≡ length (taken_of ended fed) + size
+
+-- the frame's candump line was fed, and no unfinished line was waiting
+abbrev pub FeedsFrame : ℕ → List ℕ → ℕ → ℕ → Decoder → Decoder → Type 0
+FeedsFrame identifier payload seconds nanoseconds old new =
+    Waits 0 old × Feeds (frame_line identifier payload seconds nanoseconds) old new
+
+-- Why a frame was not taken: it is not valid, or an unfinished line is waiting, and then nothing has changed; or
+-- its candump line was not taken.
+abbrev pub NotFramed : ℕ → List ℕ → ℕ → ℕ → Option Decoder → Option Decoder → Refusal → Type 0
+NotFramed identifier payload seconds nanoseconds old new refusal =
+    ((refusal ≡ Frame) × (is_frame identifier payload seconds nanoseconds ≡ false) × (new ≡ old))
+    ⊎ (((refusal ≡ Unfinished) × Turns old new (λ from to. (to ≡ from) × (size : ℕ) × (0 < size) × Waits size from))
+    ⊎ NotTaken (frame_line identifier payload seconds nanoseconds) old new refusal)
+
+-- ---- n2k_take, n2k_next, n2k_take_reports, n2k_counts and n2k_save
 
 -- this text waited: with what was printed before it is the whole output of the bytes that were taken
 abbrev pub Prints : List ℕ → Decoder → Decoder → Type 0
@@ -134,6 +157,13 @@ Prints text old new =
     (t : TableParts) (o : Options) (fed : List ℕ) (ended : Bool) (printed reported : List ℕ)
     → Stands t o fed ended printed reported old
     → (out t o (taken_of ended fed) ≡ printed ++ text) × Stands t o fed ended (printed ++ text) reported new
+
+-- this text is the next line of the output, after what was printed before it; it is empty if all was printed
+abbrev pub PrintsNext : List ℕ → Decoder → Decoder → Type 0
+PrintsNext text old new =
+    (t : TableParts) (o : Options) (fed : List ℕ) (ended : Bool) (printed reported : List ℕ)
+    → Stands t o fed ended printed reported old
+    → IsNextLine (out t o (taken_of ended fed)) printed text × Stands t o fed ended (printed ++ text) reported new
 
 -- so for the reports
 abbrev pub Tells : List ℕ → Decoder → Decoder → Type 0
@@ -165,36 +195,30 @@ HasCounts counted d =
 abbrev pub IsCounted : Counted → Decoder → Type 0
 IsCounted counted d = (c : Counts) × HasCounts c d × (counted ≡ counted_of c)
 
--- so many bytes were fed beside those that were taken
-abbrev pub Waits : ℕ → Decoder → Type 0
-Waits size d =
-    (t : TableParts) (o : Options) (fed : List ℕ) (ended : Bool) (printed reported : List ℕ)
-    → Stands t o fed ended printed reported d → length fed ≡ length (taken_of ended fed) + size
-
 -- what is saved of the bytes that were taken
 abbrev pub IsStateOf : List ℕ → Decoder → Type 0
 IsStateOf text d =
     (t : TableParts) (o : Options) (fed : List ℕ) (ended : Bool) (printed reported : List ℕ)
     → Stands t o fed ended printed reported d → text ≡ save t o (taken_of ended fed)
 
--- At the front of a room a text of so many bytes was written, and nothing behind it.
+-- At the beginning of a room a text of so many bytes was written, and nothing after it.
 pub record Fills (room_old room_new : List ℕ) (told : ℕ) : Type 0 where
   pub fits : told ≤ length room_new
   pub behind : drop told room_new ≡ drop told room_old
 
--- A text came to the front of a room, and how long it is was told.
+-- A text came to the beginning of a room, and its length was returned.
 pub record HasRoom (text room_old room_new : List ℕ) (told : ℕ) : Type 0 where
   pub size : told ≡ length text
   pub front : take told room_new ≡ text
   pub fills : Fills room_old room_new told
 
--- a text did not fit: the room is as it was, and what the text wants was told
+-- a text did not fit: the room is unchanged, and the text's size was returned
 pub record WantsRoom (text room_old room_new : List ℕ) (wanted : ℕ) : Type 0 where
   pub told : wanted ≡ length text
   pub too_small : length room_old < wanted
   pub unchanged : room_new ≡ room_old
 
--- a room, and the size that is told of it
+-- a room, and the size that is returned
 abbrev pub Sized : Type 0
 Sized = List ℕ × ℕ
 
@@ -216,7 +240,7 @@ abbrev pub NotSaved : Sized → Sized → Option Decoder → Option Decoder → 
 NotSaved was is old new Closed = IsClosed old new × (is ≡ was)
 NotSaved was is old new refusal = Turns old new (λ from to. (to ≡ from) × NotSavedInto was is from refusal)
 
--- why nothing was told: none is open, and what it would stand in is as it was
+-- why nothing was returned: none is open, and the room is unchanged
 abbrev pub NotTold : (A : Type 0) → A → A → Option Decoder → Option Decoder → Refusal → Type 0
 NotTold A was is old new Closed = IsClosed old new × (is ≡ was)
 NotTold A was is old new _ = ⊥

@@ -16,7 +16,7 @@ use Rattle.n2k_c.specs.declared.refusal.Refusal.{Refusal}
 use Rattle.n2k_c.specs.declared.refusal.Refusal.TheVariants.{Memory, TooMuch, Table, State}
 use Rattle.n2k_c.specs.Stands.{HasDecoded}
 
--- the refusal of each fault: want of memory is one, wherever it comes from
+-- the refusal of each fault: refused memory is one, wherever it comes from
 abbrev pub refusal_of_table : TableFault → Refusal
 refusal_of_table of_table.Memory = Memory
 refusal_of_table fault = Table fault
@@ -25,13 +25,13 @@ abbrev pub refusal_of_state : StateFault → Refusal
 refusal_of_state of_state.Memory = Memory
 refusal_of_state fault = State fault
 
--- the sinks are in memory, so that they fail where memory is refused
+-- the sinks are in memory, so that they fail if memory is refused
 abbrev pub refusal_of_run : RunFault → Refusal
 refusal_of_run of_run.Read = TooMuch
 refusal_of_run of_run.TooManyLines = TooMuch
 refusal_of_run _ = Memory
 
--- The line that is cut was taken as it is, behind these bytes.
+-- The line that is cut was taken as it is, after these bytes.
 abbrev pub RunsCut : TableParts → Options → List ℕ → List ℕ → List ℕ → Decoder → Decoder
     → Result (Unit {0}) RunFault → Type 0
 RunsCut t o taken printed reported old new (Ok x) = HasDecoded t o (taken ++ old.cut.items) printed reported new

@@ -1,5 +1,7 @@
 pub mod Answers
+pub mod Frame
 pub mod Held
 pub mod Inner
+pub mod Queue
 pub mod Stands
 pub mod Status

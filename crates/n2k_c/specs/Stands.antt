@@ -1,4 +1,4 @@
--- What a decoder stands for: what it was fed of a log, and what was taken out of it.
+-- What a decoder represents: the bytes of a log that it was fed, and the texts that were taken out of it.
 use Rattle.std.specs.Prelude.{◌≡◌, ℕ, Bool, List, ◌++◌, if◌then◌else◌}
 use Rattle.n2k_table.specs.Table.{TableParts}
 use Rattle.n2k_run.specs.declared.options.Options.{Options}

@@ -6,7 +6,7 @@ use Rattle.n2k_join.specs.declared.fault.StateFault.{StateFault}
 use Rattle.n2k_join.specs.declared.fault.StateFault.TheVariants as of_state
 use Rattle.n2k_c.specs.declared.refusal.Refusal.{Refusal}
 use Rattle.n2k_c.specs.declared.refusal.Refusal.TheVariants.{Room, Memory, Window, TooMuch, Closed, Open, Ended}
-use Rattle.n2k_c.specs.declared.refusal.Refusal.TheVariants.{Reserved}
+use Rattle.n2k_c.specs.declared.refusal.Refusal.TheVariants.{Reserved, Frame, Unfinished}
 use Rattle.n2k_c.specs.declared.refusal.Refusal.TheVariants.{Table, State}
 
 -- a refused table: 100, and the number that the program's fault line has
@@ -41,6 +41,8 @@ code Closed = pos 5
 code Open = pos 6
 code Ended = pos 7
 code Reserved = pos 8
+code Frame = pos 9
+code Unfinished = pos 10
 code (Table fault) = table_code fault
 code (State fault) = state_code fault
 
@@ -49,7 +51,7 @@ abbrev pub answer_status : Result (Unit {0}) Refusal → ℤ
 answer_status (Ok done) = pos 0
 answer_status (Err refusal) = code refusal
 
--- A status says what was done where it is 0, and else why not. No two answers have one status (`statuses_differ`).
+-- Status 0 means that the call was done; any other says why not. No two results have one status (`statuses_differ`).
 pub record Says (status : ℤ) (Done : Type 0) (Why : Refusal → Type 0) : Type 0 where
   pub answer : Result (Unit {0}) Refusal
   pub status_is : status ≡ answer_status answer

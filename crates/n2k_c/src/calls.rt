@@ -1,11 +1,13 @@
 //! What the calls do, with their refusals by name.
 ghost use Rattle.std.specs.Prelude.{◌≡◌, ℕ, [], Err, MatchResult, None, Some, option_map, take};
 ghost use Rattle.n2k_join.specs.Window.{IsWindow};
-ghost use Rattle.n2k_c.specs.Answers.{IsDecoderOf, EndsLog, Feeds, Fills, IsClosed, IsCounted, IsNotUnderWay, IsStateOf, NotMade, NotMoved, NotOpened, NotSaved, NotSavedInto, NotTaken, NotTold, OpensDecoder, Prints, Tells, Turns, Waits, are_known, handed_of, settings_options};
+ghost use Rattle.n2k_c.specs.Answers.{IsDecoderOf, EndsLog, Feeds, FeedsFrame, Fills, IsClosed, IsCounted, IsNotUnderWay, IsStateOf, NotFramed, NotMade, NotMoved, NotOpened, NotSaved, NotSavedInto, NotTaken, NotTold, OpensDecoder, Prints, PrintsNext, Tells, Turns, Waits, are_known, handed_of, settings_options};
+ghost use Rattle.n2k_c.specs.Queue.{first_line};
 ghost use Rattle.n2k_c.specs.declared.Counted.{Counted as Counts};
 ghost use Rattle.n2k_c.specs.declared.refusal.Refusal.TheVariants.{Closed, Window as NoWindow};
 
 use crate::decoder::{self, Decoder, put};
+use crate::frame::{Frame, is_frame};
 use crate::raw_box::RawBox;
 use crate::raw_decoder::RawDecoder;
 use crate::refusal::Refusal;
@@ -47,7 +49,7 @@ fn settings_options(settings: &Settings) -> Result<Options, Refusal>
     })
 }
 
-/// The state that is handed in, where one is.
+/// The state that is handed in, if any.
 fn handed_in(resumes: bool, state: &[u8]) -> Option<&[u8]>
     ensures { option_map (λ bytes. bytes.now) result ≡ handed_of resumes state.now }
 {
@@ -128,7 +130,7 @@ fn made(
     }
 }
 
-/// Opens a decoder, where none is open.
+/// Opens a decoder, if none is open.
 pub fn open(
     alloc: Global,
     toml: &[u8],
@@ -188,6 +190,33 @@ pub fn feed(alloc: Global, h: &mut Handle, bytes: &[u8]) -> Result<(), Refusal>
     }
 }
 
+/// Takes a frame as its candump line.
+pub fn take_frame(alloc: Global, h: &mut Handle, frame: &Frame<'_>) -> Result<(), Refusal>
+    ensures { let f = frame.now in
+        MatchResult result (λ _. Turns h.old.hold.holds h.new.hold.holds
+        (FeedsFrame f.identifier f.«data».now f.seconds f.nanoseconds))
+        (NotFramed f.identifier f.«data».now f.seconds f.nanoseconds h.old.hold.holds h.new.hold.holds) }
+{
+    if !is_frame(frame) {
+        return Err(Refusal::Frame);
+    }
+    let mut decoder = match under_way(alloc, h) {
+        Ok(decoder) => decoder,
+        Err(refusal) => return Err(refusal),
+    };
+    if decoder.is_cut() {
+        keep(h, decoder);
+        return Err(Refusal::Unfinished);
+    }
+    match decoder.take_frame(alloc, frame) {
+        Ok(()) => {
+            keep(h, decoder);
+            Ok(())
+        }
+        Err(refusal) => Err(refusal),
+    }
+}
+
 /// Ends the log of what is open.
 pub fn end(alloc: Global, h: &mut Handle) -> Result<(), Refusal>
     ensures { MatchResult result (λ _. Turns h.old.hold.holds h.new.hold.holds EndsLog)
@@ -217,6 +246,30 @@ pub fn take(alloc: Global, h: &mut Handle, room: &mut [u8], size: &mut usize) ->
         Err(refusal) => return Err(refusal),
     };
     match decoder.take_output(room, size) {
+        Ok(()) => {
+            keep(h, decoder);
+            Ok(())
+        }
+        Err(refusal) => keep_refused(h, decoder, refusal),
+    }
+}
+
+/// Moves the next line of the output that waits.
+pub fn take_next(
+    alloc: Global,
+    h: &mut Handle,
+    room: &mut [u8],
+    size: &mut usize,
+) -> Result<(), Refusal>
+    ensures { MatchResult result (λ _. Fills room.old room.new size.new
+        × Turns h.old.hold.holds h.new.hold.holds (PrintsNext (take size.new room.new)))
+        (NotMoved (λ d. first_line d.output.held) (room.old, size.old) (room.new, size.new) h.old.hold.holds h.new.hold.holds) }
+{
+    let mut decoder = match taken(alloc, h) {
+        Ok(decoder) => decoder,
+        Err(refusal) => return Err(refusal),
+    };
+    match decoder.take_next(room, size) {
         Ok(()) => {
             keep(h, decoder);
             Ok(())
@@ -287,7 +340,7 @@ pub fn waiting(alloc: Global, h: &mut Handle, size: &mut usize) -> Result<(), Re
     Ok(())
 }
 
-/// The state of a decoder, put into a room where it fits.
+/// The state of a decoder, put into a room if it fits.
 fn save_into(
     alloc: Global,
     decoder: &Decoder,

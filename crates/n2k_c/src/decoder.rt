@@ -1,28 +1,35 @@
 //! A decoder that is kept between calls.
-ghost use Rattle.std.specs.Prelude.{◌≡◌, ◌≢◌, ℕ, false, List, [], Err, IfOk, IfErr, OnOk, MatchResult, length, option_map, take};
+ghost use Rattle.std.specs.Prelude.{◌≡◌, ◌≢◌, ◌<◌, ◌≤◌, ℕ, true, false, List, [], Err, IfOk, IfErr, OnOk, MatchResult, length, option_map, take};
 ghost use Rattle.std.specs.Io.{IsEmptyOrEndsWith};
 ghost use Rattle.memchr.specs.Find.{NoneAfter, Nowhere, Passes, is_byte};
 ghost use Rattle.n2k_join.specs.Refusal.{GivesOrMemory};
 ghost use Rattle.n2k_join.specs.declared.fault.StateFault.TheVariants.{Memory};
+ghost use Rattle.n2k_wire.specs.Candump.{frame_payload};
 ghost use Rattle.n2k_table.specs.Table.{TableParts};
 ghost use Rattle.n2k_run.specs.declared.options.Options.{Options};
 ghost use Rattle.n2k_run.specs.Decoded.{out, reports};
+ghost use Rattle.n2k_run.specs.Inner.Block.{FindsEnd};
 ghost use Rattle.n2k_run.specs.Lines.{line_feed};
 ghost use Rattle.n2k_run.specs.Parts.{IsFront, begun};
 ghost use Rattle.n2k_c.specs.declared.refusal.Refusal.TheVariants.{Room};
-ghost use Rattle.n2k_c.specs.Answers.{EndsLog, Feeds, Fills, HasCounts, HasRoom, IsStateOf, Prints, Spends, Tells, Waits, WantsRoom};
+ghost use Rattle.n2k_c.specs.Answers.{EndsLog, Feeds, Fills, HasCounts, HasRoom, IsStateOf, Prints, PrintsNext, Spends, Tells, Waits, WantsRoom};
 ghost use Rattle.n2k_c.specs.Inner.{RunsCut};
+ghost use Rattle.n2k_c.specs.Frame.{frame_line};
+ghost use Rattle.n2k_c.specs.Queue.{first_line};
 ghost use Rattle.n2k_c.specs.Stands.{HasDecoded, Stands};
 
+use crate::frame::{Frame, line_of};
+use crate::queue::Queue;
 use crate::refusal::Refusal;
-use memchr::memrchr;
+use memchr::{memchr, memrchr};
 use n2k_join::{Counts, Join, StateFault};
-use n2k_run::{MemorySink, Options, RunFault, run_more};
+use n2k_run::{Options, RunFault, RunRoom, run_more};
 use n2k_table::Table;
 use n2k_wire::Packing;
 use std::alloc::{AllocError, Global};
 
-/// What is kept: the table, the join behind the lines so far, a line that is cut, and the texts that wait.
+/// What is kept: the table, the join after the lines so far, a line that is cut, the texts that wait, and the room of its
+/// runs.
 #[derive(Drop)]
 pub struct Decoder {
     pub table: Table,
@@ -31,8 +38,9 @@ pub struct Decoder {
     pub empty: bool,
     pub ended: bool,
     pub cut: Vec<u8>,
-    pub output: MemorySink,
-    pub reports: MemorySink,
+    pub output: Queue,
+    pub reports: Queue,
+    pub room: RunRoom,
 }
 
 /// The join that a log begins with, or goes on with.
@@ -49,13 +57,6 @@ fn begin(
         None => Ok(Join::new(alloc, table, options.window)),
         Some(bytes) => Join::resume(alloc, table, options.window, bytes),
     }
-}
-
-/// What waits, where nothing does. It moves a block at a time, which takes fewer instructions than all at once.
-fn nothing(alloc: Global) -> MemorySink
-    ensures { result.held ≡ [] }
-{
-    MemorySink::new(alloc, 4096, 0)
 }
 
 /// A decoder that goes on from a saved state, or begins a log.
@@ -80,8 +81,9 @@ pub fn open(
         empty,
         ended: false,
         cut: Vec::new(alloc),
-        output: nothing(alloc),
-        reports: nothing(alloc),
+        output: Queue::new(alloc),
+        reports: Queue::new(alloc),
+        room: RunRoom::new(alloc),
     })
 }
 
@@ -105,6 +107,7 @@ impl Decoder {
             &mut self.join,
             options,
             &self.cut,
+            &mut self.room,
             &mut self.output,
             &mut self.reports,
         );
@@ -152,6 +155,19 @@ impl Decoder {
         Ok(())
     }
 
+    /// Takes the candump line of a frame. After a refusal the decoder can't be used.
+    pub fn take_frame(&mut self, alloc: Global, frame: &Frame<'_>) -> Result<(), Refusal>
+        requires short { length frame.now.«data».now ≤ frame_payload }
+        requires time { frame.now.nanoseconds < 1000000000 }
+        ensures { let line = frame_line frame.now.identifier frame.now.«data».now frame.now.seconds frame.now.nanoseconds in
+            MatchResult result (λ _. Feeds line self.old self.new) (Spends line self.old) }
+    {
+        match line_of(alloc, frame) {
+            Ok(line) => self.feed(alloc, &line),
+            Err(_) => Err(Refusal::Memory),
+        }
+    }
+
     /// Takes the line that is cut as the log's last. After a refusal it is spent.
     pub fn end(&mut self, alloc: Global) -> Result<(), Refusal>
         ensures { MatchResult result (λ _. EndsLog self.old self.new) (Spends [] self.old) }
@@ -165,7 +181,7 @@ impl Decoder {
         }
     }
 
-    /// Moves the output that waits to a room, where it fits.
+    /// Moves the waiting output to a room, if it fits.
     pub fn take_output(&mut self, room: &mut [u8], wanted: &mut usize) -> Result<(), Refusal>
         ensures { MatchResult result (λ _. Fills room.old room.new wanted.new × Prints (take wanted.new room.new) self.old self.new)
             (λ refusal. (refusal ≡ Room) × (self.new ≡ self.old)
@@ -174,7 +190,18 @@ impl Decoder {
         drain(&mut self.output, room, wanted)
     }
 
-    /// Moves the reports that wait to a room, where they fit.
+    /// Moves the first line of the waiting output to a room, if it fits.
+    pub fn take_next(&mut self, room: &mut [u8], wanted: &mut usize) -> Result<(), Refusal>
+        ensures { MatchResult result (λ _. Fills room.old room.new wanted.new × PrintsNext (take wanted.new room.new) self.old self.new)
+            (λ refusal. (refusal ≡ Room) × (self.new ≡ self.old)
+            × WantsRoom (first_line self.old.output.held) room.old room.new wanted.new) }
+    {
+        put(room, first_line(self.output.bytes()), wanted)?;
+        self.output.advance(*wanted);
+        Ok(())
+    }
+
+    /// Moves the waiting reports to a room, if they fit.
     pub fn take_reports(&mut self, room: &mut [u8], wanted: &mut usize) -> Result<(), Refusal>
         ensures { MatchResult result (λ _. Fills room.old room.new wanted.new × Tells (take wanted.new room.new) self.old self.new)
             (λ refusal. (refusal ≡ Room) × (self.new ≡ self.old)
@@ -197,7 +224,15 @@ impl Decoder {
         self.cut.len()
     }
 
-    /// The state behind the lines that were taken.
+    /// Whether an unfinished line is waiting.
+    pub fn is_cut(&self) -> bool
+        ensures yes { result ≡ true → (size : ℕ) × (0 < size) × Waits size self.now }
+        ensures no { result ≡ false → Waits 0 self.now }
+    {
+        self.waiting() > 0
+    }
+
+    /// The state after the lines that were taken.
     pub fn save(&self, alloc: Global) -> Result<Vec<u8>, AllocError>
         ensures { IfOk result (λ text. IsStateOf text.items self.now) }
     {
@@ -206,7 +241,7 @@ impl Decoder {
     }
 }
 
-/// Puts a text at the front of a room, where it fits; in any case tells how much it wants.
+/// Puts a text at the beginning of a room, if it fits; in any case returns its size.
 pub fn put(room: &mut [u8], text: &[u8], wanted: &mut usize) -> Result<(), Refusal>
     ensures { MatchResult result (λ _. HasRoom text.now room.old room.new wanted.new)
         (λ refusal. (refusal ≡ Room) × WantsRoom text.now room.old room.new wanted.new) }
@@ -219,8 +254,27 @@ pub fn put(room: &mut [u8], text: &[u8], wanted: &mut usize) -> Result<(), Refus
     Ok(())
 }
 
-/// Moves what waits to a room, where it fits.
-fn drain(waiting: &mut MemorySink, room: &mut [u8], wanted: &mut usize) -> Result<(), Refusal>
+/// The place of the first line feed.
+fn line_end(bytes: &[u8]) -> Option<usize>
+    ensures { FindsEnd bytes.now result }
+{
+    memchr(b'\n', bytes)
+}
+
+/// The bytes up to and including the first line feed, or all bytes if there is none.
+#[tactic(auto, using(crate::proofs::Queues::line_found, crate::proofs::Queues::no_line))]
+fn first_line(bytes: &[u8]) -> &[u8]
+    ensures value { result.now ≡ first_line bytes.now }
+    ensures within { length result.now ≤ length bytes.now }
+{
+    match line_end(bytes) {
+        Some(end) => &bytes[..end + 1],
+        None => bytes,
+    }
+}
+
+/// Moves a waiting text to a room, if it fits.
+fn drain(waiting: &mut Queue, room: &mut [u8], wanted: &mut usize) -> Result<(), Refusal>
     ensures { MatchResult result (λ _. HasRoom waiting.old.held room.old room.new wanted.new × (waiting.new.held ≡ []))
         (λ refusal. (refusal ≡ Room) × (waiting.new ≡ waiting.old)
         × WantsRoom waiting.old.held room.old room.new wanted.new) }

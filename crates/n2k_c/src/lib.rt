@@ -2,16 +2,20 @@
 #![tactic(auto)]
 
 ghost use Rattle.std.specs.Prelude.{◌≡◌, ℕ, [], None, is_some, take};
-ghost use Rattle.n2k_c.specs.Answers.{EndsLog, Feeds, Fills, IsCounted, IsStateOf, NotMoved, NotOpened, NotSaved, NotTaken, NotTold, OpensDecoder, Prints, Tells, Turns, Waits, handed_of};
+ghost use Rattle.n2k_c.specs.Answers.{EndsLog, Feeds, FeedsFrame, Fills, IsCounted, IsStateOf, NotFramed, NotMoved, NotOpened, NotSaved, NotTaken, NotTold, OpensDecoder, Prints, PrintsNext, Tells, Turns, Waits, handed_of};
 ghost use Rattle.n2k_c.specs.declared.Counted.{Counted as Counts};
+ghost use Rattle.n2k_c.specs.Queue.{first_line};
 ghost use Rattle.n2k_c.specs.Status.{Says};
 
 mod calls;
 mod decoder;
+mod frame;
+mod queue;
 mod raw_box;
 mod raw_decoder;
 mod refusal;
 
+use crate::frame::Frame;
 use crate::raw_decoder::RawDecoder;
 use crate::refusal::status;
 use std::alloc::Global;
@@ -41,7 +45,7 @@ pub struct Counted {
     pub reserved: [u64; 2],
 }
 
-/// What C keeps of a decoder: zeros, where none is open.
+/// What C keeps of a decoder: zeros, if none is open.
 #[repr(C)]
 #[derive(Drop)]
 pub struct Handle {
@@ -76,6 +80,29 @@ pub extern "C" fn n2k_feed(alloc: Global, h: &mut Handle, bytes: &[u8]) -> i32
     status(calls::feed(alloc, h, bytes))
 }
 
+/// Takes a CAN frame, as the line that candump prints of it.
+#[unsafe(no_mangle)]
+pub extern "C" fn n2k_frame(
+    alloc: Global,
+    h: &mut Handle,
+    identifier: u32,
+    payload: &[u8],
+    seconds: u64,
+    nanoseconds: u32,
+) -> i32
+    ensures { Says result
+        (Turns h.old.hold.holds h.new.hold.holds (FeedsFrame identifier payload.now seconds nanoseconds))
+        (NotFramed identifier payload.now seconds nanoseconds h.old.hold.holds h.new.hold.holds) }
+{
+    let frame = Frame {
+        identifier,
+        data: payload,
+        seconds,
+        nanoseconds,
+    };
+    status(calls::take_frame(alloc, h, &frame))
+}
+
 /// Ends the log: its last line is taken, though no line feed ends it.
 #[unsafe(no_mangle)]
 pub extern "C" fn n2k_end(alloc: Global, h: &mut Handle) -> i32
@@ -85,7 +112,7 @@ pub extern "C" fn n2k_end(alloc: Global, h: &mut Handle) -> i32
     status(calls::end(alloc, h))
 }
 
-/// Moves the output that waits to a room, where it fits, and tells how much that is.
+/// Moves the waiting output to a room, if it fits, and returns its size.
 #[unsafe(no_mangle)]
 pub extern "C" fn n2k_take(alloc: Global, h: &mut Handle, room: &mut [u8], size: &mut usize) -> i32
     ensures { Says result (Fills room.old room.new size.new
@@ -95,7 +122,17 @@ pub extern "C" fn n2k_take(alloc: Global, h: &mut Handle, room: &mut [u8], size:
     status(calls::take(alloc, h, room, size))
 }
 
-/// Moves the reports that wait to a room, where they fit, and tells how much that is.
+/// Moves the line of the next message to a room, if it fits, and returns its size. If none waits it is empty.
+#[unsafe(no_mangle)]
+pub extern "C" fn n2k_next(alloc: Global, h: &mut Handle, room: &mut [u8], size: &mut usize) -> i32
+    ensures { Says result (Fills room.old room.new size.new
+        × Turns h.old.hold.holds h.new.hold.holds (PrintsNext (take size.new room.new)))
+        (NotMoved (λ d. first_line d.output.held) (room.old, size.old) (room.new, size.new) h.old.hold.holds h.new.hold.holds) }
+{
+    status(calls::take_next(alloc, h, room, size))
+}
+
+/// Moves the waiting reports to a room, if they fit, and returns their size.
 #[unsafe(no_mangle)]
 pub extern "C" fn n2k_take_reports(
     alloc: Global,
@@ -129,7 +166,7 @@ pub extern "C" fn n2k_waiting(alloc: Global, h: &mut Handle, size: &mut usize) -
     status(calls::waiting(alloc, h, size))
 }
 
-/// Puts the state behind the lines that were taken into a room, where it fits, and tells how much that is.
+/// Puts the state after the lines that were taken into a room, if it fits, and returns its size.
 #[unsafe(no_mangle)]
 pub extern "C" fn n2k_save(alloc: Global, h: &mut Handle, room: &mut [u8], size: &mut usize) -> i32
     ensures { Says result (Fills room.old room.new size.new

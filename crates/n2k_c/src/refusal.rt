@@ -11,11 +11,11 @@ use std::alloc::AllocError;
 /// Why a call did not do what it is for.
 #[derive(Clone, Copy, Debug, PartialEq, Eq)]
 pub enum Refusal {
-    /// A text does not fit into the room; how much it wants was told.
+    /// A text does not fit into the room; its size was returned.
     Room,
     /// An allocation was refused.
     Memory,
-    /// There is no window of so many lines.
+    /// The number of lines is not a valid window.
     Window,
     /// The log has more lines than are counted, or 10^12 bytes came at once.
     TooMuch,
@@ -27,6 +27,10 @@ pub enum Refusal {
     Ended,
     /// A reserved byte of the settings is not 0.
     Reserved,
+    /// The identifier, the data or the time of a frame is not valid.
+    Frame,
+    /// An unfinished line is waiting.
+    Unfinished,
     /// The table is refused.
     Table(TableFault),
     /// The state is refused.
@@ -78,7 +82,7 @@ impl From<RunFault> for Refusal {
 
     ghost from_gives = { λ fault refusal. refusal ≡ refusal_of_run fault };
 
-    // The sinks are in memory, and fail where memory is refused.
+    // The sinks are in memory, and fail if memory is refused.
     fn from(fault: RunFault) -> Self {
         match fault {
             RunFault::Read | RunFault::TooManyLines => Refusal::TooMuch,
@@ -134,12 +138,14 @@ pub fn status(answer: Result<(), Refusal>) -> i32
         Err(Refusal::Open) => 6,
         Err(Refusal::Ended) => 7,
         Err(Refusal::Reserved) => 8,
+        Err(Refusal::Frame) => 9,
+        Err(Refusal::Unfinished) => 10,
         Err(Refusal::Table(fault)) => table_code(fault),
         Err(Refusal::State(fault)) => state_code(fault),
     }
 }
 
-/// No two answers have one status.
+/// No two results have one status.
 pub fn statuses_differ()
     ensures { (a b : Result (Unit {0}) Refusal) → answer_status a ≡ answer_status b → a ≡ b }
 {}

@@ -1,6 +1,6 @@
 -- The promise: what is encoded reads back as what a line gives.
-use Rattle.std.specs.Prelude.{◌≡◌, ◌⊎◌, ℕ, Bool, true, false, ◌&&◌, ◌||◌, codes, List, filter, Option, Some, None}
-use Rattle.std.specs.Prelude.{is_some, is_none, option_map, if◌then◌else◌}
+use Rattle.std.specs.Prelude.{◌≡◌, ◌⊎◌, ℕ, zero, suc, Bool, true, false, not, ◌&&◌, ◌||◌, codes, List, filter, Option, Some, None}
+use Rattle.std.specs.Prelude.{is_some, is_none, option_map, slice_get, if◌then◌else◌}
 use Rattle.std.specs.List.{find}
 use Rattle.std.specs.Str.{bytes_eq, IsUtf8}
 use Rattle.json.specs.Json.{Json, document}
@@ -10,7 +10,7 @@ use Rattle.n2k_wire.specs.Identifier.{join}
 use Rattle.n2k_wire.specs.Packet.{PacketParts}
 use Rattle.n2k_table.specs.Definition.{DefinitionParts}
 use Rattle.n2k_table.specs.Repeat.{RepeatParts}
-use Rattle.n2k_table.specs.Table.{TableParts, choice, is_of, kind}
+use Rattle.n2k_table.specs.Table.{TableParts, KnownParts, choice, is_of, kind, matches}
 use Rattle.n2k_encode.specs.Given.{given, first_unknown, wrong_names}
 use Rattle.n2k_encode.specs.Reading.{shows_all}
 use Rattle.n2k_encode.specs.Refusal.{CauseParts, not_json, unknown, address, description, field, is_late}
@@ -62,6 +62,23 @@ reads_unmatched r payload =
 abbrev pub reads_as : Bool → Option DefinitionParts → RequestParts → List ℕ → Bool
 reads_as nearest (Some d) r payload = reads_by nearest d r payload
 reads_as nearest None r payload = reads_unmatched r payload
+
+-- the data match the definition at a place among these
+abbrev pub matches_at : List ℕ → List DefinitionParts → ℕ → Bool
+matches_at payload ds k = is_some_with (matches payload) (slice_get ds k)
+
+-- the data match no definition before a place
+abbrev pub none_before : List ℕ → List DefinitionParts → ℕ → Bool
+none_before payload ds zero = true
+none_before payload ds (suc k) = none_before payload ds k && not (matches_at payload ds k)
+
+-- the definition at a place is the first of these that the data match
+abbrev pub is_chosen : List ℕ → List DefinitionParts → ℕ → Bool
+is_chosen payload ds k = none_before payload ds k && matches_at payload ds k
+
+-- the definitions of a PGN
+abbrev pub definitions_of : KnownParts → List DefinitionParts
+definitions_of k = filter (is_of k.pgn) k.table.definitions
 
 -- A message is what an object asks for: its timestamp and its identifier, which the bus can carry, and data that read
 -- back under the definition that the table chooses for them.

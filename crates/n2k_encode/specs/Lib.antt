@@ -1,3 +1,4 @@
+pub mod Draft
 pub mod Encoded
 pub mod Given
 pub mod Numeral

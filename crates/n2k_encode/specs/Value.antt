@@ -1,15 +1,18 @@
 -- What a field is set to, to show a value that a line gives.
-use Rattle.std.specs.Prelude.{◌≡◌, ℕ, ℤ, pos, neg_ℤ, ◌+◌, ◌-◌, ◌*◌, ◌/◌, ◌^◌, ◌==◌, nat_lt, nat_le, Bool, false, not, ◌&&◌, ◌||◌}
-use Rattle.std.specs.Prelude.{true, List, [], ◌∷◌, length, replicate, Option, Some, None, is_none, option_map, IfSome, MatchOption, ⊤, if◌then◌else◌}
+use Rattle.std.specs.Prelude.{◌≡◌, ℕ, ℤ, pos, negsuc, neg_ℤ, ◌-ℤ◌, ◌+◌, ◌-◌, ◌*◌, ◌/◌, ◌^◌, ◌==◌, nat_lt, nat_le, Bool, not, ◌&&◌, ◌||◌, bit_or}
+use Rattle.std.specs.Prelude.{true, false, List, [], ◌∷◌, length, replicate, Option, Some, None, is_none, option_map, MatchOption, ⊤, if◌then◌else◌}
+use Rattle.std.specs.Int.RustNames.{unsigned_abs}
+use Rattle.std.specs.List.{find}
 use Rattle.std.specs.Option.{option_and_then}
+use Rattle.std.specs.Str.{bytes_eq}
 use Rattle.fast_float.specs.Text.{scan}
-use Rattle.json.specs.Json.{Json, null, boolean, number, string, array, object}
-use Rattle.json.specs.Find.{as_number, as_str}
+use Rattle.json.specs.Json.{Json, null, boolean, number, string, array, object, Items, no_items, item}
+use Rattle.json.specs.Find.{as_array, as_number, as_str}
 use Rattle.n2k_wire.specs.Steps.{some_if}
 use Rattle.n2k_table.specs.declared.resolution.Resolution.{Resolution}
 use Rattle.n2k_table.specs.declared.string_place.Form.{Form}
 use Rattle.n2k_table.specs.declared.string_place.Form.TheVariants.{Lau, Lz}
-use Rattle.n2k_table.specs.Bits.{greatest}
+use Rattle.n2k_table.specs.Bits.{greatest, has_bit}
 use Rattle.n2k_table.specs.Field.{FieldParts, Meaning}
 use Rattle.n2k_table.specs.Field as means
 use Rattle.n2k_table.specs.Lookup.{name_of_value}
@@ -17,7 +20,7 @@ use Rattle.n2k_encode.specs.declared.value.Style.{Style}
 use Rattle.n2k_encode.specs.Numeral.{is_negative, digits_of, scaled, multiples}
 use Rattle.n2k_encode.specs.Request.{whole_number}
 use Rattle.n2k_encode.specs.Steps.{◌>>=◌}
-use Rattle.n2k_encode.specs.Texts.{within, latin1, filled, ends_full, narrow_string}
+use Rattle.n2k_encode.specs.Texts.{latin1, filled, ends_full, narrow_string, within}
 
 -- how many of the greatest values of n bits say that none is there
 abbrev pub reserved : ℕ → ℕ
@@ -46,6 +49,17 @@ number_raw nearest signed n resolution text = do
 abbrev pub with_sign : Bool → ℕ → ℤ
 with_sign negative size = if negative then neg_ℤ (pos size) else pos size
 
+-- the raw value of a whole number that has no sign bit
+abbrev pub whole_raw : ℕ → ℤ → Option ℕ
+whole_raw n (pos size) = raw_number false n false size
+whole_raw n (negsuc size) = None
+
+-- the raw value of a number to which an offset is added
+unfoldable pub shifted_raw : Bool → ℕ → ℤ → Resolution → List ℕ → Option ℕ
+shifted_raw nearest n offset resolution text = do
+  units ← units_of nearest (unsigned_abs offset) resolution text
+  whole_raw n (with_sign (is_negative text) units -ℤ offset)
+
 -- a number of 64 bits that has no name
 unfoldable pub unnamed : List (ℕ × List ℕ) → List ℕ → Option ℕ
 unnamed entries text = do
@@ -61,14 +75,26 @@ abbrev pub if_there : List (ℕ × List ℕ) → ℕ → Option ℕ → Option �
 if_there entries n None = None
 if_there entries n (Some v) = some_if (is_there entries n v) v
 
--- The raw value of a lookup: a value that has the given name, or the given number, if that has no name.
-abbrev pub IsLookupRaw : List (ℕ × List ℕ) → ℕ → Json → Option ℕ → Type 0
-IsLookupRaw entries n null raw = raw ≡ None
-IsLookupRaw entries n (boolean b) raw = raw ≡ None
-IsLookupRaw entries n (number s) raw = raw ≡ if_there entries n (unnamed entries s)
-IsLookupRaw entries n (string s) raw = IfSome raw (λ v. name_of_value entries v ≡ Some s)
-IsLookupRaw entries n (array js) raw = raw ≡ None
-IsLookupRaw entries n (object ms) raw = raw ≡ None
+-- a value of a lookup: the first that has the given name, or the given number, if that has no name
+abbrev pub named_value : List (ℕ × List ℕ) → Json → Option ℕ
+named_value entries null = None
+named_value entries (boolean b) = None
+named_value entries (number s) = unnamed entries s
+named_value entries (string s) = option_map (λ e. e.0) (find (λ e. bytes_eq e.1 s) entries)
+named_value entries (array js) = None
+named_value entries (object ms) = None
+
+-- a raw value with a bit more, if the bit is one of n and is not there yet
+abbrev pub with_flag : ℕ → ℕ → ℕ → Option ℕ
+with_flag raw n bit = some_if (nat_lt bit n && not (has_bit raw bit)) (bit_or raw (2 ^ bit))
+
+-- a raw value with the bits that are named, each once
+abbrev pub flags_from : List (ℕ × List ℕ) → ℕ → ℕ → Items → Option ℕ
+flags_from entries n raw no_items = Some raw
+flags_from entries n raw (item j js) = do
+  bit ← named_value entries j
+  more ← with_flag raw n bit
+  flags_from entries n more js
 
 -- From eight bits on the greatest value and the greatest but one say that no flags are there.
 abbrev pub are_there : ℕ → ℕ → Bool
@@ -79,6 +105,13 @@ abbrev pub shorter_of : Option (List ℕ) → Option (List ℕ) → Option (List
 shorter_of None other = other
 shorter_of (Some bs) None = Some bs
 shorter_of (Some bs) (Some cs) = if nat_lt (length cs) (length bs) then Some cs else Some bs
+
+-- the raw value of flags
+abbrev pub flags_raw : List (ℕ × List ℕ) → ℕ → Json → Option ℕ
+flags_raw entries n j = do
+  js ← as_array j
+  raw ← flags_from entries n 0 js
+  some_if (are_there n raw) raw
 
 -- the bytes of a string, if UTF-8 shows the text
 abbrev pub IsString : Form → List ℕ → Option (List ℕ) → Type 0
@@ -109,14 +142,15 @@ bits_for f (Some raw) = option_map bits (if_asked f.match_value raw)
 abbrev pub bytes_for : Option (List ℕ) → Option CodeParts
 bytes_for found = option_map bytes found
 
--- What is found is what a field of that meaning is set to, to show a value, if it can show the value. Of numbers with an
--- offset, names of a lookup, flags, bytes, digits and strings nothing is said here.
+-- What is found is what a field of that meaning is set to, to show a value, if it can show the value. Of bytes, digits and
+-- strings nothing is said here.
 abbrev pub IsCode : Style → FieldParts → Json → Meaning → Option CodeParts → Type 0
 IsCode s f j (means.number signed resolution) code =
     code ≡ bits_for f (option_and_then (number_raw s.nearest signed f.bits resolution) (as_number j))
-IsCode s f j (means.shifted offset resolution) code = ⊤
-IsCode s f j (means.named entries) code = ⊤
-IsCode s f j (means.flags entries) code = ⊤
+IsCode s f j (means.shifted offset resolution) code =
+    code ≡ bits_for f (option_and_then (shifted_raw s.nearest f.bits offset resolution) (as_number j))
+IsCode s f j (means.named entries) code = code ≡ bits_for f (if_there entries f.bits (named_value entries j))
+IsCode s f j (means.flags entries) code = code ≡ bits_for f (flags_raw entries f.bits j)
 IsCode s f j means.text code = code ≡ bytes_for (option_and_then (text_bytes (f.bits / 8)) (as_str j))
 IsCode s f j means.bytes code = ⊤
 IsCode s f j means.digits code = ⊤

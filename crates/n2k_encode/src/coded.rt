@@ -1,5 +1,6 @@
 //! What fields are set to by what a line gives, and when.
 ghost use Rattle.std.specs.Prelude.{◌≡◌, true, IfErr};
+ghost use Rattle.n2k_encode.specs.Draft.{is_given, is_reserved};
 ghost use Rattle.n2k_encode.specs.Refusal.{is_late, IfRefused};
 
 use crate::given::given;
@@ -8,9 +9,10 @@ use crate::value::{Code, Style, code_of, not_available};
 use json::Value;
 use n2k_table::Field;
 use std::alloc::Global;
+use std::marker::Model;
 
 /// When a field is set: those that are not given first, then those that ask for a value, and last those that are given.
-#[derive(Clone, Copy, PartialEq, Eq)]
+#[derive(Clone, Copy)]
 pub(crate) enum Layer {
     Reserved,
     Asked,
@@ -25,9 +27,34 @@ pub(crate) struct Coded<'t> {
     pub(crate) code: Code,
 }
 
+impl<'t> Model for Coded<'t> {
+    ghost use Rattle.n2k_encode.specs.Draft.{CodedParts};
+    ghost use Rattle.n2k_encode.specs.Views.{code_parts};
+
+    ghost Value = { CodedParts };
+
+    ghost view = { λ c. record { field = c.field.now; layer = c.layer; code = code_parts c.code } };
+}
+
+impl<'t> Coded<'t> {
+    /// Whether the line gives the field.
+    pub(crate) fn is_given(&self) -> bool
+        ensures { result ≡ is_given self.now.layer }
+    {
+        matches!(self.layer, Layer::Given)
+    }
+
+    /// Whether the field is "not available".
+    pub(crate) fn is_reserved(&self) -> bool
+        ensures { result ≡ is_reserved self.now.layer }
+    {
+        matches!(self.layer, Layer::Reserved)
+    }
+}
+
 /// A field with what it is set to by what a line gives, if the field can show that.
-fn code_field<'t>(style: Style, field: &'t Field, object: &Value<'_>) -> Option<Coded<'t>> {
-    if let Some(value) = given(object, field.name()) {
+fn code_field<'t>(style: Style, field: &'t Field, value: Option<&Value<'_>>) -> Option<Coded<'t>> {
+    if let Some(value) = value {
         return Some(Coded {
             field,
             layer: Layer::Given,
@@ -61,7 +88,7 @@ pub(crate) fn coded_fields<'t>(
         return Err(EncodeError::Memory);
     };
     for field in fields {
-        let Some(coded) = code_field(style, field, object) else {
+        let Some(coded) = code_field(style, field, given(object, field.name())) else {
             return Err(EncodeError::Refused(Refusal::Value(field.name())));
         };
         if all.push(coded).is_err() {

@@ -1,10 +1,12 @@
 //! The data of a message by a definition, before it is asked whether they read back.
-ghost use Rattle.std.specs.Prelude.{◌≡◌, ◌≤◌, true, IfErr, IfSome};
-ghost use Rattle.n2k_encode.specs.Refusal.{cause, is_late, IfRefused};
+ghost use Rattle.std.specs.Prelude.{◌≡◌, ◌≤◌, true, IfErr};
+ghost use Rattle.n2k_encode.specs.Draft.{agree, blank, end_of_all, end_with, has_code, is_cut, is_set_in, last_of, most_data};
+ghost use Rattle.n2k_encode.specs.Draft.{name_of_first, put_all, put_layer, whole_end, with_next};
+ghost use Rattle.n2k_encode.specs.Refusal.{is_late, IfRefused};
 
 use crate::coded::{Coded, Layer, coded_fields};
 use crate::given::given_sets;
-use crate::place::{MOST_DATA, end_of, has_code, put_bytes, put_code};
+use crate::place::{MOST_DATA, end_of, put_bytes, put_code};
 use crate::refusal::{EncodeError, Refusal};
 use crate::value::{Code, Style};
 use json::Value;
@@ -22,61 +24,106 @@ pub(crate) struct Draft {
 }
 
 /// The most bytes of a message of a kind.
-pub(crate) fn most_data(kind: Kind) -> usize {
+pub(crate) fn most_data(kind: Kind) -> usize
+    ensures value { result ≡ most_data kind }
+    ensures few { result ≤ 223 }
+{
     match kind {
         Kind::Single => 8,
         Kind::Fast => MOST_DATA,
     }
 }
 
-/// Sets the fields of one layer. A string is set in the first layer too, since others are placed by it.
-fn put_layer(layer: Layer, fields: &[Coded<'_>], data: &mut [u8; MOST_DATA]) {
+/// Data in which no bit is set to 0.
+fn blank() -> [u8; MOST_DATA]
+    ensures { result ≡ blank }
+{
+    [0xff; MOST_DATA]
+}
+
+/// Whether a field is set in a layer. A string is set in the first layer too, since others are placed by it.
+fn is_set_in(layer: Layer, coded: &Coded<'_>) -> bool
+    ensures { result ≡ is_set_in layer coded.now }
+{
+    let is_own = match layer {
+        Layer::Reserved => coded.is_reserved(),
+        Layer::Asked => !coded.is_reserved() && !coded.is_given(),
+        Layer::Given => coded.is_given(),
+    };
+    is_own || matches!(layer, Layer::Reserved) && matches!(coded.field.coding(), Coding::String(_))
+}
+
+/// Sets the fields of one layer.
+fn put_layer(layer: Layer, fields: &[Coded<'_>], data: &mut [u8; MOST_DATA])
+    ensures { «data».new ≡ put_layer layer fields.now «data».old }
+{
     for coded in fields {
-        let is_string = matches!(coded.field.coding(), Coding::String(_));
-        if coded.layer == layer || layer == Layer::Reserved && is_string {
+        if is_set_in(layer, coded) {
             put_code(coded.field, &coded.code, data);
         }
     }
 }
 
 /// Sets all fields: those that are not given, over them those that ask for a value, and over all those that are given.
-fn put_all(fields: &[Coded<'_>], data: &mut [u8; MOST_DATA]) {
+fn put_all(fields: &[Coded<'_>], data: &mut [u8; MOST_DATA])
+    ensures { «data».new ≡ put_all fields.now «data».old }
+{
     put_layer(Layer::Reserved, fields, data);
     put_layer(Layer::Asked, fields, data);
     put_layer(Layer::Given, fields, data);
 }
 
+/// Whether the data have a field's code at its place.
+fn has_code(coded: &Coded<'_>, data: &[u8; MOST_DATA]) -> bool
+    ensures { result ≡ has_code «data».now coded.now }
+{
+    let mut same = *data;
+    put_code(coded.field, &coded.code, &mut same);
+    same == *data
+}
+
 /// Whether each given field has its code in the data, so that no two of them disagree about a bit.
-fn agree(fields: &[Coded<'_>], data: &[u8; MOST_DATA]) -> bool {
-    for coded in fields {
-        if coded.layer == Layer::Given && !has_code(coded.field, &coded.code, data) {
-            return false;
-        }
+fn agree(fields: &[Coded<'_>], data: &[u8; MOST_DATA]) -> bool
+    ensures { result ≡ agree «data».now fields.now }
+{
+    fields
+        .iter()
+        .all(|coded| !coded.is_given() || has_code(coded, data))
+}
+
+/// An end, or that of a field that counts, if it is later. `None` if the place of the field is not known, and the field is
+/// given or asks for a value.
+fn end_with(all: bool, end: usize, coded: &Coded<'_>, data: &[u8; MOST_DATA]) -> Option<usize>
+    ensures { result ≡ end_with all «data».now end coded.now }
+{
+    let is_reserved = coded.is_reserved();
+    if !all && is_reserved {
+        return Some(end);
     }
-    true
+    match end_of(coded.field, &coded.code, data) {
+        Some(own) => Some(own.max(end)),
+        None if is_reserved => Some(end),
+        None => None,
+    }
 }
 
 /// The byte after the last field of these that counts. `None` if the place of one that is given is not known.
-fn end_of_all(all: bool, fields: &[Coded<'_>], data: &[u8; MOST_DATA]) -> Option<usize> {
+fn end_of_all(all: bool, fields: &[Coded<'_>], data: &[u8; MOST_DATA]) -> Option<usize>
+    ensures { result ≡ end_of_all all «data».now 0 fields.now }
+{
     let mut end = 0;
     for coded in fields {
-        if all || coded.layer != Layer::Reserved {
-            match end_of(coded.field, &coded.code, data) {
-                Some(own) => end = own.max(end),
-                None if coded.layer == Layer::Reserved => {}
-                None => return None,
-            }
-        }
+        end = end_with(all, end, coded, data)?;
     }
     Some(end)
 }
 
 /// Whether a field of bytes is given fewer of them than its width.
-fn is_cut(coded: &Coded<'_>) -> bool {
+fn is_cut(coded: &Coded<'_>) -> bool
+    ensures { result ≡ is_cut coded.now }
+{
     match &coded.code {
-        Code::Bytes(bytes) => {
-            coded.layer == Layer::Given && bytes.len() < coded.field.bits() as usize / 8
-        }
+        Code::Bytes(bytes) => coded.is_given() && bytes.len() < coded.field.bits() as usize / 8,
         Code::Bits(_) => false,
     }
 }
@@ -98,15 +145,23 @@ struct Sets {
     agree: bool,
 }
 
-/// Appends a set to the data at a byte, and gives the byte after it. `None` if the set has no end, or does not fit.
+/// No sets.
+const NO_SETS: Sets = Sets {
+    end: Some(0),
+    agree: true,
+};
+
+/// Appends a set to the data at a byte, if that is known, and gives the byte after it. `None` if the set has no end, or does
+/// not fit.
 fn append_set(
     repeat: &Repeat,
     room: &[u8; MOST_DATA],
-    at: usize,
+    end: Option<usize>,
     data: &mut [u8; MOST_DATA],
 ) -> Option<usize>
-    ensures { IfSome result (λ end. end ≤ 223) }
+    ensures { with_next repeat.now room.now end «data».old ≡ («data».new, result) }
 {
+    let at = end?;
     let (bytes, _) = repeat.split_set(room.as_slice())?;
     let end = at.checked_add(bytes.len())?;
     if end > MOST_DATA {
@@ -122,24 +177,21 @@ fn put_sets<'t>(
     style: Style,
     repeat: &'t Repeat,
     sets: &[Value<'_>],
+    first: usize,
     data: &mut [u8; MOST_DATA],
 ) -> Result<Sets, EncodeError<'t>>
     ensures { IfErr result (λ error. IfRefused error (λ c. is_late c ≡ true)) }
 {
     let mut all = Sets {
-        end: data
-            .len()
-            .checked_sub(repeat.from_first(data.as_slice()).len()),
+        end: Some(first),
         agree: true,
     };
     for set in sets {
         let fields = coded_fields(alloc, style, repeat.fields(), set)?;
-        let mut room = [0xff; MOST_DATA];
+        let mut room = blank();
         put_all(&fields, &mut room);
         all.agree = all.agree && agree(&fields, &room);
-        if let Some(at) = all.end {
-            all.end = append_set(repeat, &room, at, data);
-        }
+        all.end = append_set(repeat, &room, all.end, data);
     }
     Ok(all)
 }
@@ -154,32 +206,50 @@ fn put_repeat<'t>(
 ) -> Result<Sets, EncodeError<'t>>
     ensures { IfErr result (λ error. IfRefused error (λ c. is_late c ≡ true)) }
 {
-    if let (Some(repeat), Some(sets)) = (repeat, given_sets(object)) {
-        if !sets.is_empty() {
-            return put_sets(alloc, style, repeat, sets, data);
-        }
+    let Some(repeat) = repeat else {
+        return Ok(NO_SETS);
+    };
+    let Some(sets) = given_sets(object) else {
+        return Ok(NO_SETS);
+    };
+    if sets.is_empty() {
+        return Ok(NO_SETS);
     }
-    Ok(Sets {
-        end: Some(0),
-        agree: true,
-    })
+    let rest = repeat.from_first(data.as_slice());
+    let first = data.len().saturating_sub(rest.len());
+    put_sets(alloc, style, repeat, sets, first, data)
 }
 
 /// The name of the first field of a definition, if it has one.
-pub(crate) fn first_name<'t>(definition: &Definition<'t>) -> &'t str {
+pub(crate) fn first_name<'t>(definition: &Definition<'t>) -> &'t str
+    ensures { result.now ≡ name_of_first definition.now.fields }
+{
     match definition.own_fields().first() {
         Some(field) => field.name(),
         None => "",
     }
 }
 
-/// The greatest of three ends, if all are known.
-fn last_of(own: Option<usize>, sets: Option<usize>) -> Option<usize> {
+/// The later of two ends, if both are known.
+fn last_of(own: Option<usize>, sets: Option<usize>) -> Option<usize>
+    ensures { result ≡ last_of own sets }
+{
     Some(own?.max(sets?))
 }
 
+/// The end of the first short field, or else that of a single frame, or of the last field or set of a fast packet.
+fn whole_end(short: Option<usize>, kind: Kind, last: usize) -> usize
+    ensures { result ≡ whole_end short kind last }
+{
+    match (short, kind) {
+        (Some(end), _) => end,
+        (None, Kind::Single) => 8,
+        (None, Kind::Fast) => last,
+    }
+}
+
 /// The data by a definition, for what a line gives.
-pub(crate) fn draft_of<'t>(
+fn draft_of<'t>(
     alloc: Global,
     style: Style,
     definition: &Definition<'t>,
@@ -188,28 +258,20 @@ pub(crate) fn draft_of<'t>(
 ) -> Result<Draft, EncodeError<'t>>
     ensures { IfErr result (λ error. IfRefused error (λ c. is_late c ≡ true)) }
 {
-    let mut data = [0xff; MOST_DATA];
     let fields = coded_fields(alloc, style, definition.own_fields(), object)?;
-    put_all(&fields, &mut data);
-    let needed = end_of_all(false, &fields, &data);
-    let last = end_of_all(true, &fields, &data);
-    let short = short_end(&fields, &data);
-    let agrees = agree(&fields, &data);
+    let mut own = blank();
+    put_all(&fields, &mut own);
+    let mut data = own;
     let sets = put_repeat(alloc, style, definition.repeated(), object, &mut data)?;
-    let (Some(needed), Some(last)) = (last_of(needed, sets.end), last_of(last, sets.end)) else {
-        return Err(EncodeError::Refused(Refusal::Size));
-    };
+    let needed = last_of(end_of_all(false, &fields, &own), sets.end).ok_or(Refusal::Size)?;
+    let last = last_of(end_of_all(true, &fields, &own), sets.end).ok_or(Refusal::Size)?;
     if needed > most_data(kind) {
         return Err(EncodeError::Refused(Refusal::Size));
     }
-    if !agrees || !sets.agree {
+    if !(agree(&fields, &own) && sets.agree) {
         return Err(EncodeError::Refused(Refusal::Data(first_name(definition))));
     }
-    let whole = match (short, kind) {
-        (Some(end), _) => end,
-        (None, Kind::Single) => 8,
-        (None, Kind::Fast) => last,
-    };
+    let whole = whole_end(short_end(&fields, &own), kind, last);
     Ok(Draft {
         data,
         needed,
@@ -227,17 +289,17 @@ pub(crate) fn shorter_draft<'t>(
 ) -> Result<Draft, EncodeError<'t>>
     ensures { IfErr result (λ error. IfRefused error (λ c. is_late c ≡ true)) }
 {
-    let style = Style {
+    let first = Style {
         nearest,
         shortest: false,
     };
-    match draft_of(alloc, style, definition, kind, object) {
-        Err(EncodeError::Refused(Refusal::Size)) => {}
-        other => return other,
-    }
     let shortest = Style {
         nearest,
         shortest: true,
     };
+    match draft_of(alloc, first, definition, kind, object) {
+        Err(EncodeError::Refused(Refusal::Size)) => {}
+        other => return other,
+    }
     draft_of(alloc, shortest, definition, kind, object)
 }

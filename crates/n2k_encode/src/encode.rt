@@ -4,6 +4,7 @@ ghost use Rattle.json.specs.Value.{value_view};
 ghost use Rattle.n2k_wire.specs.Packet.{is_stamp};
 ghost use Rattle.n2k_table.specs.Table.{choice, is_of};
 ghost use Rattle.n2k_encode.specs.Encoded.{longest_request, is_data, is_meant, is_unmatched, reads_as, reads_by, reads_unmatched};
+ghost use Rattle.n2k_encode.specs.Encoded.{definitions_of, is_chosen, matches_at};
 ghost use Rattle.n2k_encode.specs.Encoded.{data_cause, first_cause, object_cause, IsCause, IsEncoded, IsEncodedLine, IsLineCause, IsNoObject, IsObjectOf};
 ghost use Rattle.n2k_encode.specs.Given.{first_unknown, wrong_names};
 ghost use Rattle.n2k_encode.specs.Refusal.{cause, field, is_late, not_json, IfRefused};
@@ -34,19 +35,25 @@ const DATA: &str = "Data";
 /// Data of a message.
 type Payload = ArrayVec<u8, 223>;
 
-/// Whether the table chooses the definition at a place among those of its PGN.
-fn is_chosen(known: &KnownPgn<'_>, place: usize, data: &[u8]) -> bool {
-    for earlier in 0..place {
-        if let Some(definition) = known.definition(earlier) {
-            if definition.matches(data) {
-                return false;
-            }
-        }
-    }
+/// Whether data match the definition at a place among those of a PGN.
+fn matches_at(known: &KnownPgn<'_>, place: usize, data: &[u8]) -> bool
+    ensures { result ≡ matches_at «data».now (definitions_of known.now) place }
+{
     match known.definition(place) {
         Some(definition) => definition.matches(data),
         None => false,
     }
+}
+
+/// Whether the table chooses the definition at a place among those of its PGN.
+fn is_chosen(known: &KnownPgn<'_>, place: usize, data: &[u8]) -> bool
+    ensures { result ≡ is_chosen «data».now (definitions_of known.now) place }
+{
+    let mut is_first = true;
+    for earlier in 0..place {
+        is_first = is_first && !matches_at(known, earlier, data);
+    }
+    is_first && matches_at(known, place, data)
 }
 
 /// Whether a line means a definition by the description that it gives, if it gives one.

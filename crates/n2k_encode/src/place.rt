@@ -27,7 +27,7 @@ fn set_bit(data: &mut [u8], at: usize, one: bool)
 }
 
 /// Whether a bit of a raw value is 1.
-fn has_bit(raw: u64, bit: u32) -> bool
+pub(crate) fn has_bit(raw: u64, bit: u32) -> bool
     requires { bit ≤ 63 }
     ensures { result ≡ has_bit raw bit }
 {
@@ -96,11 +96,4 @@ pub(crate) fn end_of(field: &Field, code: &Code, data: &[u8]) -> Option<usize>
         Code::Bits(_) => Some(start + (at + field.bits() as usize + 7) / 8),
         Code::Bytes(bytes) => Some(start + at / 8 + bytes.len()),
     }
-}
-
-/// Whether the data have a field's code at its place.
-pub(crate) fn has_code(field: &Field, code: &Code, data: &[u8; MOST_DATA]) -> bool {
-    let mut same = *data;
-    put_code(field, code, &mut same);
-    same.as_slice() == data.as_slice()
 }

@@ -1,15 +1,17 @@
 //! The bits or bytes that show a value.
-ghost use Rattle.std.specs.Prelude.{◌≡◌, ◌≤◌, ◌≤ℤ◌, ◌-◌, ◌^◌, pos, neg_ℤ, true, option_map, IfSome};
+ghost use Rattle.std.specs.Prelude.{◌≡◌, ◌≤◌, ◌≤ℤ◌, ◌-◌, ◌^◌, pos, neg_ℤ, true, option_map};
 ghost use Rattle.json.specs.Find.{as_number, as_str};
-ghost use Rattle.json.specs.Value.{value_view};
+ghost use Rattle.json.specs.Value.{value_view, items_view};
 ghost use Rattle.n2k_table.specs.Bits.{greatest};
 ghost use Rattle.std.specs.Option.{option_and_then};
-ghost use Rattle.n2k_encode.specs.Value.{bytes as byte_code, IsCode, IsLookupRaw, IsString, all_ones, are_there, bits_for};
-ghost use Rattle.n2k_encode.specs.Value.{bytes_for, empty_string, if_there, is_there, not_available, number_raw};
-ghost use Rattle.n2k_encode.specs.Value.{raw_number, reserved, shorter_of, text_bytes, units_of, unnamed, with_sign};
+ghost use Rattle.n2k_encode.specs.Value.{bytes as byte_code, IsCode, IsString, all_ones, bits_for, bytes_for, empty_string};
+ghost use Rattle.n2k_encode.specs.Value.{flags_from, flags_raw, if_there, is_there, named_value, not_available, number_raw};
+ghost use Rattle.n2k_encode.specs.Value.{raw_number, reserved, shifted_raw, shorter_of, text_bytes, units_of, unnamed};
+ghost use Rattle.n2k_encode.specs.Value.{whole_raw, with_flag, with_sign};
 ghost use Rattle.n2k_encode.specs.Views.{code_parts};
 
 use crate::numeral::{is_negative, multiples, scaled};
+use crate::place::has_bit;
 use crate::request::whole_number;
 use crate::texts::{
     FieldBytes, digit_pairs, ends_full, filled, hex_bytes, latin1, latin1_string, narrow_string,
@@ -139,9 +141,10 @@ fn with_sign(negative: bool, units: u128) -> i128
 }
 
 /// The raw value of a whole number that has no sign bit.
-fn raw_of_whole(bits: u32, whole: i128) -> Option<u64>
+fn whole_raw(bits: u32, whole: i128) -> Option<u64>
     requires some { 1 ≤ bits }
     requires room { bits ≤ 64 }
+    ensures { result ≡ whole_raw bits whole }
 {
     if whole < 0 {
         return None;
@@ -150,7 +153,7 @@ fn raw_of_whole(bits: u32, whole: i128) -> Option<u64>
 }
 
 /// The raw value of a number to which an offset is added.
-#[tactic(auto, using(crate::proofs::Units::units_bounded))]
+#[tactic(auto, using(crate::proofs::Units::units_bounded), unfolding(crate::specs::Value::shifted_raw))]
 fn shifted_raw(
     nearest: bool,
     bits: u32,
@@ -160,11 +163,12 @@ fn shifted_raw(
 ) -> Option<u64>
     requires some { 1 ≤ bits }
     requires room { bits ≤ 64 }
+    ensures { result ≡ option_and_then (shifted_raw nearest bits offset resolution) (as_number (value_view value.now)) }
 {
     let text = value.as_number()?.as_bytes();
     let units = units_of(nearest, offset.unsigned_abs(), resolution, text)?;
     let number = with_sign(is_negative(text), units);
-    raw_of_whole(bits, number - i128::from(offset))
+    whole_raw(bits, number - i128::from(offset))
 }
 
 /// A number that has no name.
@@ -203,21 +207,10 @@ fn if_there(lookup: &Lookup, bits: u32, found: Option<u64>) -> Option<u64>
     }
 }
 
-/// The raw value of a lookup.
-fn lookup_raw(lookup: &Lookup, bits: u32, value: &Value<'_>) -> Option<u64>
-    requires some { 1 ≤ bits }
-    requires room { bits ≤ 64 }
-    ensures { IsLookupRaw lookup.now.entries bits (value_view value.now) result }
-{
-    match value {
-        Value::String(name) => if_there(lookup, bits, lookup.value_of(name)),
-        Value::Number(text) => if_there(lookup, bits, unnamed(lookup, text.as_bytes())),
-        _ => None,
-    }
-}
-
 /// A value of a lookup by its name, or by its number if it has no name.
-fn named_value(lookup: &Lookup, value: &Value<'_>) -> Option<u64> {
+fn named_value(lookup: &Lookup, value: &Value<'_>) -> Option<u64>
+    ensures { result ≡ named_value lookup.now.entries (value_view value.now) }
+{
     match value {
         Value::String(name) => lookup.value_of(name),
         Value::Number(text) => unnamed(lookup, text.as_bytes()),
@@ -225,23 +218,39 @@ fn named_value(lookup: &Lookup, value: &Value<'_>) -> Option<u64> {
     }
 }
 
+/// A raw value with a bit more, if the bit is one of so many and is not there yet.
+fn with_flag(raw: u64, bits: u32, bit: u64) -> Option<u64>
+    requires { bits ≤ 64 }
+    ensures { result ≡ with_flag raw bits bit }
+{
+    if bit >= u64::from(bits) || has_bit(raw, bit as u32) {
+        return None;
+    }
+    Some(raw | (1 << bit as u32))
+}
+
+/// The raw value of the bits that are named, each once.
+fn flags_from(lookup: &Lookup, bits: u32, values: &[Value<'_>]) -> Option<u64>
+    requires { bits ≤ 64 }
+    ensures { result ≡ flags_from lookup.now.entries bits 0 (items_view values.now) }
+{
+    let mut raw = 0;
+    for value in values {
+        raw = with_flag(raw, bits, named_value(lookup, value)?)?;
+    }
+    Some(raw)
+}
+
 /// The raw value of flags: bits that are named in an array, each once.
 fn flags_raw(lookup: &Lookup, bits: u32, value: &Value<'_>) -> Option<u64>
     requires some { 1 ≤ bits }
     requires room { bits ≤ 64 }
-    ensures { IfSome result (λ raw. are_there bits raw ≡ true) }
+    ensures { result ≡ flags_raw lookup.now.entries bits (value_view value.now) }
 {
     let Value::Array(values) = value else {
         return None;
     };
-    let mut raw = 0u64;
-    for value in values {
-        let bit = named_value(lookup, value)?;
-        if bit >= u64::from(bits) || (raw >> bit) % 2 == 1 {
-            return None;
-        }
-        raw |= 1 << bit;
-    }
+    let raw = flags_from(lookup, bits, values)?;
     if bits >= 8 && raw >= greatest(false, bits).saturating_sub(1) {
         return None;
     }
@@ -382,7 +391,10 @@ pub(crate) fn code_of(style: Style, field: &Field, value: &Value<'_>) -> Option<
                 shifted_raw(style.nearest, bits, offset, resolution, value),
             )
         }
-        Coding::Lookup(lookup) => bits_for(field, lookup_raw(lookup, bits, value)),
+        Coding::Lookup(lookup) => bits_for(
+            field,
+            if_there(lookup, bits, named_value(lookup, value)),
+        ),
         Coding::Flags(lookup) => bits_for(field, flags_raw(lookup, bits, value)),
         Coding::Text => bytes_for(text_bytes(width, value)),
         Coding::Bytes => bytes_for(plain_bytes(width, field.is_short(), value)),

@@ -1,2 +1,3 @@
 //! The examples of doc comments.
 mod encode;
+mod encode_run;

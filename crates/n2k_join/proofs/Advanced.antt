@@ -7,15 +7,15 @@ use Rattle.n2k_join.specs.Open.{Group}
 use Rattle.n2k_join.specs.State.{held_of}
 pub use Rattle.n2k_join.specs.Inner.Stored.{with_frame, started, of_the_key}
 
--- what stays open of a group of the frame's key
+-- the open group that remains of a group of the frame's key
 abbrev pub joined : EndTest → Frame → Group → Option Group
 joined ends x o = cond (ends (held_of o) x) None (cond (complete (held_of o ++ x ∷ [])) None (Some (with_frame o x)))
 
--- what stays open of a group
+-- the open group that remains of a group
 abbrev pub taken : EndTest → Frame → Group → Option Group
 taken ends x o = cond (same_key x.key o.key) (joined ends x o) (Some o)
 
--- the group that a frame opens, where this is the open one of its key
+-- the group that a frame opens, given the open group of its key
 abbrev pub opened : EndTest → Frame → Option Group → Option Group
 opened ends x None = started x
 opened ends x (Some o) = cond (ends (held_of o) x) (started x) None

@@ -28,11 +28,11 @@ use Rattle.n2k_join.proofs.Logs.{frames-log, frames-push, entry_at-last, message
 use Rattle.n2k_join.proofs.Steps.{StepsTo, only_frame, frame_message, message_alone, step-none, step-frame}
 use Rattle.n2k_join.proofs.Windows.{waiting-later, all-waiting, open_within-push, open_within-none, open_within-open}
 
--- what is kept of the open group of a key
+-- the held frames of the open group of a key
 abbrev kept_of : Key → Option (List Frame) → Option (List Frame)
 kept_of k s = option_map held_of (option_map (group_of k) (option_and_then incomplete s))
 
--- the message of a group, where it is complete
+-- the message of a group, if it is complete
 abbrev message_from : Frame → List Frame → Option PacketParts
 message_from x g = option_map (message_of x) (cond (complete g) (Some g) None)
 
@@ -54,18 +54,18 @@ module _ (w : Window) (some : 0 < w.lines) where
       joins : (e : Bool) → message_from x (cond e (x ∷ []) (g ++ x ∷ [])) ≡ message_from x (cond e (x ∷ []) (held_of (group_of x.key g) ++ x ∷ []))
       joins e = grind (arith, message-joined)
 
-  -- a frame gives the same message with a key's group so far and with what is kept of it
+  -- a frame gives the same message with a key's group so far and with its held frames
   gives-kept : (x : Frame) (s : Option (List Frame)) → IfSome s IsFine → option_map (message_of x) (completed (within w) s x) ≡ option_map (message_of x) (completed (within w) (kept_of x.key s) x)
   gives-kept x s fine = grind (arith, gives-kept_open)
 
--- ---- what the last line of a log gives
+-- ---- the result of the last line of a log
 
 module _ (w : Window) (some : 0 < w.lines) (kind : ℕ → Option Kind) (es : List Entry) (e : Entry) where
-  -- what the longer log's last line gives
+  -- the result of the longer log's last line
   abbrev pub last_given : Given
   last_given = record { message = message w kind (es ++ e ∷ []) (length es + 1); cause = cause_in kind e; broken = broken w kind (es ++ e ∷ []) (length es + 1) }
 
-  -- the open groups of the log, and those of them that wait at the next line
+  -- the open groups of the log, and the groups of them that wait at the next line
   abbrev pub log_groups : List Group
   log_groups = open_within w (length es) (frames kind es)
 
@@ -84,7 +84,7 @@ module _ (w : Window) (some : 0 < w.lines) (kind : ℕ → Option Kind) (es : Li
   log-wait : AllByRecursion (λ (g : Group). is_waiting w (length es) g ≡ true) log_groups
   log-wait = all-waiting w (length es) (open_groups (within w) (length es) (frames kind es))
 
-  -- of a log whose last line has no frame
+  -- the result of a last line without a frame
   last-none : frame_in kind (length es + 1) e ≡ None → last_given ≡ record { message = alone kind e; cause = cause_in kind e; broken = map as_broken (ended w (length es + 1) log_groups) }
   unfolding given_of
   last-none none =
@@ -104,7 +104,7 @@ module _ (w : Window) (some : 0 < w.lines) (kind : ℕ → Option Kind) (es : Li
   groups-none : frame_in kind (length es + 1) e ≡ None → open_within w (length (es ++ e ∷ [])) (frames kind (es ++ e ∷ [])) ≡ log_kept
   groups-none none = grind (arith, length-append, frames-push, append-nil, open_within-none, frames-log)
 
-  -- and of one with a frame
+  -- the result of a last line with a frame
   last-frame : (x : Frame) → frame_in kind (length es + 1) e ≡ Some x
       → last_given ≡ record { message = frame_message w x log_kept; cause = None; broken = map as_broken (ended w (length es + 1) log_groups) ++ filter_map (told_if w some (breaks w some x)) log_kept }
   unfolding given_of
@@ -140,9 +140,9 @@ module _ (w : Window) (some : 0 < w.lines) (kind : ℕ → Option Kind) (es : Li
   groups-frame : (x : Frame) → frame_in kind (length es + 1) e ≡ Some x → open_within w (length (es ++ e ∷ [])) (frames kind (es ++ e ∷ [])) ≡ advanced (within w) log_kept x
   groups-frame x found = grind (arith, length-append, frames-push, open_within-push, frames-log, only_frame)
 
-  -- ---- what is counted
+  -- ---- the counts
 
-  -- a sum over the lines of the longer log, of what earlier lines keep
+  -- a sum over the lines of the longer log, of values that earlier lines keep
   lines-push : (f g : ℕ → ℕ) → ((i : ℕ) → 1 ≤ i → i ≤ length es → f i ≡ g i)
       → sum_by f (numbers (es ++ e ∷ [])) ≡ sum_by g (numbers es) + f (length es + 1)
   lines-push f g same = grind (arith, length-append, range-push, sum_by_push, sum_by-range)

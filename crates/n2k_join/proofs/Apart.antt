@@ -1,4 +1,4 @@
--- Groups hold where each does and none has a key that was seen before it.
+-- Groups hold if each holds and none has the key of a group before it.
 use Rattle.std.proofs.Common.{arith, ◌≡◌, ◌≤◌, ℕ, ◌+◌, ◌<◌, Bool, true, false, not, ◌&&◌, ◌||◌, List, [], ◌∷◌, ◌++◌, length, get_or, take, drop, map, Option, refl, sym, ap, subst, ◌∙◌, is_some}
 use Rattle.std.specs.List.{list_any, AllByRecursion}
 use Rattle.std.proofs.lemmas.List.{drop_more, take_more, map-append}
@@ -32,7 +32,7 @@ none_of-last : (ks : List Key) (k : Key) (gs : List Group) → none_of (ks ++ k 
 none_of-last ks k [] = refl
 none_of-last ks k (g ∷ gs) = grind (arith, none_of-last ks k gs, any-last, same_key-sym)
 
--- the rules on groups, by their keys as they are seen
+-- the rules on groups, by the keys before them
 hold-new : (kind : ℕ → Option Kind) (ks : List Key) (gs : List Group) → each_new kind ks gs ≡ (none_of ks gs && groups_hold kind gs)
 unfolding each_new groups_hold
 hold-new kind ks [] = refl
@@ -43,7 +43,6 @@ hold-each_new kind gs = hold-new kind [] gs ∙ ap (λ b. b && groups_hold kind 
 
 -- ---- one group more is taken into the map
 
--- the keys of groups
 abbrev pub keys_in : List Group → List Key
 keys_in gs = map (λ (g : Group). g.key) gs
 
@@ -58,12 +57,12 @@ module _ (kind : ℕ → Option Kind) (ks : List Key) (gs : List Group) (i : ℕ
   pub key_new : group_holds kind g ≡ true → list_any (same_key g.key) ks ≡ false → each_new kind (ks ++ g.key ∷ []) (drop (i + 1) gs) ≡ groups_hold kind gs
   key_new good new = (λ j. sym good j && (not (sym new j) && each_new kind (ks ++ g.key ∷ []) (drop (i + 1) gs))) ∙ opened
 
--- a key is listed where a group of it is found
+-- a key is listed exactly if a group of it is found
 pub key_listed : (key : Key) (gs : List Group) → list_any (same_key key) (keys_in gs) ≡ is_some (of_the_key key gs)
 key_listed key [] = refl
 key_listed key (g ∷ gs) = grind (arith, key_listed key gs)
 
--- What is stored is one group more of those that are read.
+-- One more of the groups that were read is stored.
 module _ (kind : ℕ → Option Kind) (gs : List Group) (i : ℕ) (g : Group) (lt : i < length gs) (at : g ≡ get_or gs i g) (before next : List Group) (unseen : list_any (same_key g.key) (keys_in before) ≡ false) (last : next ≡ before ++ g ∷ []) where
   pub stored_kept : before ≡ take i gs → next ≡ take (i + 1) gs
   stored_kept kept = last ∙ ap (λ hs. hs ++ g ∷ []) kept ∙ sym (take_more gs i g lt ∙ ap (λ h. take i gs ++ h ∷ []) (sym at))

@@ -23,7 +23,7 @@ use Rattle.n2k_join.specs.Window.{Window}
 use Rattle.n2k_join.proofs.Rising.{filter_map-none, all-map, all-zip, all-joined, rise-filter, look-all, all_with}
 use Rattle.n2k_join.proofs.Held.{all-any}
 
--- what R gives of the second list
+-- a property of the second list that R gives
 pub zip-all : {X Y : Type 0} (R : X → Y → Type 0) (Q : Y → Type 0) → ((x : X) (y : Y) → R x y → Q y) → (xs : List X) (ys : List Y) → AllZip R xs ys → AllByRecursion Q ys
 zip-all R Q h [] [] each = tt
 zip-all R Q h [] (y ∷ ys) each = absurd each
@@ -51,7 +51,7 @@ stand kind es k = of_key-keeps (λ (f : Frame). frame_at f.line (frames kind es)
 pub key-rise : (kind : ℕ → Option Kind) (es : List Entry) (k : Key) → RiseFrom 1 (of_key k (frames kind es))
 key-rise kind es k = rise-filter line_of (λ (f : Frame). same_key k f.key) 1 (frames kind es) (frames-rise kind 1 es)
 
--- the group that is done at its last line, is gathered there
+-- a group that is done at its last line is gathered there
 pub gathered_group : (ends : EndTest) (fs : List Frame) (k : Key) (g : List Frame) (f : Frame) → last_line g ≡ f.line → StandsAt fs k f → find (is_done_at (last_line g)) (cut ends (of_key k fs)) ≡ Some g → gathered ends fs (last_line g) ≡ Some (record { key = k; message = message_of f g })
 unfolding gathered
 gathered_group ends fs k g f at stands found = grind arith
@@ -82,7 +82,7 @@ gathers ends kind es k x g comes =
     gathered_group ends (frames kind es) k g last.frame last.at last.holds.0 comes.found
     ∙ ap (λ m. Some (record { key = k; message = m })) (message_is x.message last.frame g says.stamp says.id (data_pieces x g pieces comes.stretch.pieces.apart comes.stretch.whole))
 
--- and bring it
+-- a sending's stretch brings its message
 pub brings : (w : Window) (kind : ℕ → Option Kind) (es : List Entry) (k : Key) (x : Sending) (g : List Frame) → Comes (within w) kind es k x g → Brings w kind es x g
 brings w kind es k x g comes = record {
   stretch = comes.stretch;

@@ -1,4 +1,4 @@
--- A bad line and one that stands for nothing give the same, but for the count.
+-- A bad line and a skipped line give the same, except in the count.
 use Rattle.std.proofs.Common.{◌≡◌, ◌+◌, ℕ, suc, zero, Bool, true, false, cond, List, [], ◌∷◌, ◌++◌, length, refl, sym, ap, ◌∙◌, arith, Option, None, option_and_then, slice_get, is_some, sum_by, count_by, length-append}
 use Rattle.std.specs.List.{cons_option, range_with_len}
 use Rattle.std.proofs.lemmas.List.Sums.{sum_by-cons, sum_by-append}
@@ -41,7 +41,7 @@ module _ (w : Window) (kind : ℕ → Option Kind) (e : Entry) (nothing : IsNoth
   length-same : (front back : List Entry) → length (front ++ e ∷ back) ≡ length (front ++ entries.Skip ∷ back)
   length-same front back = length-append front (e ∷ back) ∙ sym (length-append front (entries.Skip ∷ back))
 
-  -- a count of entries, of which this one counts so much
+  -- the count of a list of entries is the sum of the counts before, of and after this entry
   count-with : (p : Entry → Bool) (x : Entry) (front back : List Entry) → count_by p (front ++ x ∷ back) ≡ count_by p front + (cond (p x) 1 0 + count_by p back)
   count-with p x front back = sum_by-append (λ x. cond (p x) 1 0) front (x ∷ back) ∙ ap (λ n. count_by p front + n) (sum_by-cons (λ x. cond (p x) 1 0) x back)
 

@@ -1,4 +1,4 @@
--- Which groups are broken at a line: those of the last line of a log, and that earlier lines keep theirs.
+-- Which groups are broken at the last line of a log; earlier lines keep their broken groups.
 use Rattle.std.proofs.Common.{◌≡◌, ◌==◌, ◌<◌, ◌+◌, ℕ, Bool, true, false, cond, not, ◌&&◌, nat_le, List, [], ◌∷◌, ◌++◌, length, refl, sym, ap, ◌∙◌, subst, arith, Option, Some, None, option_map, option_and_then, option_to_list, filter_map, IfSome, append-nil}
 use Rattle.std.specs.List.{range_with_len, last_or, AllByRecursion}
 use Rattle.std.proofs.lemmas.Bool.{eqb-true, eq-eqb, ne_eqb, or_parts, leb-true, leb-false, and_right}
@@ -17,20 +17,20 @@ use Rattle.n2k_join.specs.Window.{Window}
 
 -- ---- the groups of a key
 
--- whether a group that isn't complete is broken at a line, where no group comes after it
+-- whether an incomplete last group is broken at a line without a frame of its key
 abbrev ends_at : Window → ℕ → ℕ → List Frame → Bool
 ends_at w j line g = not (complete g) && ((first g == j) && (first g + w.lines == line))
 
--- and where the frame is the next of its key
+-- whether an incomplete last group is broken at the line of the next frame of its key
 abbrev ends_by : Window → ℕ → Frame → List Frame → Bool
 ends_by w j x g = not (complete g) && ((first g == j) && (within w g x && nat_le x.line (first g + w.lines)))
 
--- the last group, where it passes
+-- a group, if it passes a test
 abbrev last_if : (List Frame → Bool) → Option (List Frame) → Option (List Frame)
 last_if t None = None
 last_if t (Some g) = cond (t g) (Some g) None
 
--- a group that another follows is broken at that one's line or before
+-- a group is broken by the first line of the next group of its key, or before
 passed : (w : Window) (j line : ℕ) (g h : List Frame) (gs : List (List Frame)) → first h < line
     → broken_among w j line (g ∷ h ∷ gs) ≡ broken_among w j line (h ∷ gs)
 passed w j line g h gs l = grind (arith, ne_eqb)
@@ -62,7 +62,7 @@ among-grown w n j (g ∷ h ∷ k ∷ gs) x some up l = passed w j x.line g h (gr
 among-own : (w : Window) (n : ℕ) (gs : List (List Frame)) (x : Frame) → 0 < w.lines → AllByRecursion (IsUpTo n) gs → n < x.line → broken_among w x.line x.line (grown (within w) gs x) ≡ None
 among-own w n gs x some up l = grind (arith, among-grown w n x.line gs x some up l, last-all (IsUpTo n) None gs tt up)
 
--- Earlier lines keep what is broken at them.
+-- Earlier lines keep their broken groups.
 among-stays_one : (w : Window) (j i : ℕ) (g : List Frame) (x : Frame) → 0 < w.lines → 0 < length g → i < x.line → broken_among w j i (grown (within w) (g ∷ []) x) ≡ broken_among w j i (g ∷ [])
 among-stays_one w j i g x some nonempty l = grind (arith, among-open, eq-eqb, eqb-true, or_parts, leb-false, first-push)
 
@@ -83,9 +83,9 @@ module _ (w : Window) (some : 0 < w.lines) where
   unfolding broken_with
   broken-stays n fs x i log l = filter_map-range (broken_begun w (fs ++ x ∷ []) i) (broken_begun w fs i) 1 i (λ j a b. begun-stays n fs x i j log l (λ e. omega (arith, l, b, e)))
 
-  -- ---- what is broken at the line after a log
+  -- ---- the groups that are broken at the line after a log
 
-  -- of an open group, whether it is: with no frame at the line, and with one
+  -- whether an open group is broken: with no frame at the line, and with one
   abbrev pub runs_out : ℕ → Group → Bool
   runs_out line o = o.first + w.lines == line
 
@@ -95,7 +95,7 @@ module _ (w : Window) (some : 0 < w.lines) where
   abbrev pub told_if : (Group → Bool) → Group → Option Broken
   told_if t o = cond (t o) (Some (as_broken o)) None
 
-  -- the group of a key that is last and begins at a line, where it passes
+  -- the last group of a key, if it begins at a line and passes
   told_at : (t : List Frame → Bool) (u : Group → Bool) (k : Key) (j : ℕ) → (o : Option (List Frame)) → ((g : List Frame) → o ≡ Some g → complete g ≡ false → first g ≡ j → t g ≡ u (group_of k g))
       → option_map (broken_of k) (last_if (λ g. not (complete g) && ((first g == j) && t g)) o) ≡ option_and_then (told_if u) (option_and_then (where_begun j k) (option_and_then incomplete o))
   told_at t u k j o same = grind arith
@@ -128,7 +128,7 @@ module _ (w : Window) (some : 0 < w.lines) where
   begun-own : (n : ℕ) (fs : List Frame) (x : Frame) → IsLog n fs → n < x.line → broken_begun w (fs ++ x ∷ []) x.line x.line ≡ None
   begun-own n fs x log l = grind (arith, at_last, cut_of_same, same_key-refl, among-own, up_to)
 
-  -- at a line without a frame: those whose window ends there
+  -- at a line without a frame, the groups whose window ends there are broken
   pub broken-none : (n : ℕ) (fs : List Frame) → IsLog n fs → broken_with w fs (n + 1) ≡ filter_map (told_if (runs_out (n + 1))) (open_groups (within w) n fs)
   unfolding broken_with open_groups
   broken-none n fs log =
@@ -138,7 +138,7 @@ module _ (w : Window) (some : 0 < w.lines) where
       ∙ filter_map-range (broken_begun w fs (n + 1)) (λ j. option_and_then (told_if (runs_out (n + 1))) (begun_at (within w) fs j)) 1 n (λ j a b. begun-none n (n + 1) fs j log (omega arith))
       ∙ filter_map-fused (told_if (runs_out (n + 1))) (begun_at (within w) fs) (range_with_len 1 n)
 
-  -- at the line of a frame: those, and the one of its key that it can't join
+  -- at the line of a frame, also the group of its key that the frame can't join
   pub broken-last : (n : ℕ) (fs : List Frame) (x : Frame) → IsLog n fs → x.line ≡ n + 1 → broken_with w (fs ++ x ∷ []) (n + 1) ≡ filter_map (told_if (breaks x)) (open_groups (within w) n fs)
   unfolding broken_with open_groups
   broken-last n fs x log at =

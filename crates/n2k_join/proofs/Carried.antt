@@ -1,4 +1,4 @@
--- The order of a group's frames does not matter: what they carry decides whether it is complete, its data and its pieces.
+-- The order of a group's frames does not matter: their bytes decide whether it is complete, its data and its pieces.
 use Rattle.std.proofs.Common.{arith, ◌≡◌, ◌==◌, ◌+◌, ℕ, Bool, true, false, cond, not, ◌||◌, ◌&&◌, nat_le, List, [], ◌∷◌, ◌++◌, refl, sym, ap, ◌∙◌, Option, Some, None, unwrap_or, take, drop, flat_map, filter_map, is_some}
 use mathlib.Core.Path.{fun_ext}
 use Rattle.std.specs.Option.{option_or}
@@ -19,7 +19,7 @@ pub carried-append : (g h : List Frame) (n : ℕ) → carried (g ++ h) n ≡ opt
 carried-append [] h n = refl
 carried-append (f ∷ g) h n = grind (arith, carried-append g h n)
 
--- the same frames with one more carry the same
+-- frames that carry the same still do with one more frame
 pub carried-push : (g h : List Frame) (x : Frame) → carried g ≡ carried h → carried (g ++ x ∷ []) ≡ carried (h ++ x ∷ [])
 carried-push g h x e = fun_ext (λ n. carried-append g (x ∷ []) n ∙ ap (λ (c : ℕ → Option (List ℕ)). option_or (c n) (carried (x ∷ []) n)) e ∙ sym (carried-append h (x ∷ []) n))
 
@@ -29,18 +29,18 @@ is_some-or o p = grind arith
 pub has_number-append : (g h : List Frame) (n : ℕ) → has_number n (g ++ h) ≡ (has_number n g || has_number n h)
 has_number-append g h n = ap is_some (carried-append g h n) ∙ is_some-or (carried g n) (carried h n)
 
--- a test of two numbers may ask of either first
+-- equality of numbers is symmetric
 pub eqb-sym : (a b : ℕ) → (a == b) ≡ (b == a)
 eqb-sym a b = same_bool _ _ (λ e. eq-eqb b a (sym (eqb-true a b e))) (λ e. eq-eqb a b (sym (eqb-true b a e)))
 
--- a frame more has its own number, and those of the others
+-- with one more frame, a list has that frame's number and the others'
 pub has_number-cons : (f : Frame) (fs : List Frame) (n : ℕ) → has_number n (f ∷ fs) ≡ ((f.number == n) || has_number n fs)
 has_number-cons f fs n = grind arith
 
 has_one : (f x : Frame) → has_number f.number (x ∷ []) ≡ (f.number == x.number)
 has_one f x = grind arith
 
--- where no number stands twice, one does with a frame more exactly where that frame's does
+-- if no number is repeated, then with one more frame a number is repeated exactly if that frame's is in the group
 pub has_twice-push : (g : List Frame) (x : Frame) → has_twice g ≡ false → has_twice (g ++ x ∷ []) ≡ has_number x.number g
 has_twice-push [] x h = refl
 has_twice-push (f ∷ g) x h =
@@ -64,7 +64,7 @@ within_back last (f ∷ g) all =
 within-same : (last : ℕ) (g h : List Frame) → carried g ≡ carried h → is_within last g ≡ is_within last h
 within-same last g h e = grind (arith, same_bool (is_within last g) (is_within last h) (λ w. within_back last h (λ n k. within_there last g n w (ap (λ (c : ℕ → Option (List ℕ)). is_some (c n)) e ∙ k))) (λ w. within_back last g (λ n k. within_there last h n w (ap (λ (c : ℕ → Option (List ℕ)). is_some (c n)) (sym e) ∙ k))))
 
--- what completeness is of: whether a number stands twice, what is carried, and whether all is within the last
+-- completeness depends on whether a number is repeated, what is carried, and whether all is within the last
 complete_by : Bool → (ℕ → Option (List ℕ)) → Bool → Bool
 complete_by twice c within = not twice && (is_some (c 0) && (list_all (λ n. is_some (c n)) (range_with_len 0 (last_number (total_by (c 0)) + 1)) && within))
 

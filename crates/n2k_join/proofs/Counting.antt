@@ -1,4 +1,4 @@
--- How many of the numbers below a limit a group has: as many as it has frames, where none comes twice.
+-- A group without a repeated number has as many of the numbers below a limit as it has frames.
 use Rattle.std.proofs.Common.{◌≡◌, ℕ, zero, suc, ◌+◌, ◌<◌, ◌≤◌, Bool, true, false, cond, ◌||◌, List, [], ◌∷◌, length, refl, ap, ◌∙◌, sym, arith, inl, inr, ◌==◌, count_by}
 use Rattle.std.specs.List.{range_with_len, list_all, AllByRecursion}
 use Rattle.std.proofs.lemmas.Bool.{eqb-true, eq-eqb, ne_eqb, or_parts, cases_eq}
@@ -16,7 +16,7 @@ count_or : (p q : ℕ → Bool) (ns : List ℕ) → ((n : ℕ) → p n ≡ true 
 count_or p q [] apart = refl
 count_or p q (n ∷ ns) apart = grind (arith, count_or p q ns apart, count_cons (λ k. p k || q k) n ns, count_cons p n ns, count_cons q n ns)
 
--- a number counts once in a range that it lies in, and not at all in one above it
+-- a number counts once in a range that contains it, and not at all in a range above it
 count_above : (x a m : ℕ) → x < a → count_by (λ n. x == n) (range_with_len a m) ≡ 0
 count_above x a zero h = refl
 count_above x a (suc m) h = rw (count_cons (λ n. x == n) a (range_with_len (a + 1) m), ne_eqb x a (omega arith), count_above x (a + 1) m (omega arith)) refl
@@ -55,11 +55,11 @@ count_numbers m (f ∷ fs) below apart =
 eqb_suc : (c l : ℕ) → (c == l) ≡ ((1 + c) == suc l)
 eqb_suc c l = grind arith
 
--- a test holds of each where it holds of as many as there are
+-- a test holds of each item exactly if the count of passing items is the length
 all_by_count : (p : ℕ → Bool) (ns : List ℕ) → list_all p ns ≡ (count_by p ns == length ns)
 all_by_count p [] = refl
 all_by_count p (n ∷ ns) = grind (arith, all_by_count p ns, count_cons, eqb_suc, ne_eqb, count_by-le-length)
 
--- frames without a number twice, all below m: they have every number below m where they are m
+-- frames without a repeated number, all below m, have every number below m exactly if there are m frames
 pub has_all_numbers : (m : ℕ) (fs : List Frame) → AllByRecursion (λ (f : Frame). f.number < m) fs → has_twice fs ≡ false → list_all (λ n. has_number n fs) (range_with_len 0 m) ≡ (length fs == m)
 has_all_numbers m fs below apart = rw (all_by_count (λ n. has_number n fs) (range_with_len 0 m), count_numbers m fs below apart, length-range_with_len 0 m) refl

@@ -1,4 +1,4 @@
--- The laws of what frames are cut into.
+-- The laws of the groups that frames are cut into.
 use Rattle.std.proofs.Common.{◌≡◌, ◌≤◌, ◌<◌, ◌+◌, ◌&&◌, ℕ, suc, zero, Bool, true, false, cond, List, [], ◌∷◌, ◌++◌, length, refl, sym, ap, ◌∙◌, subst, arith, append_assoc, Option, Some, slice_get, option_map, ◌⊎◌, inl, inr}
 use Rattle.std.specs.List.{AllByRecursion}
 use Rattle.std.proofs.lemmas.List.{append-nil, length-append, same_from_push}
@@ -42,7 +42,7 @@ unfolding cut
 is_last ends f front [] ended = refl
 is_last ends f front (x ∷ rest) ended = ap (λ b. cond b ((f ∷ front) ∷ cut_from ends (x ∷ []) rest) (cut_from ends ((f ∷ front) ++ x ∷ []) rest)) ended
 
--- no shorter front of a group has ended
+-- no shorter prefix of a group has ended
 abbrev NoneEnds : EndTest → List Frame → Type 0
 NoneEnds ends group = (f g : Frame) (front back : List Frame) → group ≡ (f ∷ front) ++ (g ∷ back) → closes ends (f ∷ front) g ≡ false
 
@@ -149,7 +149,7 @@ cut_grows ends fs (x ∷ back) =
         → option_map first (slice_get (cut ends ((fs ++ x ∷ []) ++ back)) place) ≡ Some line
     begun place line o rest e f = grind arith
 
--- ---- what follows a front of a log
+-- ---- more lines after the first lines of a log
 
 pub settles : (w : Window) → 0 < w.lines → (kind : ℕ → Option Kind) (front back : List Entry) → HasSettled w kind front back
 settles w some kind front [] = grind (arith, append-nil)

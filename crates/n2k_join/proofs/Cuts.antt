@@ -1,4 +1,4 @@
--- The groups of a list of frames, and those of a list with one frame more.
+-- The groups of a list of frames, before and after one more frame.
 use Rattle.std.proofs.Common.{◌≡◌, ℕ, ◌+◌, ◌<◌, ◌≤◌, ◌||◌, ◌&&◌, true, false, cond, List, [], ◌∷◌, ◌++◌, refl, sym, ap, ◌∙◌, arith, nat_le, append_assoc, Option, Some, None, length, subst, fold, is_some, IfSome, nat_lt, length-append}
 use Rattle.std.specs.List.{last_or, flat_map, AllByRecursion}
 use Rattle.std.proofs.lemmas.List.Sums.{fold_push}
@@ -9,8 +9,8 @@ use Rattle.std.proofs.lemmas.Bool.{or_left, or_right, or_from, lt-leb, le-leb, l
 use Rattle.n2k_join.specs.Groups.{EndTest, closes, repeats, has_from, falls_back, misfits, is_late, within, cut_from, cut, carried, has_number, first}
 use Rattle.n2k_join.proofs.Rising.{all-joined, last-all}
 
--- A test that ends groups: a number that comes again ends, and what else does depends on what a group carries and where
--- it began alone, and not on frames of the line where it began.
+-- A test that ends groups: a repeated number ends a group. Otherwise the test depends only on what the group carries
+-- and where it began, and no frame of that first line ends the group.
 pub record IsEnding (ends : EndTest) : Type 0 where
   pub repeated : (g : List Frame) (x : Frame) → has_number x.number g ≡ true → ends g x ≡ true
   pub alike : (g h : List Frame) (x : Frame) → carried g ≡ carried h → first g ≡ first h → ends g x ≡ ends h x
@@ -30,14 +30,14 @@ pub has-from : (n m : ℕ) (g : List Frame) → n ≤ m → has_number m g ≡ t
 has-from n m [] l e = absurd (false≢true e)
 has-from n m (f ∷ g) l e = grind (arith, has-from n m g l, or_left, le-leb, eqb-true, or_right)
 
--- whether a number stands in a group from one on is told by what the group carries
+-- whether a group has a number from n on depends only on what the group carries
 pub has_from-same : (n : ℕ) (g h : List Frame) → carried g ≡ carried h → has_from n g ≡ has_from n h
 has_from-same n g h same = same_bool (has_from n g) (has_from n h) (there g h same) (there h g (sym same))
   where
     there : (g h : List Frame) → carried g ≡ carried h → has_from n g ≡ true → has_from n h ≡ true
     there g h same e = let a = from_has n g e in has-from n a.number h a.least (ap (λ c. is_some (c a.number)) (sym same) ∙ a.has)
 
--- A window of at least one line is such a test, too.
+-- A window of at least one line is a test that ends groups.
 pub within-ends : (w : Window) → 0 < w.lines → IsEnding (within w)
 within-ends w some = record {
   repeated = λ g x e. or_left (misfits w g x) (is_late w g x) (or_left (repeats g x) (w.in_order && falls_back g x) e);
@@ -48,7 +48,7 @@ within-ends w some = record {
     fits : (g : List Frame) (x : Frame) → first g ≡ x.line → has_number x.number g ≡ false → misfits w g x ≡ false
     fits g x e h = or_from (repeats g x) (w.in_order && falls_back g x) h (and_right w.in_order (falls_back g x) (ap (λ b. b && has_from x.number g) (le-ltb (first g) x.line (omega (arith, e)))))
 
--- the group that a frame joins or begins, where this is the group so far
+-- the group that a frame joins or begins, given the group so far
 abbrev pub next : EndTest → Option (List Frame) → Frame → List Frame
 next ends None x = x ∷ []
 next ends (Some g) x = cond (closes ends g x) (x ∷ []) (g ++ x ∷ [])
@@ -85,7 +85,7 @@ module _ (ends : EndTest) where
   last-cut_from o g [] = refl
   last-cut_from o g (f ∷ fs) = grind (arith, last-cut_from (Some g) (f ∷ []) fs, last-cut_from o (g ++ f ∷ []) fs)
 
-  -- the last group, as the frames come
+  -- `so_far` is the last group of the cut
   pub last-cut : (fs : List Frame) → last_or None (cut ends fs) ≡ so_far ends fs
   unfolding cut so_far
   last-cut [] = refl
@@ -95,7 +95,7 @@ module _ (ends : EndTest) where
   unfolding so_far
   so_far-push fs x = fold_push (taken_in ends) None fs x
 
-  -- what holds of a frame alone and stays where one joins holds of each group
+  -- a property of single frames that each joining frame preserves holds of each group
   cut_from-keeps : (Q : List Frame → Type 0) → ((x : Frame) → Q (x ∷ [])) → ((g : List Frame) (x : Frame) → closes ends g x ≡ false → Q g → Q (g ++ x ∷ [])) → (g fs : List Frame) → Q g → AllByRecursion Q (cut_from ends g fs)
   cut_from-keeps Q one more g [] h = (h, tt)
   cut_from-keeps Q one more g (f ∷ fs) h = grind (arith, cut_from-keeps Q one more (f ∷ []) fs (one f), cut_from-keeps Q one more (g ++ f ∷ []) fs)
@@ -119,11 +119,11 @@ module _ (ends : EndTest) where
   cut-joined [] = refl
   cut-joined (f ∷ fs) = cut_from-joined (f ∷ []) fs
 
-  -- what holds of each frame holds of those of each group
+  -- a property of each frame holds of the frames of each group
   pub cut-all : (P : Frame → Type 0) (fs : List Frame) → AllByRecursion P fs → AllByRecursion (AllByRecursion P) (cut ends fs)
   cut-all P fs all = all-joined P (cut ends fs) (subst (AllByRecursion P) (sym (cut-joined fs)) all)
 
-  -- and so of the last group
+  -- a property of each frame holds of the frames of the last group
   pub so_far-all : (P : Frame → Type 0) (fs : List Frame) → AllByRecursion P fs → IfSome (so_far ends fs) (AllByRecursion P)
   so_far-all P fs all = grind (arith, last-cut fs, cut-all P fs all, last-all)
 

@@ -1,4 +1,4 @@
--- A group whose window ends at the next line is broken before the line is taken, or at it: that is the same.
+-- A group whose window ends at the next line may be broken before the line is taken or at it.
 use Rattle.std.proofs.Common.{◌≡◌, ◌≤◌, ◌<◌, ◌+◌, ◌-◌, ℕ, false, cond, not, List, [], ◌∷◌, ◌++◌, length, refl, sym, ap, ◌∙◌, subst, arith, Option, Some, None, option_map, drop, slice_get, option_to_list, option_and_then}
 use Rattle.std.specs.List.{AllByRecursion}
 use Rattle.std.proofs.lemmas.Bool.{ltb-true, ne_eqb, eq-eqb, not-true}
@@ -17,17 +17,17 @@ use Rattle.n2k_join.proofs.Rising.{rise-less, option_map_some}
 use Rattle.n2k_join.specs.Window.{Window}
 use Rattle.n2k_join.proofs.Windows.{later-wait}
 
--- what is due stands first among the groups, and the others that have ended follow it
+-- the due group is the first of the groups, and the other ended groups follow it
 pub record IsDue (s : State) (g : Group) : Type 0 where
   pub below : s.counts.lines ≡ most_lines → ⊥
   pub first : s.groups ≡ g ∷ drop 1 s.groups
   pub late : is_waiting s.window (next_line s) g ≡ false
 
--- a group, where its window has ended
+-- a group, if its window has ended
 abbrev if_ended : Window → ℕ → Group → Option Group
 if_ended w line g = cond (not (is_waiting w line g)) (Some g) None
 
--- of groups whose first lines rise, the first is the first that has ended
+-- if first lines rise, the first of the groups is the first that has ended
 ended-first : (w : Window) (line : ℕ) (gs : List Group) → Rise (λ (g : Group). g.first) 1 gs → (o : Option Group) → slice_get gs 0 ≡ o → slice_get (ended w line gs) 0 ≡ option_and_then (if_ended w line) o
 unfolding ended
 ended-first w line [] rise o e = ap (option_and_then (if_ended w line)) e
@@ -36,7 +36,7 @@ ended-first w line (g ∷ gs) rise o e = grind (arith, ltb-true, later-wait)
 first-late : (w : Window) (line : ℕ) (gs : List Group) (g : Group) → Rise (λ (g : Group). g.first) 1 gs → slice_get (ended w line gs) 0 ≡ Some g → (gs ≡ g ∷ drop 1 gs) × (is_waiting w line g ≡ false)
 first-late w line gs g rise e = grind (arith, ended-first, none-some, cond_some, not-true)
 
--- what is due is the first that is overdue, where a line follows
+-- the due group is the first overdue one, if another line may follow
 pub due_by : (s : State) → (s.counts.lines ≡ most_lines → ⊥) → due s ≡ slice_get (overdue s) 0
 due_by s below = ap (λ b. cond b None (slice_get (overdue s) 0)) (ne_eqb _ _ below)
 
@@ -46,7 +46,7 @@ due-below s g e at = none-some g (sym (ap (λ b. cond b None (slice_get (overdue
 pub is_due : (s : State) (g : Group) → Rise (λ (g : Group). g.first) 1 s.groups → due s ≡ Some g → IsDue s g
 is_due s g rise e = grind (arith, due-below s g e, first-late s.window (next_line s) s.groups g rise (sym (due_by s (due-below s g e)) ∙ e))
 
--- none is due exactly where none has ended, or no line follows
+-- no group is due exactly if none has ended or no line follows
 none_ended : (gs : List Group) → slice_get gs 0 ≡ None → gs ≡ []
 none_ended [] e = refl
 none_ended (g ∷ gs) e = absurd (none-some g (sym e))
@@ -75,7 +75,7 @@ module _ (s : State) (g : Group) (is : IsDue s g) where
   unfolding expired
   expired-waits wait = (subst (AllByRecursion (λ (h : Group). s.counts.lines < h.first + s.window.lines)) is.first wait).1
 
-  -- what the next line gives where these groups wait and these have ended, and the groups that it leaves
+  -- the result of the next line and the groups after it, if these groups wait and these have ended
   gives_with : (kind : ℕ → Option Kind) (e : Entry) → List Group → List Group → Given
   gives_with kind e waits ends = grind arith
 
@@ -86,9 +86,9 @@ module _ (s : State) (g : Group) (is : IsDue s g) where
   unfolding step_given step_after expired gives_with leaves_with
   expires_first kind e = grind (arith, kept-due, ended-due)
 
--- ---- what a program finds, by the first of the groups
+-- ---- the result of a program that looks at the first of the groups
 
--- what is told of one that is due
+-- a due group and its facts
 pub record FoundDue (s : State) : Type 0 where
   pub group : Group
   pub due_is : due s ≡ Some group
@@ -111,7 +111,7 @@ pub expired_by : (s t : State) (gs : List Group) → s ≡ t → gs ≡ drop 1 s
 unfolding expired
 expired_by s t gs view is = grind arith
 
--- what is due goes, so that fewer groups are left
+-- the due group is removed, so that fewer groups remain
 some-ended : (w : Window) (line : ℕ) (gs : List Group) (g : Group) → slice_get (ended w line gs) 0 ≡ Some g → length (drop 1 gs) < length gs
 unfolding ended
 some-ended w line [] g e = absurd (none-some g e)
@@ -121,10 +121,10 @@ pub fewer : (s t : State) (b : Broken) → option_map as_broken (due s) ≡ Some
 unfolding expired
 fewer s t b e is = grind (arith, some-ended)
 
--- where one is due, the next line has a number
+-- if a group is due, the next line has a number
 pub due-few : (s : State) (b : Broken) → s.counts.lines ≤ most_lines → option_map as_broken (due s) ≡ Some b → s.counts.lines < most_lines
 due-few s b most e = let found = found_due s b e in omega (arith, most, due-below s found.group found.due_is)
 
--- what a program that takes the first of the ended groups tells
+-- the report of a program that takes the first of the ended groups
 pub told : (s t : State) → s ≡ t → (s.counts.lines ≡ most_lines → ⊥) → (o : Option Broken) → o ≡ option_map as_broken (slice_get (overdue s) 0) → option_map as_broken (due t) ≡ o
 told s t view below o is = ap (λ t. option_map as_broken (due t)) (sym view) ∙ ap (option_map as_broken) (due_by s below) ∙ sym is

@@ -1,5 +1,5 @@
--- A frame taken into the open groups: what its message, the group that it breaks and the groups after it are, where the
--- group of its key stands among the others, and where there is none.
+-- A frame taken into the open groups: its message, the group that it breaks and the groups after it, with and without
+-- an open group of its key.
 use Rattle.std.proofs.Common.{arith, ◌≡◌, ℕ, Bool, true, false, cond, List, [], ◌∷◌, ◌++◌, refl, sym, ap, ◌∙◌, subst, Some, None, IfSome, option_to_list, filter_map, is_some, append-nil}
 use Rattle.std.specs.List.{AllByRecursion, cons_option}
 use Rattle.n2k_wire.specs.Packet.{PacketParts}
@@ -21,12 +21,12 @@ use Rattle.n2k_join.proofs.JoinLemmas.{taken-others, rejects-missing, with_piece
 use Rattle.n2k_join.proofs.Keys.{same_key-refl, same_key-sym, same_key-true}
 use Rattle.n2k_join.proofs.Rising.{none_from, passes_none, all-map}
 
--- where none is open of the frame's key
+-- no group of the frame's key is open
 pub none-after : (order : Bool) (x : Frame) (gs : List Group) → of_the_key x.key gs ≡ None → groups_after order gs x ≡ gs ++ option_to_list (started x)
 unfolding groups_after
 none-after order x gs none = grind (arith, taken-others order x gs (passes_none (λ (g : Group). same_key x.key g.key) gs none))
 
--- what holds of each holds of one
+-- a property of each holds of one
 all-at : (P : Group → Type 0) (fs : List Group) (g : Group) (gs : List Group) → AllByRecursion P (fs ++ g ∷ gs) → P g
 all-at P [] g gs all = all.0
 all-at P (f ∷ fs) g gs all = all-at P fs g gs all.1
@@ -47,7 +47,7 @@ module _ (x : Frame) (g : Group) (gs : List Group) (of : same_key x.key g.key �
       ap (λ b. cons_option (cond b (joined order x f) (Some f)) (filter_map (taken order x) (fs ++ g ∷ gs))) (other-key f (all-at (λ h. same_key f.key h.key ≡ false) fs g gs apart.0))
       ∙ ap (λ hs. f ∷ hs) (taken-at order fs apart.1)
 
--- ---- a frame, at the group of its key, which stands there
+-- ---- a frame whose key has an open group
 
 module _ (order : Bool) (line : ℕ) (packet : PacketParts) (frame : FastFrame) (g : OpenGroups) (at : ℕ) (l : Linked) where
   abbrev pub x : Frame
@@ -76,7 +76,7 @@ module _ (order : Bool) (line : ℕ) (packet : PacketParts) (frame : FastFrame) 
     unfolding groups_after
     after-is = grind (arith, taken-at, same_key-refl, here-is)
 
-    -- what it says is what the group of the key says
+    -- the code's test of the group is the definition's test of the key's group
     pub rejects-here : (b : Bool) → rejects order x.number the_group ≡ b → IfSome (of_the_key x.key all) (λ (o : Group). rejects order x.number o ≡ b)
     rejects-here b e = subst (λ o. IfSome o (λ (g : Group). rejects order x.number g ≡ b)) (sym here-is) e
 
@@ -117,7 +117,7 @@ module _ (order : Bool) (line : ℕ) (packet : PacketParts) (frame : FastFrame) 
             ∙ sym (ap (λ b. cond b (Some (message_of x (held_of the_group ++ x ∷ []))) None) (sym complete-grown ∙ e))
             ∙ sym (ap (gained order x) here-is ∙ ap (λ b. cond b (message_if x (x ∷ [])) (message_if x (held_of the_group ++ x ∷ []))) free)
 
-        -- and stays open, or is complete and goes
+        -- the grown group stays open, or is complete and is removed
         pub joins-groups : (b : Bool) → complete (held_of grown_group) ≡ b → fs ++ (option_to_list (cond b None (Some grown_group)) ++ gs) ≡ groups_after order all x
         joins-groups b e = grind (arith, complete-grown, grown, after-is, append-nil)
 

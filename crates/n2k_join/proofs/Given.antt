@@ -1,4 +1,4 @@
--- What the last line of a log gives, and that earlier lines keep what they gave.
+-- The result of the last line of a log; earlier lines keep theirs.
 use Rattle.std.proofs.Common.{◌≡◌, ◌≤◌, ◌<◌, ℕ, Bool, true, false, cond, ◌&&◌, List, [], ◌∷◌, ◌++◌, length, refl, ap, ◌∙◌, arith, Option, Some, None, option_map, option_and_then, find}
 use Rattle.std.specs.List.{last_or, AllByRecursion}
 use Rattle.std.proofs.lemmas.Bool.{eqb-true, ne_eqb, or_parts}
@@ -36,12 +36,12 @@ done-not i g other = ap (λ b. complete g && b) (ne_eqb (last_line g) i other) �
 done-here : (g : List Frame) (x : Frame) → is_done_at x.line (g ++ x ∷ []) ≡ complete (g ++ x ∷ [])
 done-here g x = grind (arith, last_line-push)
 
--- the message of a group, where there is one
+-- the message of a group, if there is one
 pub message_by : (x : Frame) (b : Bool) (g : List Frame) → option_map (message_of x) (cond b (Some g) None) ≡ cond b (Some (message_of x g)) None
 message_by x b g = grind arith
 
 module _ (ends : EndTest) where
-  -- what the frame completes
+  -- the group that the frame completes
   abbrev pub completed : Option (List Frame) → Frame → Option (List Frame)
   completed s x = cond (complete (next ends s x)) (Some (next ends s x)) None
 
@@ -80,7 +80,7 @@ module _ (ends : EndTest) where
   abbrev pub keyed : Frame → List Frame → Keyed
   keyed x g = record { key = x.key; message = message_of x g }
 
-  -- The last line gives the message of the group so far with its frame, where that is complete.
+  -- The last line gives the message of the group so far with its frame, if that is complete.
   pub gathered-last : (n : ℕ) (fs : List Frame) (x : Frame) → IsLog n fs → n < x.line → gathered ends (fs ++ x ∷ []) x.line ≡ option_map (keyed x) (completed (so_far ends (of_key x.key fs)) x)
   unfolding gathered
   gathered-last n fs x log l = grind (arith, at_last, cut_of_same, same_key-refl, found_last, all-map, last_line-all, up_to, last-cut)
@@ -90,7 +90,7 @@ module _ (ends : EndTest) where
   unfolding gathered
   gathered-none n i fs log l = ap (option_and_then (gathered_by ends fs)) (none_at n i fs log l)
 
-  -- ---- earlier lines keep what they gave
+  -- ---- earlier lines keep their results
 
   pub gathered-stays : (fs : List Frame) (x : Frame) (i : ℕ) → (x.line ≡ i → ⊥) → gathered ends (fs ++ x ∷ []) i ≡ gathered ends fs i
   unfolding gathered

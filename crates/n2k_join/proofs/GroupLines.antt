@@ -1,4 +1,4 @@
--- Groups whose frames' lines rise: each is the one that is done at its last line, and the one that begins at its first.
+-- Groups whose frames' lines rise: exactly one is done at its last line, and one begins at its first.
 use Rattle.std.proofs.Common.{◌≡◌, ℕ, ◌+◌, ◌<◌, ◌≤◌, true, false, List, [], ◌∷◌, ◌++◌, length, refl, subst, sym, arith, Some, ap, find}
 use Rattle.std.specs.List.{AllByRecursion}
 use Rattle.std.proofs.lemmas.Bool.{eq-eqb, ne_eqb, and_right}
@@ -13,13 +13,13 @@ use Rattle.n2k_join.proofs.Rising.{all-joined, rise-least, all_with}
 abbrev pub IsGroup : List Frame → Type 0
 IsGroup g = 0 < length g
 
--- what follows a group, lies behind its last line
+-- the frames after a group have later lines than its last
 pub rise-after : (n : ℕ) (g rest : List Frame) → IsGroup g → RiseFrom n (g ++ rest) → RiseFrom (last_line g + 1) rest
 rise-after n [] rest some rise = absurd (omega (arith, some))
 rise-after n (f ∷ []) rest some rise = rise.1
 rise-after n (f ∷ g ∷ fs) rest some rise = rise-after (f.line + 1) (g ∷ fs) rest (omega arith) rise.1
 
--- a group ends with a frame, of which holds what holds of all its frames
+-- a group ends with a frame that has each property of all its frames
 pub record LastFrame (P : Frame → Type 0) (g : List Frame) : Type 0 where
   pub before : List Frame
   pub frame : Frame

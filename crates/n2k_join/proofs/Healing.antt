@@ -1,4 +1,4 @@
--- A message whose pieces come in order under its key is given, whatever stood open before with a frame 0.
+-- A message whose pieces come in order under its key is given, whatever group with a frame 0 was open before.
 use Rattle.std.proofs.Common.{◌≡◌, ℕ, zero, suc, ◌+◌, ◌<◌, ◌≤◌, Bool, true, false, List, [], ◌∷◌, ◌++◌, length, refl, ap, subst, ◌∙◌, sym, arith, append_assoc, Option, Some, None, ◌==◌, min, cond, find, filter_map, map, Contains, IfSome, option_and_then}
 use Rattle.std.specs.List.{AllByRecursion, last_or, range_with_len, cons_option}
 use Rattle.std.proofs.lemmas.Bool.{cases_lt, le-leb, eqb-true, ne_eqb, and_from, lt-ltb, or_left, or_right, or_from}
@@ -26,7 +26,7 @@ use Rattle.n2k_join.specs.Window.{Window}
 use Rattle.n2k_join.proofs.Rising.{last-all, all-front, all-back, all-joined, rise-least, rise-rest}
 use Rattle.n2k_join.specs.State.{Rise}
 
--- where the group so far ends before a frame, the frames before it and those from it on are cut by themselves
+-- if the group so far ends before a frame, the frames before that frame and the frames from it on are cut separately
 cut_splits_from : (ends : EndTest) (o : Option (List Frame)) (g fs : List Frame) (x : Frame) (rest : List Frame)
     → ((h : List Frame) → last_or o (cut_from ends g fs) ≡ Some h → closes ends h x ≡ true)
     → cut_from ends g (fs ++ (x ∷ rest)) ≡ cut_from ends g fs ++ cut_from ends (x ∷ []) rest
@@ -50,7 +50,8 @@ firsts_rise n [] some rise = tt
 firsts_rise n ([] ∷ gs) some rise = absurd (omega (arith, some.0))
 firsts_rise n ((f ∷ g) ∷ gs) some rise = grind (arith, firsts_rise (f.line + 1) gs some.1 (rise-rest line_of (f.line + 1) g (all_frames gs) rise.1))
 
--- The last group of the front of a cut, where it isn't complete, is broken where its window ends or the group after it begins.
+-- An incomplete group that another follows in a cut is broken when its window ends or that group begins, whichever is
+-- first.
 broken_among-at : (w : Window) (n : ℕ) (a : List (List Frame)) (left g : List Frame) (later : List (List Frame)) → Rise first n (a ++ (left ∷ g ∷ later)) → complete left ≡ false
     → broken_among w (first left) (min (first left + w.lines) (first g)) (a ++ (left ∷ g ∷ later)) ≡ Some left
 broken_among-at w n [] left g later rise c = grind arith
@@ -65,7 +66,7 @@ ends_with o (g ∷ h ∷ gs) l none e =
     let rest = ends_with None (h ∷ gs) l (λ t. none-some l t) e in
     (g ∷ rest.0, ap (λ hs. g ∷ hs) rest.1)
 
--- what a number of a range gives stands among what the range gives
+-- the value of a number of a range is among the values of the range
 given_among : {Y : Type 0} (h : ℕ → Option Y) (y : Y) (i a n : ℕ) → a ≤ i → i < a + n → h i ≡ Some y → Contains (filter_map h (range_with_len a n)) y
 given_among h y i a zero l u e = absurd (omega (arith, l, u))
 given_among {Y} h y i a (suc n) l u e = by (a == i) refl (given_among h y i (a + 1) n)
@@ -80,13 +81,13 @@ given_among {Y} h y i a (suc n) l u e = by (a == i) refl (given_among h y i (a +
     by : (b : Bool) → (a == i) ≡ b → (a + 1 ≤ i → i < (a + 1) + n → h i ≡ Some y → Contains (filter_map h (range_with_len (a + 1) n)) y) → Contains (cons_option (h a) (filter_map h (range_with_len (a + 1) n))) y
     by b t rest = grind (arith, here, eqb-true, there)
 
--- the group of a key's cut that begins at its first line, where it is broken at a line
+-- the group of a key's cut that begins at its first line, if it is broken at a line
 broken_where : (w : Window) (fs : List Frame) (k : Key) (left : List Frame) (line : ℕ) → IsGroup left → AllByRecursion (StandsAt fs k) left → broken_among w (first left) line (cut (within w) (of_key k fs)) ≡ Some left
     → broken_begun w fs line (first left) ≡ Some (broken_of k left)
 broken_where w fs k [] line some stands is = absurd (omega (arith, some))
 broken_where w fs k (f ∷ left) line some stands is = grind arith
 
--- frames whose numbers rise one by one have no number twice
+-- frames with consecutive rising numbers have no repeated number
 none_below : (m a n : ℕ) (fs : List Frame) → m < a → map (λ (f : Frame). f.number) fs ≡ range_with_len a n → has_number m fs ≡ false
 none_below m a n [] below numbers = refl
 none_below m a zero (f ∷ fs) below numbers = absurd (cc)
@@ -108,15 +109,15 @@ some-from : (h : List Frame) → 0 < length h → has_from 0 h ≡ true
 some-from [] some = absurd (omega (arith, some))
 some-from (f ∷ h) some = or_left _ _ (le-leb 0 f.number (omega arith))
 
--- what stood open with a frame 0, was complete, or has waited too long ends before another frame 0
+-- an open group with a frame 0, a complete group, or one whose window has ended ends before another frame 0
 ends_before : (w : Window) (n : ℕ) (o : Option (List Frame)) (h : List Frame) (f : Frame) → IfSome o (IsUpTo n) → f.number ≡ 0 → n < f.line → IfSome (option_and_then incomplete o) (λ g. w.in_order ≡ false → n < first g + w.lines → has_number 0 g ≡ true) → o ≡ Some h → closes (within w) h f ≡ true
 ends_before w n o h f up zeroth past open_has last = grind (arith, first-le, and_from, lt-ltb, some-from, or_left, or_right, le-leb, cases_lt)
 
--- the next frame of the key stands past the entries before it
+-- the next frame of the key comes after all entries before it
 next_past : (kind : ℕ → Option Kind) (front back : List Entry) (k : Key) (f : Frame) (g : List Frame) → of_key k (frames kind (front ++ back)) ≡ of_key k (frames kind front) ++ (f ∷ g) → length front < f.line
 next_past kind front back k f g next = grind (arith, frames_from-append kind 1 front back, frames-rise kind (1 + length front) back, of_key-append, append_cancel_left, of_key-keeps, rise-least)
 
--- what stands open has a frame 0, where the window isn't in order
+-- the open group has a frame 0, unless the window is in order
 abbrev HasZero : Window → (ℕ → Option Kind) → List Entry → Sending → Type 0
 HasZero w kind front x = IfSome (open_of (within w) (key_of_sending x) (frames kind front)) (λ last. w.in_order ≡ false → length front < first last + w.lines → has_number 0 last ≡ true)
 
@@ -185,7 +186,7 @@ heals w kind front back x group after comes has = heals_by w kind front back x g
     by : (o : Option (List Frame)) → IfSome o (λ last. length front < first last + w.lines → has_number 0 last ≡ true) → IfSome o (λ last. w.in_order ≡ false → length front < first last + w.lines → has_number 0 last ≡ true)
     by o h = grind arith
 
--- with a window in order what is open may be anything
+-- with a window in order, the open group may be any
 pub heals_in_order : (w : Window) (kind : ℕ → Option Kind) (front back : List Entry) (x : Sending) (group after : List Frame) → w.in_order ≡ true → ComesNext w kind front back x group after → Heals w kind front back x group
 heals_in_order w kind front back x group after order comes = heals_by w kind front back x group after comes (by (open_of (within w) (key_of_sending x) (frames kind front)))
   where

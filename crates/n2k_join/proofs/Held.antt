@@ -1,4 +1,4 @@
--- The frames that are held of an open group: they carry what its frames carried, and they are one group.
+-- The held frames of an open group: they carry what its frames carried, and they are one group.
 use Rattle.std.proofs.Common.{◌≡◌, ◌==◌, ◌≤◌, ◌<◌, ◌+◌, ℕ, Bool, true, false, cond, List, [], ◌∷◌, ◌++◌, length, map, reverse, refl, sym, ap, ◌∙◌, arith, Option, Some, None, option_map, is_some}
 use mathlib.Core.Path.{fun_ext}
 use mathlib.Core.List.{reverse-cons}
@@ -31,7 +31,7 @@ held_frames o ps = map (held_frame o) (reverse ps)
 held-cons : (o : Group) (p : Piece) (ps : List Piece) → held_frames o (p ∷ ps) ≡ held_frames o ps ++ held_frame o p ∷ []
 held-cons o p ps = ap (map (held_frame o)) (reverse-cons p ps) ∙ map-append (held_frame o) (reverse ps) (p ∷ [])
 
--- they carry the pieces' bytes
+-- frames made of pieces carry the pieces' bytes
 pub carried-held : (o : Group) (least : ℕ) (ps : List Piece) (n : ℕ) → Rise number_of least ps → carried (held_frames o ps) n ≡ bytes_in ps n
 carried-held o least [] n r = refl
 carried-held o least (p ∷ ps) n r =
@@ -58,7 +58,7 @@ pub all-reverse : {X : Type 0} (P : X → Type 0) (xs : List X) → AllByRecursi
 all-reverse P [] all = tt
 all-reverse P (x ∷ xs) all = grind (arith, all-reverse P xs all.1, reverse-cons, all-append)
 
--- any fact of all things holds of those of a list
+-- a property of all things holds of the items of a list
 pub all-any : {X : Type 0} (P : X → Type 0) → ((x : X) → P x) → (xs : List X) → AllByRecursion P xs
 all-any P each [] = tt
 all-any P each (x ∷ xs) = (each x, all-any P each xs)
@@ -89,16 +89,16 @@ pieces_by-numbers c =
     all-range (λ (p : Piece). p.number < most_frames) (piece_at c) 0 most_frames
     (λ i p l u e. let at : p.number ≡ i = piece_at-number c i p e in omega (arith, at))
 
--- they carry what the look-up finds under the numbers that frames can have, and nothing under others
+-- the pieces have the looked-up bytes under valid frame numbers, and none under others
 pub bytes_by : (c : ℕ → Option (List ℕ)) (n : ℕ) → n < most_frames → bytes_in (pieces_by c) n ≡ c n
 bytes_by c n l = grind (arith, look-filter_map number_of (piece_at c) (piece_at-number c) 0 most_frames n (omega arith) (omega arith))
 
 pub bytes_by-past : (c : ℕ → Option (List ℕ)) (n : ℕ) → most_frames ≤ n → bytes_in (pieces_by c) n ≡ None
 bytes_by-past c n l = grind (arith, find-none, all-map, pieces_by-numbers)
 
--- ---- what is kept of a group
+-- ---- the pieces of a group
 
--- frames whose numbers are those of five bits
+-- frames with numbers of five bits
 abbrev pub AreNumbered : List Frame → Type 0
 AreNumbered g = AllByRecursion (λ (f : Frame). f.number < most_frames) g
 
@@ -118,7 +118,7 @@ bytes_in-pieces : (g : List Frame) (n : ℕ) → AreNumbered g → bytes_in (pie
 unfolding pieces_of
 bytes_in-pieces g n all = grind (arith, cases_lt n most_frames, bytes_by, bytes_by-past, carried-past)
 
--- what is kept of a group carries what the group does
+-- the held frames of a group carry what the group does
 pub carried-kept : (k : Key) (g : List Frame) → AreNumbered g → carried (held_of (group_of k g)) ≡ carried g
 carried-kept k g all = fun_ext (λ n. carried-held (group_of k g) 0 (pieces_of g) n (pieces_of-rise g) ∙ bytes_in-pieces g n all)
 
@@ -136,9 +136,9 @@ pieces_of-some (f ∷ g) all some = by (pieces_of (f ∷ g)) (bytes_in-pieces (f
 pub first-kept : (k : Key) (g : List Frame) → AreNumbered g → 0 < length g → first (held_of (group_of k g)) ≡ first g
 first-kept k g all some = first-held (group_of k g) (pieces_of g) (pieces_of-some g all some)
 
--- ---- the frames that are held of a group are one group, and that is kept again
+-- ---- the held frames of a group are one group, which has the same pieces
 
--- pieces that rise are those of the frames that they make
+-- rising pieces are the pieces of the frames that they make
 pub pieces-held : (o : Group) (ps : List Piece) → Rise number_of 0 ps
     → AllByRecursion (λ (p : Piece). p.number < most_frames) ps → pieces_of (held_frames o ps) ≡ ps
 unfolding pieces_of

@@ -23,7 +23,7 @@ use Rattle.n2k_join.proofs.Cuts.{cut-joined}
 abbrev Numbers : ℕ → List Frame → Type 0
 Numbers least g = Rise (λ (f : Frame). f.number) least g
 
--- a frame that is above all joins them
+-- a frame above all others
 above-all : (n : ℕ) (f : Frame) (g : List Frame) → has_from n (f ∷ g) ≡ false → (f.number < n) × (has_from n g ≡ false)
 above-all n f g e = let parts = or_parts (nat_le n f.number) (has_from n g) e in (leb-false n f.number parts.0, parts.1)
 
@@ -31,13 +31,13 @@ numbers-push : (least : ℕ) (g : List Frame) (x : Frame) → Numbers least g �
 numbers-push least [] x r l e = (l, tt)
 numbers-push least (f ∷ g) x r l e = let a = above-all x.number f g e in (r.0, numbers-push (f.number + 1) g x r.1 (omega (arith, a.0)) a.1)
 
--- the first of frames whose lines rise stands before a later one
+-- the first of frames whose lines rise is before each later one
 first-before : (n : ℕ) (g : List Frame) (x : Frame) (rest : List Frame) → 0 < length g → RiseFrom n (g ++ (x ∷ rest)) → first g < x.line
 first-before n [] x rest some r = absurd (omega (arith, some))
 first-before n (f ∷ g) x rest some r = grind (arith, rise-rest)
 
 module _ (w : Window) (order : w.in_order ≡ true) where
-  -- what joins a group is above all of its numbers
+  -- a frame that joins a group is above all of its numbers
   fits : (g : List Frame) (x : Frame) → first g < x.line → closes (within w) g x ≡ false → has_from x.number g ≡ false
   fits g x l e = grind arith
 
@@ -84,7 +84,7 @@ below-last : (last : ℕ) (g : List Frame) → is_within last g ≡ true → All
 below-last last [] e = tt
 below-last last (f ∷ g) e = grind (arith, below-last last g (and_parts (nat_le f.number last) (is_within last g) e).1, leb-true)
 
--- so are the numbers of a complete group that rise
+-- the rising numbers of a complete group are a range
 whole-range : (g : List Frame) → Numbers 0 g → complete g ≡ true → map (λ (f : Frame). f.number) g ≡ range_with_len 0 (last_number (total g) + 1)
 unfolding complete
 whole-range g r e =
@@ -120,7 +120,7 @@ unfolding complete
 whole-group [] e = absurd (false≢true e)
 whole-group (f ∷ g) e = omega arith
 
--- the last of consecutive frames is the one that is found at its line
+-- the last of consecutive frames is found at its line
 ends-at : (kind : ℕ → Option Kind) (es : List Entry) (key : Key) (g : List Frame) (f : Frame)
     → AreConsecutive key (frames kind es) g → IsGroup g → frame_at (last_line g) (frames kind es) ≡ Some f
     → (before : List Frame) × (g ≡ before ++ f ∷ [])

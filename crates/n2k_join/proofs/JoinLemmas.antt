@@ -1,4 +1,4 @@
--- The fit groups after a frame, as the code makes them: by the place of the group of its key.
+-- The open groups after a frame, as the code makes them: by the place of the group of its key.
 use Rattle.std.proofs.Common.{◌≡◌, ℕ, ◌<◌, Bool, false, cond, List, [], ◌∷◌, ◌++◌, Result, OnErr, Some, None, option_to_list, filter_map, find, reverse, length-append, refl, ap, ◌∙◌, arith}
 use Rattle.std.specs.List.{AllByRecursion, list_any}
 use Rattle.n2k_join.specs.Messages.{broken_of, as_broken}
@@ -17,11 +17,11 @@ use Rattle.std.proofs.lemmas.List.Folds.{list_any_none}
 
 -- ---- one group
 
--- a frame's number and what it carries
+-- a frame's number and bytes
 abbrev pub piece_in : Frame → Piece
 piece_in x = record { number = x.number; bytes = x.bytes }
 
--- what an fit group holds
+-- the held frames of an open group
 pub fine-held : (o : Group) → IsOpen o → IsFine (held_of o)
 fine-held o fit = grind (arith, all-held (λ (f : Frame). f.number < most_frames) (λ (p : Piece). p.number < most_frames) o (λ p l. l) (reverse o.pieces) (all-reverse (λ (p : Piece). p.number < most_frames) o.pieces fit.numbers), has_twice-held o 0 o.pieces fit.rise, length-held o o.pieces)
 
@@ -31,14 +31,14 @@ fine-push g x fine missing small = grind (arith, all-append, has_twice-push, len
 pub fine-one : (x : Frame) → x.number < most_frames → IsFine (x ∷ [])
 fine-one x small = record { numbers = (small, tt); once = refl; nonempty = omega arith }
 
--- what is kept of a group has its data
+-- the held frames of a group have its data
 pub data_of-group_of : (k : Key) (g : List Frame) → IsFine g → data_of (held_of (group_of k g)) ≡ data_of g
 data_of-group_of k g fine = data_of-same (held_of (group_of k g)) g (carried-kept k g fine.numbers)
 
 pub with_frame-group_of : (o : Group) (x : Frame) → IsOpen o → with_frame o x ≡ group_of o.key (held_of o ++ x ∷ [])
 with_frame-group_of o x fit = grind (arith, first-push, fine-held, first-held)
 
--- an fit group with a piece more is that with the frame
+-- a fit group with one more piece is the group with the frame
 pub with_piece : (o : Group) (x : Frame) → record o { pieces = pieces_of (held_of o ++ held_frame o (piece_in x) ∷ []) } ≡ with_frame o x
 with_piece o x = grind (arith, carried-append, pieces_of-same)
 
@@ -51,7 +51,7 @@ module _ (o : Group) (x : Frame) (fit : IsOpen o) (missing : has_number x.number
 
 -- ---- the group of a key among groups
 
--- groups of other keys stay as they are
+-- groups of other keys are unchanged
 pub taken-others : (order : Bool) (x : Frame) (gs : List Group) → AllByRecursion (λ (g : Group). same_key x.key g.key ≡ false) gs → filter_map (taken order x) gs ≡ gs
 taken-others order x [] all = refl
 taken-others order x (g ∷ gs) all = grind (arith, taken-others order x gs all.1)
@@ -60,11 +60,11 @@ taken-others order x (g ∷ gs) all = grind (arith, taken-others order x gs all.
 pub rejects-missing : (order : Bool) (n : ℕ) (o : Group) → rejects order n o ≡ false → has_number n (held_of o) ≡ false
 rejects-missing order n o e = grind (arith, has-from)
 
--- what is told of an open group
+-- the report of an open group
 pub broken-held : (o : Group) (key : Key) → IsOpen o → key ≡ o.key → as_broken o ≡ broken_of key (held_of o)
 broken-held o key fit of = grind (arith, first-held)
 
--- a group that a frame begins: its message, and what stays open of it
+-- a group that a frame begins: its message, and its open group
 module _ (x : Frame) (g : Group) (small : x.number < most_frames) (is : g ≡ group_of x.key (x ∷ [])) where
   pub complete-begun : complete (held_of g) ≡ complete (x ∷ [])
   complete-begun = ap (λ (h : Group). complete (held_of h)) is ∙ complete-kept x.key (x ∷ []) (fine-one x small)
@@ -77,10 +77,10 @@ module _ (x : Frame) (g : Group) (small : x.number < most_frames) (is : g ≡ gr
   pub groups-begun : cond (complete (held_of g)) [] (g ∷ []) ≡ option_to_list (started x)
   groups-begun = grind (arith, complete-begun)
 
--- where no group of a key is found, none has it
+-- if no group of a key is found, no group has it
 pub none-listed : (P : Group → Bool) (gs : List Group) → find P gs ≡ None → list_any P gs ≡ false
 none-listed P gs none = list_any_none P gs (All-from_recursion (λ (g : Group). P g ≡ false) gs (passes_none P gs none))
 
--- what holds holds on a refusal
+-- a fact, also on a refusal
 pub on_err : {T E : Type 0} (r : Result T E) (P : Type 0) → P → OnErr r P
 on_err r P p = grind arith

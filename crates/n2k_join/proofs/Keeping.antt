@@ -28,7 +28,7 @@ use Rattle.n2k_join.proofs.Steps.{StepsTo, kept, frame_message, only_frame, kept
 use Rattle.n2k_join.proofs.Rising.{all-map, all-append, all-zip, all-flat_map, all-range, all-filter_map, option_map_some, rise-few, all-option}
 use Rattle.n2k_join.proofs.Windows.{all-filter, all-waiting, open_within-open}
 
--- the parts of a frame are such as the program's packets give
+-- the limits of a frame's parts in the program's packets
 pub record IsFramePart (f : Frame) : Type 0 where
   pub key : IsKey f.key
   pub piece : IsPiece (record { number = f.number; bytes = f.bytes })
@@ -89,7 +89,7 @@ pieces-parts fs all = all-filter_map IsPiece (piece_at (carried fs)) (range_with
         option_map_some (λ (bytes : List ℕ). let p : Piece = record { number = n; bytes = bytes } in p)
         (carried fs n) p is (λ b there same. subst IsPiece same (carried-part fs n b all there))
 
--- what holds of the keys of a group's frames holds of its key
+-- a property of the keys of a group's frames holds of its key
 key_part : (P : Key → Type 0) (k : Key) (g : List Frame) → AllByRecursion (λ (f : Frame). P f.key × (f.key ≡ k)) g → 0 < length g → P k
 key_part P k [] all some = absurd (omega (arith, some))
 key_part P k (f ∷ g) all some = subst P all.0.1 all.0.0
@@ -110,7 +110,7 @@ module _ (ends : EndTest) (is_ending : IsEnding ends) where
   unfolding open_groups
   open_groups-parts n fs parts = all-range HasParts (begun_at ends fs) 1 n (λ i o l u is. begun_at-parts fs i o parts is)
 
-  -- what holds of the key of each frame holds of those of the open groups
+  -- a property of the key of each frame holds of the keys of the open groups
   begun_at-key_part : (P : Key → Type 0) (fs : List Frame) (i : ℕ) (o : Group) → AllByRecursion (λ (f : Frame). P f.key) fs → begun_at ends fs i ≡ Some o → P o.key
   begun_at-key_part P fs i o all is =
       let begun = begun_group ends is_ending fs i o is in
@@ -141,8 +141,8 @@ one_of kind e = grind arith
 one-le : (b : Bool) → one_if b ≤ 1
 one-le b = grind arith
 
--- What a line gives, in numbers: at most one of a message, a cause and an unknown PGN; and the groups that it breaks and
--- those that it leaves are one more at most than there were.
+-- The result of a line, in numbers: at most one of a message, a cause and an unknown PGN; the broken and the remaining
+-- groups are at most one more than the groups before.
 pub record GivesOnce (kind : ℕ → Option Kind) (s : State) (e : Entry) (gives : Given) (leaves : List Group) : Type 0 where
   pub one : one_if (is_some gives.message) + one_if (is_some gives.cause) + one_if (is_unknown kind e) ≤ 1
   pub groups : length gives.broken + length leaves ≤ length s.groups + 1
@@ -197,7 +197,7 @@ module _ (kind : ℕ → Option Kind) (s : State) (e : Entry) (is : IsState s) w
   unfolding step_after waiting
   step-keeps valid below = grind (arith, step-once, open_within-open, step-log, all-filter, open_groups-parts, within-ends, step-parts)
 
--- and no group's window has ended
+-- after one more line, no group's window has ended
 pub step-waits : (kind : ℕ → Option Kind) (s : State) (e : Entry) → AreWaiting (step_after kind s e)
 unfolding step_after
 step-waits kind s e =
@@ -206,7 +206,7 @@ step-waits kind s e =
 
 -- ---- how many groups are open
 
--- Where no group's window has ended, no more groups are open than the window has lines: each began at a line of its own.
+-- If no group's window has ended, at most as many groups are open as the window has lines: each began at its own line.
 pub few-open : (s : State) → IsState s → AreWaiting s → length s.groups ≤ s.window.lines
 few-open s is wait = by (cases_lt s.counts.lines s.window.lines)
   where
@@ -228,7 +228,7 @@ pub state-new : (id : List ℕ) (w : Window) (kind : ℕ → Option Kind) → Is
 unfolding open_groups waiting
 state-new id w kind is = grind arith
 
--- groups of fast PGNs stay such
+-- groups remain of fast PGNs
 pub step-fast : (kind : ℕ → Option Kind) (s : State) (e : Entry) → 0 < s.window.lines → AreFast kind s.groups → AreFast kind (step_after kind s e).groups
 unfolding step_after waiting
 step-fast kind s e some fast =

@@ -22,7 +22,7 @@ all-others : {X : Type 0} (key : X → Key) (k c : Key) (xs : List X) → same_k
 all-others key k c [] other = refl
 all-others key k c (x ∷ xs) other = grind (arith, all-others key k c xs other, same_key-true)
 
--- where each key has equally many
+-- two lists are equally long if they are so for each key
 pub same_length : {X Y : Type 0} (key : X → Key) (key' : Y → Key) (n : ℕ) (xs : List X) (ys : List Y) → length xs ≤ n → ((k : Key) → length (of key k xs) ≡ length (of key' k ys)) → length xs ≡ length ys
 same_length key key' n [] [] short each = refl
 same_length key key' n [] (y ∷ ys) short each = absurd (let e : 0 ≡ suc (length (of key' (key' y) ys)) = each (key' y) ∙ ap (λ b. length (cond b (y ∷ of key' (key' y) ys) (of key' (key' y) ys))) (same_key-refl (key' y)) in omega arith)

@@ -25,7 +25,7 @@ same_key-sym a b = same_bool (same_key a b) (same_key b a) (λ e. same_key-from 
 pub of_key-same : (k : Key) (fs : List Frame) (x : Frame) → same_key k x.key ≡ true → of_key k (fs ++ x ∷ []) ≡ of_key k fs ++ x ∷ []
 of_key-same k fs x e = grind (arith, common_steps)
 
--- and of another
+-- one frame more of another key
 pub of_key-other : (k : Key) (fs : List Frame) (x : Frame) → same_key k x.key ≡ false → of_key k (fs ++ x ∷ []) ≡ of_key k fs
 of_key-other k fs x e = grind (arith, common_steps)
 
@@ -40,7 +40,7 @@ pub of_key-none : (k : Key) (fs : List Frame) → AllByRecursion (λ f. same_key
 of_key-none k [] all = refl
 of_key-none k (f ∷ fs) all = ap (λ b. cond b (f ∷ of_key k fs) (of_key k fs)) all.0 ∙ of_key-none k fs all.1
 
--- what holds of all frames holds of those of a key, and they have it
+-- a property of all frames holds of the frames of a key, which have that key
 pub of_key-keeps : (P : Frame → Type 0) (k : Key) (fs : List Frame) → AllByRecursion P fs → AllByRecursion (λ f. P f × (f.key ≡ k)) (of_key k fs)
 of_key-keeps P k [] all = tt
 of_key-keeps P k (f ∷ fs) all = grind (arith, of_key-keeps P k fs all.1, same_key-true)

@@ -33,14 +33,14 @@ pub fast_at : (m : PacketParts) (s n : ℕ) → n < length (pieces_as (Some Fast
 unfolding pieces_as
 fast_at m s n within = grind (arith, count_fast m s, slice_get-get_or (map (piece m s) (range_with_len 0 (last_piece m + 1))) n m within, get_or-map-range_with_len)
 
--- they are counted
+-- the number of a message's frames
 pub are_single : (m : PacketParts) → AreFrames 0 1 (pieces_as (Some Single) m 0)
 are_single m = record { small = omega arith; counted = sym (count_single m 0); some = omega arith; few = omega arith }
 
 pub are_fast : (m : PacketParts) (s n : ℕ) → s < most_sequences → length m.payload ≤ longest_message → n ≡ length m.payload / 7 + 1 → AreFrames s n (pieces_as (Some Fast) m s)
 are_fast m s n small short is = record { small = small; counted = omega (arith, is, count_fast m s); some = omega (arith, is); few = omega (arith, is, short) }
 
--- and no more than this many, where none is refused
+-- the most frames of a message
 pub few_frames : (k : Option Kind) (m : PacketParts) (s : ℕ) → length (pieces_as k m s) ≤ length m.payload / 7 + 1
 unfolding pieces_as
 few_frames k m s = grind (arith, length-map-range_with_len)
@@ -49,6 +49,6 @@ few_frames k m s = grind (arith, length-map-range_with_len)
 pub one_more : {A : Type 0} (xs : List A) (n : ℕ) (x : A) → slice_get xs n ≡ Some x → take (n + 1) xs ≡ take n xs ++ x ∷ []
 one_more xs n x is = grind (arith, take-suc xs n x (slice_get_within xs n x is), get_or_from_slice_get xs n x x is)
 
--- a frame was appended behind those before it
+-- a frame was appended
 pub pushed : (start now after frames : List PacketParts) (n : ℕ) (x : PacketParts) → slice_get frames n ≡ Some x → now ≡ start ++ take n frames → after ≡ now ++ x ∷ [] → after ≡ start ++ take (n + 1) frames
 pushed start now after frames n x is before grown = grind (arith, append_assoc, one_more)

@@ -1,4 +1,4 @@
--- What a line gives and leaves, as the code says it, is what the step says, where no group is overdue.
+-- The code's result of a line and the groups after it are the step's, if no group is overdue.
 use Rattle.std.proofs.Common.{◌≡◌, ◌<◌, ◌+◌, ℕ, Bool, true, List, [], ◌∷◌, ◌++◌, length, map, refl, sym, ap, ◌∙◌, subst, arith, ◌≤◌, Option, Some, None, IfSome, filter_map, is_some}
 use Rattle.std.specs.List.{AllByRecursion}
 use Rattle.n2k_wire.specs.declared.entry.Entry.{Entry}
@@ -38,7 +38,7 @@ frame-message w x gs o e fit = grind (arith, rejects-at)
 found-fit : (w : Window) (x : Frame) (gs : List Group) → AllByRecursion (WaitsAt w x.line) gs → (o : Option Group) → of_the_key x.key gs ≡ o → IfSome o (WaitsAt w x.line)
 found-fit w x gs all o e = grind (arith, find-all)
 
--- groups that wait go on as the frame's number says
+-- groups that wait are taken by the frame's number alone
 same-taken : (w : Window) (x : Frame) (gs : List Group) → AllByRecursion (WaitsAt w x.line) gs → filter_map (advanced-taken (within w) x) gs ≡ filter_map (taken w.in_order x) gs
 same-taken w x [] all = refl
 same-taken w x (g ∷ gs) all = grind (arith, same-taken w x gs all.1, rejects-at)
@@ -50,13 +50,13 @@ same-groups : (w : Window) (x : Frame) (gs : List Group) → AllByRecursion (Wai
 unfolding advanced groups_after
 same-groups w x gs all = grind (arith, same-taken, same-opened, found-fit)
 
--- where no group's window has ended, none is broken by it, and all are held
+-- if no group's window has ended, the line breaks none, and all wait
 none-overdue : (w : Window) (line : ℕ) (gs : List Group) → ended w line gs ≡ [] → AllByRecursion (λ (g : Group). is_waiting w line g ≡ true) gs
 unfolding ended
 none-overdue w line [] e = tt
 none-overdue w line (g ∷ gs) e = grind (arith, none-overdue w line gs)
 
--- The step on a state whose groups can be open, none of which is overdue.
+-- The step on a state whose groups can be open and none of which is overdue.
 line-steps : (kind : ℕ → Option Kind) (s : State) (e : Entry) → 0 < s.window.lines → AreOpen s.counts.lines s.groups → overdue s ≡ []
     → let o = frame_in kind (next_line s) e in StepsTo kind s e (gives_by s.window.in_order (alone kind e) (cause_in kind e) s.groups o) (leaves_by s.window.in_order s.groups o)
 line-steps kind s e some are none_over = by (frame_in kind (next_line s) e) refl
@@ -100,7 +100,8 @@ line-steps kind s e some are none_over = by (frame_in kind (next_line s) e) refl
 pub own_counted : (t : TableParts) (known : Option KnownParts) (own : Option PacketParts) → IsOwn t known own → is_some (message_in (is_some known) own) ≡ is_some known
 own_counted t known own is = grind arith
 
--- What a line gives and leaves, by what the code knows before: the state is one that a join can have, and none is due.
+-- The result of a line and the groups after it, by facts that the code knows: the state is one of a join, and no group
+-- is due.
 module _ (kind : ℕ → Option Kind) (s t : State) (e : Entry) (order : Bool) (state : IsState s) (is : s ≡ t)
     (ready : due t ≡ None) (below : s.counts.lines ≡ most_lines → ⊥) (same : order ≡ s.window.in_order) where
   abbrev gives : Given

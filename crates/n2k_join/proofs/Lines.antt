@@ -16,7 +16,7 @@ line_of f = f.line
 abbrev pub RiseFrom : ℕ → List Frame → Type 0
 RiseFrom n fs = Rise line_of n fs
 
--- the frame of an entry is that of a packet of a fast PGN, whose data can be a frame's
+-- the frame of an entry comes from a packet of a fast PGN with valid data
 pub record IsFrameOf (kind : ℕ → Option Kind) (n : ℕ) (e : Entry) (f : Frame) : Type 0 where
   pub packet : PacketParts
   pub entry : e ≡ entries.Frame packet
@@ -29,7 +29,7 @@ pub frame_of_packet : (kind : ℕ → Option Kind) (n : ℕ) (e : Entry) (f : Fr
 unfolding fast_frame
 frame_of_packet kind n e f same = grind arith
 
--- it stands at the line of its entry
+-- a frame's line is its entry's
 pub frame_in-line : (kind : ℕ → Option Kind) (n : ℕ) (e : Entry) (f : Frame) → frame_in kind n e ≡ Some f → f.line ≡ n
 frame_in-line kind n e f same = ap line_of (sym (frame_of_packet kind n e f same).is)
 

@@ -1,4 +1,4 @@
--- The list of the open groups: what is found of a key in it, its first, and what is written of it.
+-- The list of the open groups: finding a key in it, its first group, and changing it.
 use Rattle.std.proofs.Common.{◌≡◌, ◌<◌, ◌+◌, ◌-◌, ℕ, zero, suc, nat_lt, Bool, true, false, cond, List, [], ◌∷◌, ◌++◌, length, slice_get, get_or, refl, sym, ap, ◌∙◌, subst, arith, Option, Some, None, IfSome, option_map, append_assoc, is_some, position, ltb-true}
 use Rattle.std.specs.Option.{option_map_or}
 use Rattle.std.specs.List.{list_all, cons_option}
@@ -74,7 +74,7 @@ some-open key (f ∷ fs) g gs e = elim (same_key key f.key) as (λ b. is_some (o
 pub place-split : (next : ℕ) (g : OpenGroups) → IsKept next g → (at : ℕ) → at < length g.groups.entries → Split at (places g)
 place-split next g kept at low = split at (places g) (let once = kept.linked.once at low (λ e. omega (arith, low, e)) in omega (arith, once))
 
--- what stands at a place, and where in the list
+-- the entry at a place, and its position in the list
 pub record Here (g : OpenGroups) (k : FrameKey) (at : ℕ) (v : Linked) : Type 0 where
   pub low : at < length g.groups.entries
   pub entry : slice_get g.groups.entries at ≡ Some (k, v)
@@ -89,7 +89,7 @@ here next g k at v kept stands value =
     let s = place-split next g kept at stands.0 in
     record { low = stands.0; entry = e; xs = s.xs; ys = s.ys; is = s.is; listed = listed-split next g g at s.xs s.ys kept stands.0 s.is (k, v.group) (ap (option_map item) e) }
 
--- a group of a key is listed where one is found
+-- a group of a key is listed exactly if the map finds one
 pub open-found : (next : ℕ) (g : OpenGroups) → IsKept next g → (k : FrameKey) → is_some (of_the_key (key_of k) (listed g)) ≡ is_some (found g.groups.entries k)
 open-found next g kept k = by (found g.groups.entries k) refl
   where
@@ -125,13 +125,13 @@ no-places es (suc n) at is = ap (λ o. option_map_or (λ (e : FrameKey × Linked
 pub none-listed : (g : OpenGroups) → slice_get g.groups.entries g.first ≡ None → listed g ≡ []
 none-listed g is = ap (groups_at (item_at g)) (no-places g.groups.entries (length g.groups.entries) g.first is)
 
--- where the first one's window has not ended, none's has
+-- if the window of the first group has not ended, no group's has
 pub none-ended : (w : Window) (line next : ℕ) (gs fs : List Group) (g : Group) → RiseBelow 1 next gs → gs ≡ g ∷ fs → nat_lt line (g.first + w.lines) ≡ true → ended w line gs ≡ []
 none-ended w line next gs fs g rise is waits =
     let r = subst (RiseBelow 1 next) is rise in
     later-wait w line g.first gs (subst (Rise (λ (g : Group). g.first) g.first) (sym is) (omega arith, rise-groups (g.first + 1) next fs r.1)) (ltb-true _ _ waits)
 
--- and where it has, it is the first whose has
+-- if the window of the first group has ended, that is the first ended group
 pub first-ended : (w : Window) (line : ℕ) (gs fs : List Group) (g : Group) → gs ≡ g ∷ fs → nat_lt line (g.first + w.lines) ≡ false → Some (as_broken g) ≡ option_map as_broken (slice_get (ended w line gs) 0)
 unfolding ended
 first-ended w line gs fs g is late = grind arith
@@ -140,11 +140,11 @@ pub all-wait : (w : Window) (line least next : ℕ) (gs : List Group) → RiseBe
 all-wait w line least next [] r l = refl
 all-wait w line least next (g ∷ gs) r l = grind (arith, all-wait w line (g.first + 1) next gs r.1 (omega (arith, r.0, l)))
 
--- so whether all wait is whether the first does
+-- all groups wait exactly if the first does
 pub first-waits : (w : Window) (line next : ℕ) (gs fs : List Group) (g : Group) → RiseBelow 1 next gs → gs ≡ g ∷ fs → nat_lt line (g.first + w.lines) ≡ list_all (is_waiting w line) gs
 first-waits w line next gs fs g rise is = grind (arith, all-wait)
 
--- ---- what is written of it
+-- ---- writing the list
 
 pub places-more : (es : Entries) (n i at : ℕ) (e : FrameKey × Linked) → i < n → slice_get es at ≡ Some e → places_from es (n - i) at ≡ at ∷ places_from es (n - (i + 1)) e.1.behind
 places-more es n i at e less is = grind arith

@@ -1,4 +1,4 @@
--- The frames of a log's entries, and what its lines keep where an entry more comes.
+-- The frames of a log's entries, and what one more entry leaves unchanged.
 use Rattle.std.proofs.Common.{◌≡◌, ◌≤◌, ◌<◌, ◌+◌, ℕ, suc, zero, List, [], ◌∷◌, ◌++◌, length, refl, sym, ap, ◌∙◌, arith, Option, Some, option_map, option_and_then, option_to_list, sum_by, append-nil}
 use Rattle.std.specs.Option.{option_or}
 use Rattle.std.specs.List.{range_with_len, AllByRecursion}
@@ -16,7 +16,7 @@ use Rattle.n2k_join.proofs.Order.{slice_get-push, slice_get-front}
 use Rattle.n2k_join.proofs.Rising.{all-map, all-zip, look-all, rise-least}
 use Rattle.n2k_join.specs.Window.{Window}
 
--- What holds of the frame of each entry holds of all frames.
+-- A property of the frame of each entry holds of all frames.
 pub frames-all : (P : Frame → Type 0) (kind : ℕ → Option Kind) (n : ℕ) (es : List Entry)
     → ((i : ℕ) (e : Entry) (f : Frame) → i < n + length es → frame_in kind i e ≡ Some f → P f)
     → AllByRecursion P (frames_from kind n es)
@@ -32,7 +32,6 @@ frames-below kind n es =
 pub frame_in-number : (kind : ℕ → Option Kind) (i : ℕ) (e : Entry) (f : Frame) → frame_in kind i e ≡ Some f → f.number < most_frames
 frame_in-number kind i e f is = grind (arith, frame_of_packet kind i e f is)
 
--- the frames of entries are a log
 pub frames-log : (kind : ℕ → Option Kind) (es : List Entry) → IsLog (length es) (frames kind es)
 frames-log kind es =
     let rises = frames-rise kind 1 es in
@@ -42,7 +41,7 @@ frames-log kind es =
       keys = all-map (λ (f : Frame). frame_at f.line (frames kind es) ≡ Some f) (λ (f : Frame). key_at f.line (frames kind es) ≡ Some f.key) (frames kind es) (λ f h. ap (option_map (λ (f : Frame). f.key)) h) (look-all line_of 1 (frames kind es) rises);
     }
 
--- the frames of entries, and of others behind them
+-- the frames of entries followed by other entries
 pub frames_from-append : (kind : ℕ → Option Kind) (line : ℕ) (es fs : List Entry)
     → frames_from kind line (es ++ fs) ≡ frames_from kind line es ++ frames_from kind (line + length es) fs
 frames_from-append kind line [] fs = let e : line ≡ line + 0 = omega arith in ap (λ n. frames_from kind n fs) e
@@ -59,13 +58,13 @@ entry_at-before es e (suc i) l u = slice_get-front es e i (omega arith)
 pub entry_at-last : (es : List Entry) (e : Entry) → entry_at (es ++ e ∷ []) (length es + 1) ≡ Some e
 entry_at-last es e = let at : length es + 1 ≡ suc (length es) = omega arith in ap (entry_at (es ++ e ∷ [])) at ∙ slice_get-push es e
 
--- what a frame of the next line leaves as it was, an entry more does
+-- a value that a frame of the next line leaves unchanged is unchanged by one more entry
 frames-before : {X : Type 0} (F : List Frame → X) (kind : ℕ → Option Kind) (es : List Entry) (e : Entry)
     → ((x : Frame) → x.line ≡ length es + 1 → F (frames kind es ++ x ∷ []) ≡ F (frames kind es))
     → F (frames kind (es ++ e ∷ [])) ≡ F (frames kind es)
 frames-before F kind es e stays = grind (arith, frames-push, frame_in-line, append-nil)
 
--- earlier lines keep what they gave
+-- earlier lines keep their results
 gathered-before : (ends : EndTest) (kind : ℕ → Option Kind) (es : List Entry) (e : Entry) (i : ℕ) → i ≤ length es → gathered ends (frames kind (es ++ e ∷ [])) i ≡ gathered ends (frames kind es) i
 gathered-before ends kind es e i u = grind (arith, frames-before (λ fs. gathered ends fs i) kind es e (λ x at. gathered-stays ends (frames kind es) x i (λ t. omega (arith, t, at, u))))
 
@@ -75,7 +74,7 @@ message-before ends kind es e i l u = λ j. option_or (option_map (λ (m : Keyed
 pub broken-before : (w : Window) → 0 < w.lines → (kind : ℕ → Option Kind) (es : List Entry) (e : Entry) (i : ℕ) → i ≤ length es → broken_with w (frames kind (es ++ e ∷ [])) i ≡ broken_with w (frames kind es) i
 broken-before w some kind es e i u = grind (arith, frames-before (λ fs. broken_with w fs i) kind es e (λ x at. broken-stays w some (length es) (frames kind es) x i (frames-log kind es) (omega (arith, at, u))))
 
--- sums over a range, of what agrees there
+-- sums over a range of functions that agree there
 pub sum_by-range : (f g : ℕ → ℕ) (a n : ℕ) → ((i : ℕ) → a ≤ i → i < a + n → f i ≡ g i) → sum_by f (range_with_len a n) ≡ sum_by g (range_with_len a n)
 sum_by-range f g a zero e = refl
 sum_by-range f g a (suc n) e =

@@ -11,13 +11,13 @@ pub same_stream-true : (a b : Stream) → same_stream a b ≡ true → a ≡ b
 unfolding same_stream
 same_stream-true a b e = grind arith
 
--- what a stream's sequence is, once that of one stream was raised
+-- the sequence of a stream after the sequence of one stream was raised
 pub raised_by_map : (held : List (Stream × ℕ)) (stream other : Stream) (n : ℕ) (found : Option ℕ) → n ≡ sequences held stream
     → found ≡ cond (same_stream stream other) (Some ((n + 1) % 8)) (lookup (same_stream other) held)
     → unwrap_or found 0 ≡ cond (same_stream stream other) ((sequences held other + 1) % 8) (sequences held other)
 raised_by_map held stream other n found e f = grind (arith, same_stream-true)
 
--- and it is below 8 still
+-- a raised sequence is below 8
 pub raised_below : (held : List (Stream × ℕ)) (stream other : Stream) (after : ℕ) → AreSequences held → after ≡ cond (same_stream stream other) ((sequences held other + 1) % 8) (sequences held other) → after < 8
 raised_below held stream other after are is = grind (arith)
 
@@ -26,7 +26,7 @@ pub raised_single : (kind : ℕ → Option Kind) (held : Sequences) (s : Stream)
 unfolding raised
 raised_single kind held s e = λ i other. cond (is_fast (e i) && same_stream s other) ((held other + 1) % 8) (held other)
 
--- and one of a fast PGN its stream's sequence
+-- a message of a fast PGN raises its stream's sequence
 pub raised_fast : (kind : ℕ → Option Kind) (held after : Sequences) (s : Stream) → kind s.pgn ≡ Some Fast
     → ((other : Stream) → after other ≡ cond (same_stream s other) ((held other + 1) % 8) (held other)) → after ≡ raised kind held s
 unfolding raised

@@ -1,4 +1,4 @@
--- The open groups of a list of frames, and those of a list with one frame more.
+-- The open groups of a list of frames, before and after one more frame.
 use Rattle.std.proofs.Common.{◌≡◌, ◌==◌, ◌≤◌, ◌<◌, ◌+◌, ℕ, true, false, cond, List, [], ◌∷◌, ◌++◌, length, refl, sym, ap, ◌∙◌, subst, arith, Option, Some, None, option_map, option_and_then, option_to_list, filter_map, is_some, IfSome, append-nil}
 use Rattle.std.specs.Option.{option_or}
 use Rattle.std.specs.List.{range_with_len, AllByRecursion}
@@ -16,23 +16,22 @@ use Rattle.n2k_join.proofs.Held.{AreNumbered, carried-kept, has_twice-kept, firs
 use Rattle.n2k_join.proofs.Keys.{same_key-true, same_key-refl, same_key-sym, of_key-same, of_key-other, of_key-keeps}
 use Rattle.n2k_join.proofs.Rising.{range-push, filter_map-push, filter_map-fused, filter_map-range, find-passes, find-all, find-none, look, look-filter_map, all-range, all-map, passes_none}
 
--- the key of the frame at a line
 abbrev pub key_at : ℕ → List Frame → Option Key
 key_at line fs = option_map (λ (f : Frame). f.key) (frame_at line fs)
 
--- frames of lines 1 to n, with numbers of five bits, those of one line of one key
+-- frames of lines 1 to n, with numbers of five bits; frames of one line have one key
 pub record IsLog (n : ℕ) (fs : List Frame) : Type 0 where
   pub lines : AllByRecursion (λ (f : Frame). (1 ≤ f.line) × (f.line ≤ n)) fs
   pub numbers : AreNumbered fs
   pub keys : AllByRecursion (λ (f : Frame). key_at f.line fs ≡ Some f.key) fs
 
--- what is known of a group of a cut
+-- the facts of a group of a cut
 pub record IsFine (g : List Frame) : Type 0 where
   pub numbers : AreNumbered g
   pub once : has_twice g ≡ false
   pub nonempty : 0 < length g
 
--- an open group is what is kept of the group so far of its key, which isn't complete
+-- an open group comes from the group so far of its key, which is incomplete
 pub record IsBegun (ends : EndTest) (fs : List Frame) (o : Group) : Type 0 where
   pub group : List Frame
   pub so_far_is : so_far ends (of_key o.key fs) ≡ Some group
@@ -48,7 +47,7 @@ first-push (f ∷ g) x some = refl
 both : {X : Type 0} (P Q : X → Type 0) (o : Option X) → IfSome o P → IfSome o Q → IfSome o (λ x. P x × Q x)
 both P Q o p q = grind arith
 
--- ---- where frames stand
+-- ---- the lines of frames
 
 pub at_line : (i : ℕ) (fs : List Frame) (x : Frame) → (x.line ≡ i → ⊥) → frame_at i (fs ++ x ∷ []) ≡ frame_at i fs
 at_line i fs x other =
@@ -65,7 +64,7 @@ at_last n fs x log l =
     ∙ ap (λ o. option_or o (cond (x.line == x.line) (Some x) None)) (none_at n x.line fs log l)
     ∙ ap (λ b. cond b (Some x) None) (eq-eqb x.line x.line refl)
 
--- what is kept of a group completes and takes a frame as the group does
+-- the held frames of a group complete and take a frame as the group does
 pub complete-kept : (k : Key) (g : List Frame) → IsFine g → complete (held_of (group_of k g)) ≡ complete g
 complete-kept k g fine = complete-same (held_of (group_of k g)) g (carried-kept k g fine.numbers) (has_twice-kept k g ∙ sym fine.once)
 
@@ -79,7 +78,7 @@ pub numbers_of_key : (k : Key) (fs : List Frame) → AreNumbered fs → AreNumbe
 numbers_of_key k fs all = all-map _ (λ (f : Frame). f.number < most_frames) (of_key k fs) (λ f h. h.0) (of_key-keeps (λ (f : Frame). f.number < most_frames) k fs all)
 
 module _ (ends : EndTest) (is_ending : IsEnding ends) where
-  -- the open group of a key, where it begins at a line
+  -- the open group of a key, if it begins at a line
   abbrev pub open_at : Key → List Frame → ℕ → Option Group
   open_at k fs i = option_and_then (where_begun i k) (open_of ends k fs)
 
@@ -101,7 +100,7 @@ module _ (ends : EndTest) (is_ending : IsEnding ends) where
   pub so_far-fine : (fs : List Frame) → AreNumbered fs → IfSome (so_far ends fs) IsFine
   so_far-fine fs numbers = grind (arith, so_far-once fs, so_far-all)
 
-  -- and ends as the group does
+  -- the held frames of a group end before a frame exactly if the group does
   pub ends-kept : (k : Key) (g : List Frame) (x : Frame) → IsFine g → ends (held_of (group_of k g)) x ≡ ends g x
   ends-kept k g x fine = is_ending.alike (held_of (group_of k g)) g x (carried-kept k g fine.numbers) (first-kept k g fine.numbers fine.nonempty)
 
@@ -111,7 +110,7 @@ module _ (ends : EndTest) (is_ending : IsEnding ends) where
   taken-joined : (k : Key) (g : List Frame) (x : Frame) → IsFine g → same_key x.key k ≡ true → ends g x ≡ false → taken ends x (group_of k g) ≡ cond (complete (g ++ x ∷ [])) None (Some (group_of k (g ++ x ∷ [])))
   taken-joined k g x fine same e = grind (arith, ends-kept, complete-kept_push, with_frame-kept)
 
-  -- a group of the frame alone begins at the frame's line only
+  -- a group of one frame begins only at the frame's line
   not_here : (k : Key) (x : Frame) (i : ℕ) → (x.line ≡ i → ⊥) → option_and_then (where_begun i k) (incomplete (x ∷ [])) ≡ None
   not_here k x i other = grind arith
 
@@ -123,7 +122,7 @@ module _ (ends : EndTest) (is_ending : IsEnding ends) where
       → option_and_then (where_begun i k) (incomplete (next ends s x)) ≡ option_and_then (taken ends x) (option_and_then (where_begun i k) (option_and_then incomplete s))
   stays_or_goes k x i same other s fine = grind (arith, not_here, taken-ended, taken-joined)
 
-  -- and at the frame's own
+  -- A key's group so far with a frame more, seen at the frame's line.
   is_opened : (x : Frame) (s : Option (List Frame)) → IfSome s IsFine → IfSome s (λ g. first g ≡ x.line → ⊥)
       → option_and_then (where_begun x.line x.key) (incomplete (next ends s x)) ≡ opened ends x (option_map (group_of x.key) (option_and_then incomplete s))
   is_opened x s fine past = grind (arith, here, ends-kept)
@@ -147,14 +146,14 @@ module _ (ends : EndTest) (is_ending : IsEnding ends) where
   pub begun_group : (fs : List Frame) (i : ℕ) (o : Group) → begun_at ends fs i ≡ Some o → IsBegun ends fs o
   begun_group fs i o e = grind (arith, begun_at-is fs i o e, so_far-once (of_key o.key fs), open_is)
 
-  -- what holds of all frames holds of those of such a group, and they have its key
+  -- a property of all frames holds of the frames of such a group, which have its key
   pub begun_all : (P : Frame → Type 0) (fs : List Frame) (o : Group) (begun : IsBegun ends fs o) → AllByRecursion P fs
       → AllByRecursion (λ (f : Frame). P f × (f.key ≡ o.key)) begun.group
   begun_all P fs o begun all =
       subst (λ s. IfSome s (AllByRecursion (λ (f : Frame). P f × (f.key ≡ o.key)))) begun.so_far_is
       (so_far-all ends (λ (f : Frame). P f × (f.key ≡ o.key)) (of_key o.key fs) (of_key-keeps P o.key fs all))
 
-  -- a group of a key's cut begins at a line of the log, where a frame of that key stands
+  -- a group of a key's cut begins at a line of the log that has a frame of that key
   pub so_far-begins : (n : ℕ) (k : Key) (fs : List Frame) → IsLog n fs → IfSome (so_far ends (of_key k fs)) (λ g. (1 ≤ first g) × (first g ≤ n) × (key_at (first g) fs ≡ Some k))
   so_far-begins n k fs log = grind (arith, so_far-fine (of_key k fs) (numbers_of_key k fs log.numbers), so_far-all, of_key-keeps)
 

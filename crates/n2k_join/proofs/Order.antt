@@ -1,4 +1,4 @@
--- The open groups in their list: which places it has, and what a step makes of it.
+-- The open groups in their list: its places, and the change by each step.
 use Rattle.std.proofs.Common.{◌≡◌, ℕ, zero, suc, ◌+◌, ◌<◌, ◌≤◌, ◌==◌, ◌⊎◌, inl, inr, cond, List, [], ◌∷◌, ◌++◌, length, map, take, slice_get, slice_set, swap_remove, refl, sym, ap, ◌∙◌, subst, arith, Option, Some, None, IfSome, option_map, is_some}
 use mathlib.Core.Path.{fun_ext}
 use Rattle.std.specs.List.{cons_option}
@@ -25,13 +25,13 @@ there [] i l = absurd (omega (arith, l))
 there (x ∷ xs) zero l = (x, refl)
 there (x ∷ xs) (suc i) l = there xs i (omega (arith, l))
 
--- ---- what stands beside a place
+-- ---- the places beside a place
 
 module _ (side : Linked → ℕ) (end : ℕ) (es : Entries) where
   pub beside-at : (at : ℕ) (e : FrameKey × Linked) → (at ≡ nowhere → ⊥) → slice_get es at ≡ Some e → beside side end es at ≡ side e.1
   beside-at at e other is = grind arith
 
-  -- where there is no entry, itself
+  -- beside a place without an entry: itself
   pub beside-past : (at : ℕ) → (at ≡ nowhere → ⊥) → length es ≤ at → beside side end es at ≡ at
   beside-past at other past = grind (arith, slice_get_past)
 
@@ -49,7 +49,7 @@ leads-place n at to f fixed leads is = grind arith
 pub later-place : (n m at : ℕ) → n ≤ m → IsPlace n at → IsPlace m at
 later-place n m at l h = grind arith
 
--- what stands beside places of the list are places
+-- the places beside places of the list are places
 module _ (next : ℕ) (g : OpenGroups) (kept : IsKept next g) where
   pub before-place : (at : ℕ) → IsPlace (length g.groups.entries) at → IsPlace (length g.groups.entries) (before_of g at)
   before-place at is = grind (arith, beside-past)
@@ -78,7 +78,7 @@ module _ (es : Entries) (at : ℕ) (k : FrameKey) (v w : Linked) (is : slice_get
   pub beside-written : (side : Linked → ℕ) (end j : ℕ) → beside side end (set_value_at es at w) j ≡ put at (side w) (beside side end es) j
   beside-written side end j = grind (arith, slot-here, slot-other)
 
-  -- and on a side that says the same
+  -- beside an entry with the same place on a side: unchanged
   pub beside-kept : (side : Linked → ℕ) (end j : ℕ) → side w ≡ side v → beside side end (set_value_at es at w) j ≡ beside side end es j
   beside-kept side end j same = grind (arith, beside-written)
 
@@ -103,7 +103,7 @@ places-are es end a [] n few within l h = ap (places_from es n) h ∙ none n
 places-are es end a (p ∷ ps) zero few within l h = absurd (omega (arith, l))
 places-are es end a (p ∷ ps) (suc n) few within l h = grind (arith, places-are es end p ps n few (λ at more. within at (omega (arith, more))) (omega (arith, l)) h.1, times-here p ps, there es p (within p (omega (arith, times-here p ps))))
 
--- a list that is linked is the list
+-- a linked list is the list
 pub kept-by : (next : ℕ) (g : OpenGroups) (order : List ℕ) → length g.groups.entries < nowhere → AreLinked (length g.groups.entries) (length g.groups.entries) (behind_of g) (before_of g) order
     → length order ≡ length g.groups.entries → RiseBelow 1 next (groups_at (item_at g) order) → IsKept next g × (listed g ≡ groups_at (item_at g) order)
 kept-by next g order few linked counted rise = grind (arith, places-are g.groups.entries g.first nowhere order (length g.groups.entries) few (λ at more. (linked.within at more).0) (omega (arith, counted)) linked.path)
@@ -180,7 +180,7 @@ slice_get-set_other (x ∷ xs) zero y (suc j) n = refl
 slice_get-set_other (x ∷ xs) (suc i) y zero n = refl
 slice_get-set_other (x ∷ xs) (suc i) y (suc j) n = slice_get-set_other xs i y j (λ s. n (ap suc s))
 
--- Entries of which one went, and the last took its place.
+-- Entries after one was removed and the last took its place.
 pub record AreLeft (es es' : Entries) (m p : ℕ) : Type 0 where
   pub was : length es ≡ suc m
   pub is : length es' ≡ m
@@ -207,7 +207,7 @@ ended-last es es' p m low left none = by (cases_lt p m)
 
 -- ---- a group put last
 
--- The group at p is told that it is the last, and so is the one that was it, and the end.
+-- The group at p becomes the last: its entry, the former last entry and the end are linked so.
 pub at-end : (next : ℕ) (f g : ℕ → ℕ) (s r : OpenGroups) (p : ℕ) (order : List ℕ) (items : ℕ → Option (FrameKey × OpenGroup)) (e : FrameKey × OpenGroup)
     → p < length s.groups.entries → length s.groups.entries < nowhere → (f (length s.groups.entries) ≡ length s.groups.entries) × (g (length s.groups.entries) ≡ length s.groups.entries)
     → AreLinked (length s.groups.entries) p f g order → 1 + length order ≡ length s.groups.entries
@@ -277,11 +277,11 @@ inserted next g s r k l at here kept is fs ls few before behind first =
     below : (at : ℕ) → at < suc (length g.groups.entries) → (at ≡ length g.groups.entries → ⊥) → (at < length g.groups.entries) ⊎ (length g.groups.entries ≤ at) → at < length g.groups.entries
     below at less other h = grind arith
 
--- none
+-- an empty list
 pub empty-kept : (g : OpenGroups) → g.groups.entries ≡ [] → g.first ≡ nowhere → g.last ≡ nowhere → (listed g ≡ []) × ((next : ℕ) → 0 < next → IsKept next g)
 empty-kept g none first last = grind arith
 
--- as many groups are listed as there are places
+-- the number of listed groups is the number of places
 pub length-listed : (next : ℕ) (g : OpenGroups) → IsKept next g → length (listed g) ≡ length g.groups.entries
 length-listed next g kept = by (places g) (λ at more. (kept.linked.within at more).0) ∙ kept.counted
   where
@@ -323,7 +323,7 @@ module _ (next : ℕ) (g s : OpenGroups) (at : ℕ) (xs ys : List ℕ) (kept : I
     pub groups-left : groups_at (item_at s) (xs ++ ys) ≡ groups_at (item_at g) xs ++ groups_at (item_at g) ys
     groups-left = groups-same (item_at g) (item_at s) (xs ++ ys) (λ j more. r.items j) ∙ groups-append (item_at g) xs ys
 
-    -- what was last among the others is a place
+    -- the last of the others is a place
     pub last-place : IsPlace n s.last
     last-place = leads-place n s.last nowhere (behind_of s) (λ j o p. beside-past (λ l. l.behind) s.first s.groups.entries j o (omega (arith, p, r.count))) (linked-left.forth nowhere (λ e. omega (arith, low, kept.few, e))).0 (inr refl)
 
@@ -343,7 +343,7 @@ module _ (next : ℕ) (g s : OpenGroups) (at : ℕ) (xs ys : List ℕ) (kept : I
         (subst (RiseBelow 1 next) (sym groups-left) rise-left) told in
         (all.0, all.1 ∙ ap (λ gs. gs ++ group_at (k, w.group) ∷ []) groups-left)
 
-    -- the last entry takes its place
+    -- the group is removed, and the last entry takes its place
     module _ (t : OpenGroups) (m : ℕ) (left : AreLeft s.groups.entries t.groups.entries m at) (first : t.first ≡ s.first) (last : t.last ≡ s.last) where
       many : n ≡ suc m
       many = sym r.count ∙ left.was
@@ -373,7 +373,7 @@ module _ (next : ℕ) (g s : OpenGroups) (at : ℕ) (xs ys : List ℕ) (kept : I
           let k = kept-by next t (xs ++ ys) (omega (arith, small, left.is)) (subst (λ k. AreLinked k k (behind_of t) (before_of t) (xs ++ ys)) (sym left.is) l) (omega (arith, counted-left, many, left.is)) (subst (RiseBelow 1 next) (sym groups) rise-left) in
           (k.0, k.1 ∙ groups)
 
-      -- what stands beside the last entry are places without it
+      -- the places beside the last entry are places without it
       pub moved-places : at < m → IsPlace m (before_of s m) × IsPlace m (behind_of s m)
       moved-places less = (
         place (before_of s) (behind_of s) (λ j o p. beside-past (λ l. l.behind) s.first s.groups.entries j o (omega (arith, p, left.was))) (linked-left.forth m other).0 (λ e. loop (sym (ap (behind_of s) e) ∙ (linked-left.forth m other).0)),
@@ -413,7 +413,7 @@ module _ (next : ℕ) (g s : OpenGroups) (at : ℕ) (xs ys : List ℕ) (kept : I
           named j o (inl e) = ap (item_at t) (ap (λ b. cond b at j) (eq-eqb j m e)) ∙ ap (option_map item) (left.here less) ∙ ap (item_at s) (sym e)
           named j o (inr e) = ap (item_at t) (ap (λ b. cond b at j) (ne_eqb j m e)) ∙ ap (option_map item) (left.others j o e)
 
--- ---- an entry told what stands beside it
+-- ---- an entry with a new neighbour
 
 pub entry-at : (es : Entries) (at : ℕ) (v : Linked) → slice_get (values_of es) at ≡ Some v → (k : FrameKey) × (slice_get es at ≡ Some (k, v))
 entry-at [] at v h = absurd (none-some v h)
@@ -481,7 +481,7 @@ module _ (next : ℕ) (g : OpenGroups) (at : ℕ) (xs ys : List ℕ) (kept : IsK
         rear = unchanged-groups ys in-order.1;
       }
 
--- ---- an end told
+-- ---- an end with a new neighbour
 
 module _ (g : OpenGroups) (at to : ℕ) (past : length g.groups.entries ≤ at) (is : IsPlace (length g.groups.entries) at) where
   pub told-first : AreRelinked g (record g { first = to }) (put at to (behind_of g)) (before_of g)
@@ -490,6 +490,6 @@ module _ (g : OpenGroups) (at to : ℕ) (past : length g.groups.entries ≤ at) 
   pub told-last : AreRelinked g (record g { last = to }) (behind_of g) (put at to (before_of g))
   told-last = grind arith
 
--- one told on each side
+-- a new neighbour on each side
 pub both-told : (g s t : OpenGroups) (b x h y : ℕ) → AreRelinked g s (put b x (behind_of g)) (before_of g) → AreRelinked s t (behind_of s) (put h y (before_of s)) → AreRelinked g t (put b x (behind_of g)) (put h y (before_of g))
 both-told g s t b x h y one two = grind arith

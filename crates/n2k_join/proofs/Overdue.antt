@@ -1,4 +1,4 @@
--- What is broken at a line: the groups whose window ends there, and then the one that a frame can't join.
+-- The groups broken at a line: the groups whose window ends there, then the group that a frame can't join.
 use Rattle.std.proofs.Common.{◌≡◌, ◌≤◌, ◌<◌, ◌+◌, ℕ, Bool, true, false, cond, List, [], ◌∷◌, ◌++◌, length, map, refl, ap, ◌∙◌, arith, Some, None, option_map, option_to_list, filter_map, length-append}
 use Rattle.std.specs.List.{cons_option, AllByRecursion}
 use Rattle.std.proofs.lemmas.Bool.{eq-eqb, ne_eqb, lt-leb, le-leb, ltb-true, ltb-false, or_right}
@@ -39,19 +39,19 @@ module _ (w : Window) (some : 0 < w.lines) where
   pub breaks-later : (x : Frame) (o : Group) → IsOpen o → is_waiting w x.line o ≡ true → breaks w some x o ≡ cond (same_key x.key o.key) (misfits w (held_of o) x) false
   breaks-later x o is e = grind (arith, ne_eqb, waits-ends)
 
-  -- ---- the groups that are told
+  -- ---- the groups that are reported
 
   told-none : (t : Group → Bool) (gs : List Group) → AllByRecursion (λ o. t o ≡ false) gs → filter_map (told_if w some t) gs ≡ []
   told-none t [] all = refl
   told-none t (g ∷ gs) all = ap (λ b. cons_option (cond b (Some (as_broken g)) None) (filter_map (told_if w some t) gs)) all.0 ∙ told-none t gs all.1
 
-  -- groups whose window had ended before aren't
+  -- groups whose window had ended before are not reported
   pub told-waiting : (n : ℕ) (t : Group → Bool) (gs : List Group) → ((o : Group) → is_waiting w n o ≡ false → t o ≡ false) → filter_map (told_if w some t) gs ≡ filter_map (told_if w some t) (waiting w n gs)
   unfolding waiting
   told-waiting n t [] past = refl
   told-waiting n t (g ∷ gs) past = grind (arith, told-waiting n t gs past)
 
-  -- Those whose window ends at the line are a front of the groups, since their first lines rise.
+  -- The groups whose window ends at the line are a prefix of the groups, since first lines rise.
   pub told-front : (n least : ℕ) (t : Group → Bool) (gs : List Group) → AllByRecursion (λ o. is_waiting w (n + 1) o ≡ false → t o ≡ true) gs → Rise (λ (g : Group). g.first) least gs
       → filter_map (told_if w some t) gs ≡ map as_broken (ended w (n + 1) gs) ++ filter_map (told_if w some t) (waiting w (n + 1) gs)
   unfolding waiting ended
@@ -68,7 +68,7 @@ module _ (w : Window) (some : 0 < w.lines) where
   others-quiet x [] each wait others = tt
   others-quiet x (g ∷ gs) each wait others = (breaks-later x g each.0 wait.0 ∙ ap (λ b. cond b (misfits w (held_of g) x) false) others.0, others-quiet x gs each.1 wait.1 others.1)
 
-  -- a frame breaks the one of its key, where it has its number
+  -- a frame breaks the group of its key, if that has its number
   pub one-broken : (x : Frame) (gs : List Group) → AllByRecursion IsOpen gs → AllByRecursion (λ o. is_waiting w x.line o ≡ true) gs → AllByRecursion (λ (o : Group). o.first < x.line) gs → AreApart gs
       → filter_map (told_if w some (breaks w some x)) gs ≡ option_to_list (lost w.in_order x (of_the_key x.key gs))
   one-broken x [] each wait begun apart = refl
@@ -108,7 +108,7 @@ module _ (w : Window) (some : 0 < w.lines) where
   broken-go x [] each wait = omega arith
   broken-go x (g ∷ gs) each wait = grind (arith, broken-go x gs each.1 wait.1, breaks-later, with_frame)
 
-  -- so a frame leaves and breaks one more at most than there were
+  -- a frame leaves and breaks at most one group more than there were
   pub advanced-counted : (x : Frame) (gs : List Group) → AllByRecursion IsOpen gs → AllByRecursion (λ o. is_waiting w x.line o ≡ true) gs
       → length (filter_map (told_if w some (breaks w some x)) gs) + length (advanced (within w) gs x) ≤ length gs + 1
   unfolding advanced

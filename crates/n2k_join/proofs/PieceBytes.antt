@@ -22,7 +22,7 @@ pub later_bytes : (payload behind seven : List ℕ) (n first : ℕ) → first + 
 unfolding piece_bytes
 later_bytes payload behind seven n first e rest enough is = grind (arith, window (length payload ∷ payload) (suc first) 7 (omega (arith, (ap length rest ∙ length-drop first payload), enough)))
 
--- frame 0, where the data fill it
+-- frame 0, if the data fill it
 pub first_bytes : (payload six : List ℕ) → 6 ≤ length payload → six ≡ take 6 payload → length payload ∷ get_or six 0 0 ∷ get_or six 1 0 ∷ get_or six 2 0 ∷ get_or six 3 0 ∷ get_or six 4 0 ∷ get_or six 5 0 ∷ [] ≡ piece_bytes payload 0
 first_bytes [] six enough is = absurd (omega (arith, enough))
 first_bytes (a ∷ []) six enough is = absurd (omega (arith, enough))

@@ -1,4 +1,4 @@
--- What a frame that is a piece of a message says of it.
+-- The parts of a frame that is a piece of a message.
 use Rattle.std.proofs.Common.{◌≡◌, ℕ, ◌+◌, ◌*◌, ◌<◌, ◌≤◌, true, not, ◌||◌, List, ◌∷◌, length, refl, arith, ◌==◌}
 use Rattle.std.proofs.lemmas.Option.{none-some}
 use Rattle.n2k_wire.specs.Packet.{longest_message}
@@ -23,7 +23,6 @@ total_fits : (payload : List ℕ) (h n : ℕ) → h ≡ 0 → n ≡ 0 → not (h
 unfolding piece_bytes
 total_fits payload h n e f t = grind arith
 
--- the frame that a piece gives, where it gives one
 abbrev pub given_frame : Sending → ℕ → ℕ → Frame
 given_frame x line n = frame_with line (piece x.message x.sequence n) (32 * x.sequence + n) (piece_bytes x.message.payload n)
 

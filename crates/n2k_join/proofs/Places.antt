@@ -1,4 +1,4 @@
--- A list of places: one put behind the last, one taken out, and the last place moved into that of one taken out.
+-- A list of places: one appended, one removed, and the last place moved to a removed one.
 use Rattle.std.proofs.Common.{◌≡◌, ℕ, zero, suc, ◌+◌, ◌<◌, ◌≤◌, ◌==◌, ◌⊎◌, inl, inr, Bool, true, false, cond, List, [], ◌∷◌, ◌++◌, map, refl, sym, ap, ◌∙◌, subst, arith, append-nil}
 use Rattle.std.proofs.lemmas.Bool.{cases_eq, eqb-true, eq-eqb, ne_eqb, cases_lt}
 use Rattle.n2k_join.specs.Inner.Places.{nowhere, Path, times, AreLinked, put}
@@ -44,7 +44,7 @@ path-from : (f : ℕ → ℕ) (a : ℕ) (xs : List ℕ) (p : ℕ) (ys : List ℕ
 path-from f a [] p ys z h r = (h, r)
 path-from f a (x ∷ xs) p ys z h r = (h.0, path-from f x xs p ys z h.1 r)
 
--- no place stands behind itself
+-- no place is after itself
 pub no-loop : (f : ℕ → ℕ) (j a : ℕ) (xs : List ℕ) (z : ℕ) → Path f a xs z → f j ≡ j → times j xs ≡ 1 → z ≡ j
 no-loop f j a [] z h e t = absurd (omega (arith, t))
 no-loop f j a (x ∷ xs) z h e t = by (x == j) refl t (no-loop f j x xs z h.1 e)
@@ -57,19 +57,19 @@ no-loop f j a (x ∷ xs) z h e t = by (x == j) refl t (no-loop f j x xs z h.1 e)
     by true s t rest = here xs (subst (λ i. Path f i xs z) (eqb-true x j s) h.1) (omega (arith, t))
     by false s t rest = rest (omega (arith, t))
 
--- A path whose places but for `but` go on as they went, where what led to t now leads to u.
+-- A path that is unchanged except at `but`, and leads to u instead of t.
 path-changed : (f f' : ℕ → ℕ) (but t u : ℕ) → ((j : ℕ) → (j ≡ but → ⊥) → f j ≡ t → f' j ≡ u) → ((j : ℕ) → (j ≡ but → ⊥) → (f j ≡ t → ⊥) → f' j ≡ f j)
     → (a : ℕ) (xs : List ℕ) → (a ≡ but → ⊥) → times but xs ≡ 0 → times t xs ≡ 0 → Path f a xs t → Path f' a xs u
 path-changed f f' but t u at other a [] n b c h = at a n h
 path-changed f f' but t u at other a (x ∷ xs) n b c h = grind (arith, path-changed f f' but t u at other x xs (not-first x but xs b) (omega (arith, b)) (omega (arith, c)) h.1)
 
--- and one that doesn't lead there
+-- A path that is unchanged except at `but`, and doesn't lead to t.
 path-same : (f f' : ℕ → ℕ) (but t : ℕ) → ((j : ℕ) → (j ≡ but → ⊥) → (f j ≡ t → ⊥) → f' j ≡ f j)
     → (a : ℕ) (xs : List ℕ) (z : ℕ) → (a ≡ but → ⊥) → (z ≡ t → ⊥) → times but xs ≡ 0 → times t xs ≡ 0 → Path f a xs z → Path f' a xs z
 path-same f f' but t other a [] z n m b c h = other a n (λ e. m (sym h ∙ e)) ∙ h
 path-same f f' but t other a (x ∷ xs) z n m b c h = grind (arith, path-same f f' but t other x xs z (not-first x but xs b) m (omega (arith, b)) (omega (arith, c)) h.1)
 
--- ---- what stands beside a place
+-- ---- the places beside a place
 
 pub put-here : (at to : ℕ) (f : ℕ → ℕ) (j : ℕ) → j ≡ at → put at to f j ≡ to
 put-here at to f j e = ap (λ b. cond b to (f j)) (eq-eqb j at e)
@@ -77,7 +77,7 @@ put-here at to f j e = ap (λ b. cond b to (f j)) (eq-eqb j at e)
 pub put-other : (at to : ℕ) (f : ℕ → ℕ) (j : ℕ) → (j ≡ at → ⊥) → put at to f j ≡ f j
 put-other at to f j e = ap (λ b. cond b to (f j)) (ne_eqb j at e)
 
--- A place is what stands on the other side of what stands on one side, and that isn't `but`.
+-- Going to one side of a place and back gives the place, and the place on that side isn't `but`.
 abbrev pub Inverse : (ℕ → ℕ) → (ℕ → ℕ) → ℕ → Type 0
 Inverse f g but = (j : ℕ) → (j ≡ but → ⊥) → (g (f j) ≡ j) × (f j ≡ but → ⊥)
 
@@ -102,7 +102,7 @@ between f g p n u v back gv pu pv pn vn gn j other = grind arith
 abbrev pub renamed : ℕ → ℕ → ℕ → ℕ
 renamed m p j = cond (j == m) p j
 
--- the last one, m, is at p, and what stands beside it on the other side is told so
+-- the last place, m, is at p, and the place beside it on the other side points to p
 module _ (f g f1 : ℕ → ℕ) (p m : ℕ) (back : Inverse f g p) (forth : Inverse g f p) (loop : f m ≡ m → ⊥) (pm : p ≡ m → ⊥)
     (here : f1 p ≡ f m) (others : (j : ℕ) → (j ≡ p → ⊥) → (j ≡ m → ⊥) → f1 j ≡ f j) where
   abbrev pub told : ℕ → ℕ
@@ -114,7 +114,7 @@ module _ (f g f1 : ℕ → ℕ) (p m : ℕ) (back : Inverse f g p) (forth : Inve
 -- ---- taken out
 
 module _ (n : ℕ) (f g : ℕ → ℕ) (xs : List ℕ) (p : ℕ) (ys : List ℕ) (few : n < nowhere) (fn : f n ≡ n) (gn : g n ≡ n) where
-  -- where none is left out, each has its inverse
+  -- if no place is left out, each has its inverse
   all-back : (f g : ℕ → ℕ) → f n ≡ n → g n ≡ n → Inverse f g n → (j : ℕ) → g (f j) ≡ j
   all-back f g fn gn back j = grind arith
 
@@ -153,7 +153,7 @@ module _ (n : ℕ) (f g : ℕ → ℕ) (xs : List ℕ) (p : ℕ) (ys : List ℕ)
       once = λ at low other. omega (arith, l.once at low (λ e. omega (arith, low, e)), times-append at xs ys, times-append at xs (p ∷ ys), times-other p at ys (λ e. other (sym e)));
     }
 
--- ---- put behind the last
+-- ---- appended to the list
 
 module _ (n : ℕ) (f g : ℕ → ℕ) (p : ℕ) (order : List ℕ) (low : p < n) (few : n < nowhere) (fn : f n ≡ n) (gn : g n ≡ n) (l : AreLinked n p f g order) where
   abbrev last : ℕ
@@ -197,7 +197,7 @@ path-renamed f f' r but h a [] z n t p = h a n ∙ ap r p
 path-renamed f f' r but h a (x ∷ xs) z n t p = (h a n ∙ ap r p.0, path-renamed f f' r but h x xs z (not-first x but xs t) (omega (arith, t)) p.1)
 
 module _ (m : ℕ) (f g f1 g1 : ℕ → ℕ) (order : List ℕ) (few : suc m < nowhere) where
-  -- where it is the one that was taken out
+  -- the last place is the removed one
   pub dropped : ((j : ℕ) → (j ≡ m → ⊥) → f1 j ≡ f j) → ((j : ℕ) → (j ≡ m → ⊥) → g1 j ≡ g j) → AreLinked (suc m) m f g order → AreLinked m m f1 g1 order
   dropped fs gs l = record {
     path = path-same f f1 m m (λ j i e. fs j i) nowhere order nowhere (λ e. omega (arith, few, e)) (λ e. omega (arith, few, e)) none none l.path;

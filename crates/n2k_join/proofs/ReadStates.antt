@@ -1,5 +1,5 @@
--- What holds of a state that is read: its groups are of fast PGNs of the table that it was read with, its rules are
--- those that the state of a join keeps, and few groups are open.
+-- Properties of a state that was read: its groups are of fast PGNs of its table, it satisfies the rules of a join's
+-- state, and few groups are open.
 use Rattle.std.proofs.Common.{◌≡◌, ◌==◌, ℕ, true, List, [], ◌∷◌, length, Option, Some, Ok, IfOk, ◌≤◌, ◌+◌, sym, subst, arith, ◌<◌, All, not, IfSome}
 use Rattle.std.specs.List.{list_any, AllByRecursion}
 use Rattle.std.specs.Str.{bytes_eq}
@@ -49,13 +49,13 @@ pub valid-fast : (kind : ℕ → Option Kind) (s : State) → is_valid kind s �
 unfolding is_valid
 valid-fast kind s h = groups-fast kind s.groups (and_parts (firsts_rise 1 s.counts.lines s.groups) (groups_hold kind s.groups) (and_parts (counts_hold s.counts) _ h).1).1
 
--- a text that spells a state of the format that tells its window, read as that format
+-- a text that describes a state with its window is read in that format
 told_format : (o : Option Data) (d : Data) (format : StateFormat) → or_cause NotJson o ≡ Ok d → format_in d ≡ Ok format
     → IfSome o (λ d. format_in d ≡ Ok WithWindow) → format ≡ WithWindow
 told_format o d format read is with_window = grind arith
 
--- A text that is read spells a state of the table and the window that were handed in, which keeps the rules.
--- Where it tells its window, no group's window has ended.
+-- A text that is read describes a valid state of the given table and window. If the text has its window, no group's
+-- window has ended.
 pub record IsRead (kind : ℕ → Option Kind) (id : List ℕ) (w : Window) (bytes : List ℕ) (s : State) : Type 0 where
   pub same_table : s.id ≡ id
   pub same_window : s.window ≡ w
@@ -87,14 +87,14 @@ pub read-spelled : (kind : ℕ → Option Kind) (id : List ℕ) (w : Window) (by
     → IsRead kind id w bytes s
 read-spelled kind id w bytes s is = grind (arith, reads kind id w bytes)
 
--- what is saved after a log reads back
+-- the state saved after a log reads back
 pub log_back : (kind : ℕ → Option Kind) (id : List ℕ) (w : Window) (es : List Entry) → IsWindow w.lines → IsId id → All IsEntry es → length es ≤ most_lines
     → resumed kind id w (state_text (state id w kind es)) ≡ Ok (state id w kind es)
 log_back kind id w es window is valid few =
     let stands = state-valid id w kind es window (recursion_from_All IsEntry es valid) few in
     state_back kind (state id w kind es) stands.valid stands.fast is
 
--- ---- the rules of a valid state, as they are asked, and those that the state of a join keeps
+-- ---- the rules that reading tests are the rules of a join's state
 
 key_from : (kind : ℕ → Option Kind) (k : Key) → key_holds kind k ≡ true → IsKey k
 unfolding key_holds
@@ -128,7 +128,7 @@ rules-one kind s is = grind (arith, valid-state, valid-fast, state_valid, in_tim
 pub read-state : (kind : ℕ → Option Kind) (id : List ℕ) (w : Window) (bytes : List ℕ) (s : State) → IsWindow w.lines → resumed kind id w bytes ≡ Ok s → IsState s
 read-state kind id w bytes s window is = grind (arith, read-spelled kind id w bytes s is, valid-state)
 
--- ---- what it holds at the most
+-- ---- the limits of its groups
 
 few-frames : (gs : List Group) → AllByRecursion IsOpen gs → AllByRecursion (λ (g : Group). length g.pieces ≤ most_frames) gs
 few-frames gs each = all-map IsOpen (λ (g : Group). length g.pieces ≤ most_frames) gs (λ g is. let few = rise-few (λ (p : Piece). p.number) 0 most_frames g.pieces is.rise is.numbers in omega (arith, few)) each

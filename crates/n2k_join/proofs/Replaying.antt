@@ -25,7 +25,7 @@ use Rattle.n2k_join.specs.Window.{Window}
 use Rattle.n2k_join.specs.State.{Rise}
 use Rattle.n2k_join.proofs.Carried.{option_or_none}
 
--- the sending whose group's last frame stands at the line
+-- the sending whose group's last frame is at the line
 unfoldable at_line : List Sending → List (List Frame) → ℕ → Option Sending
 at_line [] gs line = None
 at_line (x ∷ xs) [] line = None
@@ -59,7 +59,7 @@ read_off R n (suc count) (x ∷ xs) (g ∷ gs) each rise within = by_place (case
 abbrev keyed : Key → Sending → Keyed
 keyed k x = record { key = k; message = x.message }
 
--- what is of the key
+-- the message, if it has the key
 abbrev kept : Key → Option Keyed → Option Keyed
 kept k o = option_and_then (λ (m : Keyed). if same_key k m.key then Some m else None) o
 
@@ -74,11 +74,11 @@ at_line-cases gives k [] (g ∷ gs) line each = absurd each
 at_line-cases gives k (x ∷ xs) [] line each = absurd each
 at_line-cases gives k (x ∷ xs) (g ∷ gs) line each = grind (arith, at_line-cases gives k xs gs line each.1, cases_eq, eq-eqb, ne_eqb)
 
--- what a frame gathers of the group that it completes
+-- the message that a frame gathers of the group that it completes
 abbrev made : Frame → Option (List Frame) → Option Keyed
 made f o = option_map (λ group. record { key = f.key; message = message_of f group }) o
 
--- where no group of the key ends at the line, the line gathers nothing of the key
+-- if no group of the key ends at the line, the line gathers nothing of the key
 none_of_key : (ends : EndTest) (fs : List Frame) (k : Key) (gs : List (List Frame)) (line : ℕ) → cut ends (of_key k fs) ≡ gs → AllByRecursion (λ g. (last_line g == line) ≡ false) gs → kept k (gathered ends fs line) ≡ None
 unfolding gathered
 none_of_key ends fs k gs line cut_is none = by_frame (frame_at line fs) refl
@@ -108,7 +108,7 @@ lasts_rise n (g ∷ gs) some rise = grind (arith, lasts_rise (last_line g + 1) g
 comes-within : (ends : EndTest) (kind : ℕ → Option Kind) (es : List Entry) (k : Key) (x : Sending) (g : List Frame) → Comes ends kind es k x g → last_line g < 1 + length es
 comes-within ends kind es k x g comes = grind (arith, last_frame, find-all, frames-below)
 
--- of a key a line gathers what is sent under the key and ends there
+-- a line gathers, of a key, the sending under the key that ends there
 line_of_key : (ends : EndTest) (kind : ℕ → Option Kind) (ms : List PacketParts) (es : List Entry) (k : Key) (at : Settled ends kind ms es k) (i : ℕ) → kept k (gathered ends (frames kind es) i) ≡ option_map (keyed k) (at_line (sendings_of k ms) at.groups i)
 line_of_key ends kind ms es k at i = by_line (at_line-cases (gathered ends (frames kind es)) k (sendings_of k ms) at.groups i (zip-map (Comes ends kind es k) _ (gathers ends kind es k) (sendings_of k ms) at.groups at.each))
   where
@@ -118,7 +118,7 @@ line_of_key ends kind ms es k at i = by_line (at_line-cases (gathered ends (fram
     by_line : AtLine (gathered ends (frames kind es)) k (sendings_of k ms) at.groups i → kept k (gathered ends (frames kind es) i) ≡ option_map (keyed k) (at_line (sendings_of k ms) at.groups i)
     by_line h = grind (arith, own, none_of_key)
 
--- what the groups of a key give, is what was sent under it, in order
+-- the groups of a key give the messages that were sent under it, in order
 pub gathered_of_key : (ends : EndTest) (kind : ℕ → Option Kind) (ms : List PacketParts) (es : List Entry) (k : Key) → Settled ends kind ms es k → filter (λ (m : Keyed). same_key k m.key) (filter_map (gathered ends (frames kind es)) (numbers es)) ≡ map (keyed k) (sendings_of k ms)
 gathered_of_key ends kind ms es k at = grind (arith, zip-all (Comes ends kind es k) (λ g. last_line g < 1 + length es) (comes-within ends kind es k) (sendings_of k ms) at.groups at.each, filter-filter_map k (gathered ends (frames kind es)) (numbers es), map-filter_map (keyed k) (at_line (sendings_of k ms) at.groups) (numbers es), lasts_rise 1 at.groups at.nonempty at.rise, line_of_key, read_off)
 
@@ -129,7 +129,7 @@ messages-keyed k (x ∷ xs) = ap (λ l. x.message ∷ l) (messages-keyed k xs)
 pub gives_in_order : (w : Window) (kind : ℕ → Option Kind) (ms : List PacketParts) (es : List Entry) → IsScattered w kind ms es → (k : Key) → given_to k w kind es ≡ sent_to k ms
 gives_in_order w kind ms es scattered k = ap (map (λ (m : Keyed). m.message)) (gathered_of_key (within w) kind ms es k (settles w kind ms es scattered k)) ∙ messages-keyed k (sendings_of k ms)
 
--- where no entry gives a message alone, every message is a group's
+-- if no entry gives a message alone, every message is a group's
 entry-mute : (kind : ℕ → Option Kind) (es : List Entry) (i : ℕ) → AllByRecursion (λ (e : Entry). alone kind e ≡ None) es → option_and_then (alone kind) (slice_get es i) ≡ None
 entry-mute kind [] i mute = refl
 entry-mute kind (e ∷ es) zero mute = mute.0
@@ -146,7 +146,7 @@ length-sendings : (earlier ms : List PacketParts) → length (sendings_after ear
 length-sendings earlier [] = refl
 length-sendings earlier (m ∷ ms) = ap suc (length-sendings (earlier ++ m ∷ []) ms)
 
--- as many as were sent
+-- as many messages are gathered as were sent
 pub gathers_all : (w : Window) (kind : ℕ → Option Kind) (ms : List PacketParts) (es : List Entry) → IsScattered w kind ms es → length (gathered_messages w kind es) ≡ length ms
 gathers_all w kind ms es scattered =
     same_length (λ (m : Keyed). m.key) key_of_sending (length (gathered_messages w kind es)) (gathered_messages w kind es) (sendings ms) (omega arith)

@@ -1,4 +1,4 @@
--- What open groups hold is read back: frames held of groups have these groups open.
+-- The frames held of open groups have these groups open.
 use Rattle.std.proofs.Common.{◌≡◌, ◌==◌, ◌≤◌, ◌<◌, ◌+◌, ℕ, true, false, cond, List, [], ◌∷◌, ◌++◌, length, reverse, refl, sym, ap, ◌∙◌, subst, arith, Option, Some, None, option_map, option_and_then, append-nil}
 use Rattle.std.specs.Option.{option_or}
 use Rattle.std.specs.List.{AllByRecursion}
@@ -18,7 +18,7 @@ use Rattle.n2k_join.proofs.Rising.{find-passes, find-all, find-none, look, look-
 abbrev pub first_of : Group → ℕ
 first_of o = o.first
 
--- what holds of each frame that is held of a group
+-- a property of each held frame of a group
 pub held_of-all : (P : Frame → Type 0) (Q : Piece → Type 0) (o : Group) → ((p : Piece) → Q p → P (held_frame o p)) → AllByRecursion Q o.pieces → AllByRecursion P (held_of o)
 held_of-all P Q o each all = all-held P Q o each (reverse o.pieces) (all-reverse Q o.pieces all)
 
@@ -37,7 +37,7 @@ pub key_at-held : (i : ℕ) (gs : List Group) → AllByRecursion IsOpen gs → k
 key_at-held i [] all = refl
 key_at-held i (g ∷ gs) all = grind (arith, key_at-held i gs all.1, key_at-append i (held_of g) (held gs), key_at-one i g.first g.key (held_of g) (held_of-any (λ (f : Frame). (f.line ≡ g.first) × (f.key ≡ g.key)) g (λ p. (refl, refl))) (omega (arith, all.0.nonempty, length-held g g.pieces)))
 
--- what groups hold is a log
+-- the held frames of groups are a log
 pub held-log : (n : ℕ) (gs : List Group) → AreOpen n gs → IsLog n (held gs)
 held-log n gs are = record {
   lines = all-flat_map _ held_of gs (all-map _ _ gs (λ g h. held_of-any (λ (f : Frame). (1 ≤ f.line) × (f.line ≤ n)) g (λ p. h)) (all-zip (λ (g : Group). 1 ≤ g.first) (λ (g : Group). g.first ≤ n) gs (rise-least first_of 1 gs are.rise) are.begun));
@@ -52,7 +52,7 @@ held-other k gs all = of_key-none k (held gs) (all-flat_map _ held_of gs (all-ma
 held-same : (g : Group) → of_key g.key (held_of g) ≡ held_of g
 held-same g = of_key-all g.key (held_of g) (held_of-any (λ (f : Frame). same_key g.key f.key ≡ true) g (λ p. same_key-refl g.key))
 
--- those of a group's key are its own
+-- the held frames of a group's key are its own
 pub held-own : (gs : List Group) → AreApart gs → AllByRecursion (λ (g : Group). of_key g.key (held gs) ≡ held_of g) gs
 held-own [] apart = tt
 held-own (g ∷ gs) apart = (
@@ -77,7 +77,7 @@ module _ (ends : EndTest) (is_ending : IsEnding ends) where
       by : (o : Option Group) → look first_of gs i ≡ o → option_and_then (λ (k : Key). open_at ends is_ending k (held gs) i) (option_map (λ (o : Group). o.key) o) ≡ o
       by o e = grind (arith, eqb-true, find-passes, find-all, open_of-held, eq-eqb, group_of-held)
 
-  -- what groups hold has these groups open
+  -- the held frames of groups have these groups open
   pub open_groups-held : (n : ℕ) (gs : List Group) → AreOpen n gs → open_groups ends n (held gs) ≡ gs
   unfolding open_groups
   open_groups-held n gs are = grind (arith, look-range first_of 1 n gs are.rise (all-map (λ (g : Group). g.first ≤ n) (λ (g : Group). g.first < 1 + n) gs (λ g l. omega (arith, l)) are.begun), begun_at-held)

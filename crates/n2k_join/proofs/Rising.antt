@@ -1,4 +1,4 @@
--- Lists whose numbers rise strictly: looked up by number and read off a range of numbers.
+-- Lists whose numbers rise strictly: look-up by number, and values over a range of numbers.
 use Rattle.std.proofs.Common.{◌≡◌, ◌==◌, ◌≤◌, ◌<◌, ◌+◌, ℕ, suc, zero, Bool, true, false, cond, List, [], ◌∷◌, ◌++◌, refl, ap, ◌∙◌, arith, Option, Some, None, filter_map, find, option_and_then, option_to_list, flat_map, option_map, length, filter, IfSome, is_some}
 use Rattle.std.specs.List.{range_with_len, cons_option, AllByRecursion, list_any, last_or, list_all}
 use Rattle.std.proofs.lemmas.List.Elements.{filter_map-append}
@@ -21,12 +21,12 @@ range-push a n = range-append a n 1
 pub filter_map-push : {X Y : Type 0} (h : X → Option Y) (xs : List X) (x : X) → filter_map h (xs ++ x ∷ []) ≡ filter_map h xs ++ option_to_list (h x)
 filter_map-push h xs x = filter_map-append h xs (x ∷ []) ∙ ap (λ t. filter_map h xs ++ t) (elim (h x) as (λ o. cons_option o [] ≡ option_to_list o) [ None ↦ refl | Some y ↦ refl ])
 
--- where nothing is given
+-- no values are given
 pub filter_map-none : {X Y : Type 0} (h : X → Option Y) → ((x : X) → h x ≡ None) → (xs : List X) → filter_map h xs ≡ []
 filter_map-none h e [] = refl
 filter_map-none h e (x ∷ xs) = rw (e x) (filter_map-none h e xs)
 
--- where a value is made of an option, the option has one that it is made of
+-- if a value is made of an option, the option has an item that makes it
 pub option_map_some : {X Y P : Type 0} (f : X → Y) (o : Option X) (y : Y) → option_map f o ≡ Some y
     → ((x : X) → o ≡ Some x → f x ≡ y → P) → P
 option_map_some f o y e given = grind arith
@@ -39,32 +39,32 @@ pub filter_map-fused : {X Y Z : Type 0} (t : Y → Option Z) (h : X → Option Y
 filter_map-fused t h [] = refl
 filter_map-fused t h (x ∷ xs) = grind (arith, filter_map-fused t h xs)
 
--- what agrees at each number of a range gives the same of it
+-- functions that agree on a range give the same list
 pub filter_map-range : {Y : Type 0} (h k : ℕ → Option Y) (a n : ℕ) → ((i : ℕ) → a ≤ i → i < a + n → h i ≡ k i) → filter_map h (range_with_len a n) ≡ filter_map k (range_with_len a n)
 filter_map-range h k a zero e = refl
 filter_map-range h k a (suc n) e = grind (arith, filter_map-range h k (a + 1) n (λ i l u. e i (omega arith) (omega arith)))
 
--- what is found passes the test
+-- a found item passes the test
 pub find-passes : {X : Type 0} (p : X → Bool) (xs : List X) (x : X) → find p xs ≡ Some x → p x ≡ true
 find-passes p [] x e = absurd (none-some x e)
 find-passes p (y ∷ ys) x e = grind (arith, find-passes p ys x)
 
--- what holds of all holds of what is found
+-- a property of all items holds of a found item
 pub find-all : {X : Type 0} (P : X → Type 0) (p : X → Bool) (xs : List X) (x : X) → AllByRecursion P xs → find p xs ≡ Some x → P x
 find-all P p [] x all e = absurd (none-some x e)
 find-all P p (y ∷ ys) x all e = grind (arith, find-all P p ys x all.1)
 
--- where nothing passes, nothing is found
+-- if nothing passes, nothing is found
 pub find-none : {X : Type 0} (p : X → Bool) (xs : List X) → AllByRecursion (λ x. p x ≡ false) xs → find p xs ≡ None
 find-none p [] all = refl
 find-none p (x ∷ xs) all = ap (λ b. cond b (Some x) (find p xs)) all.0 ∙ find-none p xs all.1
 
--- nothing is found where nothing passes
+-- if nothing is found, nothing passes
 pub passes_none : {X : Type 0} (p : X → Bool) (xs : List X) → find p xs ≡ None → AllByRecursion (λ x. p x ≡ false) xs
 passes_none p [] e = tt
 passes_none {X} p (x ∷ xs) e = grind (arith, passes_none p xs, none-some)
 
--- where none passes, each fails
+-- if none passes, each fails
 pub none_any : {X : Type 0} (p : X → Bool) (xs : List X) → list_any p xs ≡ false → AllByRecursion (λ x. p x ≡ false) xs
 none_any p [] h = tt
 none_any p (x ∷ xs) h = let parts = or_parts _ _ h in (parts.0, none_any p xs parts.1)
@@ -93,7 +93,7 @@ pub all_with : {X : Type 0} (P Q R : X → Type 0) → ((x : X) → P x → Q x 
 all_with P Q R h [] p q = tt
 all_with P Q R h (x ∷ xs) p q = (h x p.0 q.0, all_with P Q R h xs p.1 q.1)
 
--- what holds of a value, where there is one
+-- a property of the value of an option, if it has one
 pub all-option : {X : Type 0} (P : X → Type 0) (o : Option X) → ((x : X) → o ≡ Some x → P x)
     → AllByRecursion P (option_to_list o)
 all-option P o each = grind arith
@@ -114,12 +114,12 @@ pub all-flat_map : {X Y : Type 0} (P : Y → Type 0) (f : X → List Y) (xs : Li
 all-flat_map P f [] all = tt
 all-flat_map P f (x ∷ xs) all = all-append P (f x) (flat_map f xs) all.0 (all-flat_map P f xs all.1)
 
--- what holds of all items, holds of those of each list
+-- a property of all items holds of the items of each list
 pub all-joined : {X : Type 0} (P : X → Type 0) (gs : List (List X)) → AllByRecursion P (flat_map (λ (g : List X). g) gs) → AllByRecursion (AllByRecursion P) gs
 all-joined P [] each = tt
 all-joined {X} P (g ∷ gs) each = grind (arith, all-joined P gs (all-back P g (flat_map (λ (g : List X). g) gs) each), all-front)
 
--- what holds of each, holds of the last
+-- a property of each item holds of the last
 pub last-all : {X : Type 0} (P : X → Type 0) (o : Option X) (xs : List X) → IfSome o P → AllByRecursion P xs → IfSome (last_or o xs) P
 last-all P o [] h all = h
 last-all P o (x ∷ xs) h all = last-all P (Some x) xs all.0 all.1
@@ -138,7 +138,7 @@ module _ {A : Type 0} (number : A → ℕ) where
   rise-least least [] r = tt
   rise-least least (x ∷ xs) r = (r.0, all-map (λ y. number x + 1 ≤ number y) (λ y. least ≤ number y) xs (λ y l. omega (arith, l, r.0)) (rise-least (number x + 1) xs r.1))
 
-  -- items without those before them, and some of the items
+  -- the later items of a rising list, and some of its items, rise
   pub rise-rest : (least : ℕ) (xs ys : List A) → Rise number least (xs ++ ys) → Rise number least ys
   rise-rest least [] ys r = r
   rise-rest least (x ∷ xs) ys r =
@@ -191,7 +191,7 @@ module _ {A : Type 0} (number : A → ℕ) where
   look-range a (suc n) [] r all = look-range (a + 1) n [] tt tt
   look-range a (suc n) (x ∷ xs) r all = grind (arith, look-range (a + 1) n xs, look-range (a + 1) n (x ∷ xs), all-map, eqb-true, filter_map-range, look-there, eqb-false, look-below)
 
-  -- what each number of a range gives rises, where it has that number
+  -- the values of the numbers of a range rise, if each has its number
   pub rise-range : (h : ℕ → Option A) → ((i : ℕ) (x : A) → h i ≡ Some x → number x ≡ i) → (least a n : ℕ) → least ≤ a → Rise number least (filter_map h (range_with_len a n))
   rise-range h is least a zero l = tt
   rise-range h is least a (suc n) l = by (h a) refl (λ k u. rise-range h is k (a + 1) n u)
@@ -199,7 +199,7 @@ module _ {A : Type 0} (number : A → ℕ) where
       by : (o : Option A) → h a ≡ o → ((k : ℕ) → k ≤ a + 1 → Rise number k (filter_map h (range_with_len (a + 1) n))) → Rise number least (cons_option o (filter_map h (range_with_len (a + 1) n)))
       by o e rest = grind arith
 
-  -- and it is found by its number
+  -- each value of the list is found by its number
   pub look-filter_map : (h : ℕ → Option A) → ((i : ℕ) (x : A) → h i ≡ Some x → number x ≡ i) → (a n i : ℕ) → a ≤ i → i < a + n → look (filter_map h (range_with_len a n)) i ≡ h i
   look-filter_map h is a zero i l u = absurd (omega arith)
   look-filter_map h is a (suc n) i l u = by (h a) refl (a == i) refl (λ l' u'. look-filter_map h is (a + 1) n i l' u')
@@ -210,12 +210,12 @@ module _ {A : Type 0} (number : A → ℕ) where
       by : (o : Option A) → h a ≡ o → (b : Bool) → (a == i) ≡ b → (a + 1 ≤ i → i < (a + 1) + n → look rest i ≡ h i) → look (cons_option o rest) i ≡ h i
       by o e b t later = grind (arith, eqb-true, look-below, rest, rise-range, eqb-false, look-here)
 
--- what holds of each that is given holds of all
+-- a property of each value of a list
 pub all-filter_map : {X Y : Type 0} (P : Y → Type 0) (h : X → Option Y) (xs : List X) → ((x : X) (y : Y) → h x ≡ Some y → P y) → AllByRecursion P (filter_map h xs)
 all-filter_map P h [] each = tt
 all-filter_map {Y = Y} P h (x ∷ xs) each = grind (arith, all-filter_map P h xs each)
 
--- the same, where the numbers of the range matter
+-- a property of the values of a range, if it depends on the range's limits
 pub all-range : {Y : Type 0} (P : Y → Type 0) (h : ℕ → Option Y) (a n : ℕ) → ((i : ℕ) (y : Y) → a ≤ i → i < a + n → h i ≡ Some y → P y) → AllByRecursion P (filter_map h (range_with_len a n))
 all-range P h a zero each = tt
 all-range {Y} P h a (suc n) each = grind (arith, all-range P h (a + 1) n (λ i y l u e. each i y (omega arith) (omega arith) e))

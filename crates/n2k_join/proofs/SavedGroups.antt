@@ -43,7 +43,7 @@ total_from (suc n) bs h e = absurd (omega (arith, e))
 
 -- ---- pieces that join a group by rising number
 
--- a piece behind those whose numbers are all smaller
+-- a piece appended to pieces with smaller numbers
 rise-last : (least : ℕ) (ps : List Piece) (p : Piece) → Rise number_of least ps → AllByRecursion (λ (q : Piece). q.number < p.number) ps → least ≤ p.number → Rise number_of least (ps ++ p ∷ [])
 rise-last least [] p rise below l = (l, tt)
 rise-last least (q ∷ ps) p rise below l = (rise.0, rise-last (q.number + 1) ps p rise.1 below.1 (omega (arith, below.0)))
@@ -52,7 +52,7 @@ rise-last least (q ∷ ps) p rise below l = (rise.0, rise-last (q.number + 1) ps
 pub carried-past : (o : Group) (ps : List Piece) (n : ℕ) → Rise number_of 0 ps → AllByRecursion (λ (q : Piece). q.number < n) ps → carried (held_frames o ps) n ≡ None
 carried-past o ps n rise below = grind (arith, carried-held, find-none, all-map)
 
--- The piece that follows those of a group is its last.
+-- A piece with a greater number than a group's becomes its last.
 pub piece-last : (o : Group) (ps : List Piece) (p : Piece) → o.pieces ≡ ps → Rise number_of 0 ps → AllByRecursion (λ (q : Piece). q.number < p.number) ps
     → AllByRecursion (λ (q : Piece). q.number < most_frames) ps → p.number < most_frames
     → pieces_of (held_of o ++ held_frame o p ∷ []) ≡ ps ++ p ∷ []
@@ -95,7 +95,6 @@ module _ (ps : List Piece) (i least : ℕ) (p : Piece) (lt : i < length ps) (at 
       → Rise number_of 0 (take i ps) → AllByRecursion (λ (x : Piece). x.number < least) (take i ps) → q ≡ record { first = first; key = key; pieces = take (i + 1) ps }
   kept-next o q r first key same is taken rise below = grind (arith, all-map, piece-last, take_next)
 
--- all are taken
 pub all-taken : (ps : List Piece) (i least : ℕ) → length ps ≤ i → pieces_rise least (drop i ps) ≡ pieces_rise 0 ps → pieces_rise 0 ps ≡ true
 unfolding pieces_rise
 all-taken ps i least end left = sym left ∙ ap (pieces_rise least) (drop_all i ps end)

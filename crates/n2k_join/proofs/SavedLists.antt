@@ -18,7 +18,7 @@ pub elements-items_of : (ds : List Data) → values_in (items_of ds) ≡ ds
 elements-items_of [] = refl
 elements-items_of (d ∷ ds) = ap (λ rest. d ∷ rest) (elements-items_of ds)
 
--- what was read first, followed by what reading gives for the rest
+-- the items read first, followed by the result for the rest
 abbrev pub after : {A : Type 0} → List A → Result (List A) StateFault → Result (List A) StateFault
 after xs (Ok ys) = Ok (xs ++ ys)
 after xs (Err fault) = Err fault
@@ -28,7 +28,7 @@ pub has_only-view : (place : Object) (es : List (String Global × Value)) → ha
 has_only-view place [] = refl
 has_only-view place (e ∷ es) = ap (λ (b : Bool). is_name place (string_bytes e.0) && b) (has_only-view place es)
 
--- the tokens of a list of values are those of its elements, and the closing bracket
+-- the tokens of a list of values: the tokens of its elements, and the closing bracket
 pub items_tokens-map : {X : Type 0} (f : X → Data) (xs : List X)
     → items_tokens (items_outline (items_of (map f xs))) ≡ flat_map (λ x. tokens_of (f x)) xs ++ Token.end_array ∷ []
 items_tokens-map f [] = refl

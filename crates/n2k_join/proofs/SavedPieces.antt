@@ -42,19 +42,17 @@ pub all_written : (before now : List Token) (g : OpenGroup) (n : ℕ) → n ≡ 
     → now ≡ before ++ pieces_tokens (pieces_in g)
 all_written before now g n all is = is ∙ ap (λ m. before ++ pieces_tokens (pieces_below (slot_of g) m)) all ∙ ap (λ ps. before ++ pieces_tokens ps) (below_all g)
 
--- the pieces of a group of a key
 pieces_of_key : (key : Key) (g : OpenGroup) → pieces_in g ≡ (group_in key g).pieces
 unfolding pieces_in
 pieces_of_key key g = refl
 
--- the frames of a group, as they are written
+-- the frames of a group, as written
 pub frames_written : (o o1 o2 o3 o4 : List Token) (ps : List Piece)
     → o1 ≡ o ++ Token.key (codes "frames") ∷ [] → o2 ≡ o1 ++ Token.begin_array ∷ [] → o3 ≡ o2 ++ pieces_tokens ps → o4 ≡ o3 ++ Token.end_array ∷ []
     → o4 ≡ o ++ frames_tokens ps
 unfolding pieces_tokens
 frames_written o o1 o2 o3 o4 ps p1 p2 p3 p4 = grind (arith, append-nil, items_tokens-map, common_steps)
 
--- a group, as it is written
 pub group_written : (o o1 o2 o3 o4 o5 o6 : List Token) (key : Key) (g : OpenGroup) (dst : ℕ) → dst ≡ key.dst
     → o1 ≡ o ++ Token.begin_object ∷ [] → o2 ≡ o1 ++ count_tokens (codes "dst") dst → o3 ≡ o2 ++ count_tokens (codes "first") g.first
     → o4 ≡ o3 ++ frames_tokens (pieces_in g) → o5 ≡ o4 ++ key_tokens key → o6 ≡ o5 ++ Token.end_object ∷ []
@@ -65,14 +63,12 @@ group_written o o1 o2 o3 o4 o5 o6 key g dst is_dst p1 p2 p3 p4 p5 p6 =
     let q4 : o4 ≡ o3 ++ frames_tokens (group_in key g).pieces = p4 ∙ ap (λ ps. o3 ++ frames_tokens ps) (pieces_of_key key g) in
     six_written o (Token.begin_object ∷ []) (count_tokens (codes "dst") key.dst) (count_tokens (codes "first") g.first) (frames_tokens (group_in key g).pieces) (key_tokens key) (Token.end_object ∷ []) o1 o2 o3 o4 o5 o6 p1 q2 p3 q4 p5 p6
 
--- the open groups, as they are written
 pub open_written : (o o1 o2 o3 o4 : List Token) (gs : List Group)
     → o1 ≡ o ++ Token.key (codes "groups") ∷ [] → o2 ≡ o1 ++ Token.begin_array ∷ [] → o3 ≡ o2 ++ groups_tokens gs → o4 ≡ o3 ++ Token.end_array ∷ []
     → o4 ≡ o ++ open_tokens gs
 unfolding groups_tokens
 open_written o o1 o2 o3 o4 gs p1 p2 p3 p4 = grind (arith, append-nil, items_tokens-map, common_steps)
 
--- the state, as it is written
 pub state_written : (o o1 o2 o3 o4 o5 : List Token) (s : State) (with_window : Bool) → with_window ≡ are_waiting s
     → o1 ≡ o ++ Token.begin_object ∷ [] → o2 ≡ o1 ++ front_tokens with_window s.counts → o3 ≡ o2 ++ open_tokens s.groups
     → o4 ≡ o3 ++ back_tokens with_window s.id s.window.lines s.counts → o5 ≡ o4 ++ Token.end_object ∷ []
@@ -80,13 +76,12 @@ pub state_written : (o o1 o2 o3 o4 o5 : List Token) (s : State) (with_window : B
 unfolding tree_by
 state_written o o1 o2 o3 o4 o5 s with_window is p1 p2 p3 p4 p5 = grind (arith, six_written o (Token.begin_object ∷ []) (front_tokens with_window s.counts) (open_tokens s.groups) (back_tokens with_window s.id s.window.lines s.counts) (Token.end_object ∷ []) [] o1 o2 o3 o4 o5 o5 p1 p2 p3 p4 p5 (sym (append-nil o5)))
 
--- the text of tokens that are a state's
 pub text_written : (s : State) (before text : List ℕ) (none ts : List Token) → text ≡ before ++ print ts → before ≡ [] → none ≡ [] → ts ≡ none ++ tokens_of (state_tree s)
     → text ≡ state_text s
 unfolding state_text
 text_written s before text none ts is nothing is_none all = grind (arith, print-outline)
 
--- the members behind the open groups, as they are written
+-- the members after the open groups, as they are written
 pub back_written : (o o1 o2 o3 o4 o5 : List Token) (with_window : Bool) (id : List ℕ) (window : ℕ) (c : Counts)
     → o1 ≡ o ++ count_tokens (codes "lines") c.lines → o2 ≡ o1 ++ count_tokens (codes "messages") c.messages → o3 ≡ o2 ++ table_tokens id
     → o4 ≡ o3 ++ count_tokens (codes "unknown") c.unknown → o5 ≡ o4 ++ window_tokens with_window window

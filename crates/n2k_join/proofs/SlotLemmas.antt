@@ -1,4 +1,4 @@
--- The slots of a group: what they carry is what the group's frames carry, and its mask tells whether it is complete.
+-- The slots of a group carry what the group's frames carry, and its mask decides whether it is complete.
 use Rattle.std.proofs.lemmas.Grind.{common_steps, flat_map-append}
 use Rattle.std.proofs.Common.{◌≡◌, ◌==◌, ◌≤◌, ◌<◌, ◌+◌, ◌-◌, ◌*◌, ◌/◌, ◌%◌, ◌^◌, ℕ, suc, zero, Bool, true, false, cond, not, ◌&&◌, nat_le, List, [], ◌∷◌, ◌++◌, length, get_or, set, w32, refl, sym, ap, ◌∙◌, subst, arith, Some, None, option_map, flat_map, take, drop, bit_or, slice_index, slice_index_or, ◌⊎◌, inl, inr, is_some, shr-shr}
 use Rattle.std.specs.Int.{bit_at}
@@ -19,7 +19,7 @@ use Rattle.n2k_join.proofs.Cuts.{HasFrom, from_has, has-from}
 use Rattle.n2k_join.proofs.Rising.{filter_map-range, all_from, all_to}
 use Rattle.n2k_join.proofs.Held.{carried-held, has_twice-held, pieces_by, pieces_by-rise, bytes_by, bytes_by-past}
 
--- what the frames that a group holds carry
+-- the bytes of the held frames of a group
 pub carried-slots : (k : Key) (g : OpenGroup) (n : ℕ) → n < most_frames → carried (held_of (group_in k g)) n ≡ slot_of g n
 carried-slots k g n l = grind (arith, carried-held (group_in k g) 0 (pieces_by (slot_of g)) n (pieces_by-rise (slot_of g)), bytes_by (slot_of g) n l)
 
@@ -80,7 +80,7 @@ module _ (k : Key) (g : OpenGroup) (last : ℕ) (small : last < most_frames) (fi
       each : (n : ℕ) → has_number n (held_of (group_in k g)) ≡ true → nat_le n last ≡ true
       each n there = by n (cases_lt n most_frames) (cases_lt last n) there
 
-  -- a group with frame 0 is complete exactly where its mask is ones up to the last number
+  -- a group with frame 0 is complete exactly if its mask is ones up to the last number
   pub complete-mask : has_number 0 h ≡ true → last_number (total h) ≡ last → complete h ≡ (g.mask == 2 ^ (last + 1) - 1)
   unfolding complete
   complete-mask zeroth at =
@@ -131,7 +131,7 @@ open-slots k g q x p number bytes first empty taken =
 bit-shr : (m n i : ℕ) → bit_at (m / 2 ^ n) i ≡ bit_at m (n + i)
 bit-shr m n i = ap (λ r. r % 2) (shr-shr m n i)
 
--- a group has a frame of a number, or of one above it, exactly where its mask has a bit from that number on
+-- a group has a frame of this number or a greater one exactly if its mask has a bit from that number on
 module _ (k : Key) (g : OpenGroup) (n : ℕ) (fits : g.mask < 2 ^ 32) where
   bits_there : has_from n (held_of (group_in k g)) ≡ true → not (g.mask / 2 ^ n == 0) ≡ true
   bits_there e = by (g.mask / 2 ^ n == 0) refl (from_has n (held_of (group_in k g)) e)
@@ -203,7 +203,7 @@ module _ (first mask number : ℕ) (slots : List (List ℕ)) (bytes : List ℕ) 
 
 -- ---- completeness, by the total that is read
 
--- a group with frame 0 is complete where its mask has the bits up to the last number that the total asks for
+-- a group with frame 0 is complete exactly if its mask is the bits up to the last number that the total needs
 pub complete-slots : (k : Key) (g : OpenGroup) → bit_at g.mask 0 ≡ 1 → g.mask < 2 ^ 32
     → complete (held_of (group_in k g)) ≡ (g.mask == 2 ^ (slice_index (get_or g.slots 0 []) 0 / 7 + 1) - 1)
 complete-slots k g one fits =
@@ -228,7 +228,7 @@ length-sevens ss zero each few = refl
 length-sevens [] (suc m) each few = absurd (omega (arith, few))
 length-sevens (b ∷ ss) (suc m) each few = grind (arith, length-sevens ss m each.1 (omega (arith, few)), length-append)
 
--- the bytes of a slice that begins behind the first, within a front
+-- a slice from the second byte on, within a prefix
 within-front : (xs ys : List ℕ) (t : ℕ) → t + 1 ≤ length xs → take t (drop 1 (xs ++ ys)) ≡ take t (drop 1 xs)
 within-front [] ys t l = absurd (omega (arith, l))
 within-front (x ∷ xs) ys t l = take-append-le t xs ys (omega (arith, l))
@@ -248,7 +248,7 @@ module _ (k : Key) (g : OpenGroup) (done : complete (held_of (group_in k g)) ≡
   carried-there : (n : ℕ) → n < most_frames → has_number n (held_of (group_in k g)) ≡ true → bytes_at (held_of (group_in k g)) n ≡ get_or g.slots n []
   carried-there n l has = grind (arith, has-slot, carried-slots)
 
-  -- the total stands first
+  -- the first byte is the total
   pub total-slots : total (held_of (group_in k g)) ≡ slice_index (get_or g.slots 0 []) 0
   total-slots = ap (λ (b : List ℕ). slice_index_or b 0 0) (carried-there 0 (omega arith) zeroth)
 

@@ -1,4 +1,4 @@
--- What holds of each state that a value spells, whatever its numbers.
+-- Properties of each state that a value spells, whatever its numbers.
 use Rattle.std.proofs.lemmas.Grind.{common_steps}
 use Rattle.std.proofs.Common.{◌≡◌, ◌<◌, ℕ, Bool, true, List, [], ◌∷◌, length, codes, Result, Ok, IfOk, subst, arith}
 use Rattle.std.specs.List.{AllByRecursion}
@@ -16,7 +16,7 @@ use Rattle.n2k_join.specs.State.{State}
 use Rattle.n2k_join.specs.Window.{Window}
 use Rattle.n2k_join.proofs.SavedGroups.{small_bytes}
 
--- ---- facts of what is read, reading by reading
+-- ---- facts of the values read, step by step
 
 pub if_ok-then : {A B : Type 0} (holds : B → Type 0) (r : Result A StateFault) (f : A → Result B StateFault) → ((x : A) → r ≡ Ok x → IfOk (f x) holds) → IfOk (r >>= f) holds
 if_ok-then holds r f each = grind arith
@@ -78,7 +78,7 @@ groups-frames d =
 
 -- ---- states
 
--- It has as many groups as it counts, frames of seven bytes, and what is handed in as the order of frames.
+-- A spelled state has as many groups as it counts, frames of seven bytes, and the given order of frames.
 pub record IsSpelled (w : Window) (s : State) : Type 0 where
   pub order : s.window.in_order ≡ w.in_order
   pub held : s.counts.held ≡ length s.groups

@@ -10,7 +10,7 @@ use Rattle.n2k_join.specs.Pieces.{pieces_as, Stream, stream_of, same_stream, sen
 abbrev of_stream : Stream → List PacketParts → ℕ
 of_stream s ms = count_by (λ (e : PacketParts). same_stream (stream_of e.id) s) ms
 
--- a splitter's sequences are those that follow the earlier messages, for each stream whose PGN is fast
+-- the sequences of a splitter after the earlier messages, for each stream with a fast PGN
 record IsAfter (kind : ℕ → Option Kind) (held : Sequences) (earlier : List PacketParts) : Type 0 where
   counted : (s : Stream) → is_fast (kind s.pgn) ≡ true → held s ≡ of_stream s earlier % 8
 

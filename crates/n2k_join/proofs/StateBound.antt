@@ -24,7 +24,7 @@ number_short k n some fits small = length-decimal-le k n some fits small
 count_short : (n : ℕ) → n ≤ most_lines → length (compact_text (whole n)) ≤ 15
 count_short n most = number_short 15 n (omega arith) (omega (arith, most)) (omega (arith, most))
 
--- a hexadecimal digit stands for itself in a text
+-- a hexadecimal digit needs no escape in a text
 unescaped : (ds : List ℕ) (i : ℕ) → AllByRecursion (λ d. length (escape_byte d) ≡ 1) ds → i < length ds → length (escape_byte (slice_index ds i)) ≡ 1
 unescaped [] i each lt = absurd (omega (arith, lt))
 unescaped (d ∷ ds) zero each lt = each.0
@@ -57,18 +57,18 @@ digits_short n bs long bytes = grind (arith, escaped_digits, length-append)
 item_short : (later : Bool) (d : Data) (ds : Items) (a b : ℕ) → length (compact_text d) ≤ a → length (items_text true ds) ≤ b → length (items_text later (item d ds)) ≤ (1 + a) + b
 item_short later d ds a b one more = grind (arith, length-append)
 
--- no comma stands before the first
+-- no comma is before the first
 first_short : (d : Data) (ds : Items) (a b : ℕ) → length (compact_text d) ≤ a → length (items_text true ds) ≤ b → length (items_text false (item d ds)) ≤ a + b
 first_short d ds a b one more = grind (arith, length-append)
 
--- members behind the first of an object, of so many bytes at most with the brace that ends it
+-- members after the first of an object, and its closing brace, have at most so many bytes
 record AreShort (ms : Members) (most : ℕ) : Type 0 where
   fits : length (members_text true ms) ≤ most
 
 none_short : AreShort no_members 1
 none_short = record { fits = omega arith }
 
--- a member whose name has so many characters, and its value so many bytes at most
+-- a member whose name has so many characters, and whose value has at most so many bytes
 member_short : (k : List ℕ) (d : Data) {ms : Members} (n a : ℕ) {b : ℕ} → length (quoted k) ≡ n
     → length (compact_text d) ≤ a → AreShort ms b → AreShort (member k d ms) (((2 + n) + a) + b)
 member_short k d {ms} n a long one more = grind (arith, length-append)
@@ -160,7 +160,7 @@ state-short s is known =
     let m-bad = member_short (codes "bad") (whole s.counts.bad) 5 15 refl bad m-broken in
     omega (arith, object_short (codes "bad") (whole s.counts.bad) m-bad)
 
--- the same of a text whose groups were lent, as the state's owner sees it
+-- the saved text of a join, whose groups are lent, is short
 pub saved-short : (s view : State) (lent : List Group) (text : List ℕ) → IsState s → IsId s.id → lent ≡ s.groups → s ≡ view
     → text ≡ state_text (record { id = s.id; window = s.window; counts = s.counts; groups = lent }) → length text ≤ bare_bytes + group_bytes * length view.groups
 saved-short s view lent text is known same seen written = grind (arith, state-short)

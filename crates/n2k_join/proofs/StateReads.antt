@@ -31,7 +31,7 @@ use Rattle.std.specs.Str.{bytes_eq}
 use Rattle.std.proofs.lemmas.Slice.Eq.{bytes_eq-Decides}
 use Rattle.n2k_join.proofs.WrittenReads.{IsPlain, ArePlain, ArePlainMembers, text_utf8, compact_reads}
 
--- A tree that is written and read back: it is plain, nests no deeper than this, and stands for itself.
+-- A tree that is written and read back: it is plain, nests no deeper than this, and reads as itself.
 pub record IsTree (deep : ℕ) (d : Data) : Type 0 where
   pub plain : IsPlain d
   pub shallow : depth (outline d) ≤ deep
@@ -75,12 +75,12 @@ pub piece-reads : (p : Piece) → IsHeld p → read_piece (piece_tree p) ≡ Ok 
 unfolding read_piece piece_tree
 piece-reads p is = rw (decode_sized-encode_lower p.bytes 7 is.piece.seven (bytes_at p.bytes is.piece.are_bytes)) refl
 
--- each of a list is read back
+-- the items of a list are read back
 pub each-reads : {X : Type 0} (f : X → Data) (g : Data → Result X StateFault) (xs : List X) → AllByRecursion (λ x. g (f x) ≡ Ok x) xs → each g (values_in (items_of (map f xs))) ≡ Ok xs
 each-reads f g [] all = refl
 each-reads f g (x ∷ xs) all = rw (all.0, each-reads f g xs all.1) refl
 
--- members behind the first of an object, under names that are text
+-- members after the first of an object, with names that are text
 record ArePlainTexts (ms : Members) : Type 0 where
   each : ArePlainMembers ms
 
@@ -116,7 +116,7 @@ pub group-reads : (g : Group) → IsKept g → read_group (group_tree g) ≡ Ok 
 unfolding read_group read_key read_pieces group_tree
 group-reads g is = rw (each-reads piece_tree read_piece g.pieces (all-map IsHeld (λ p. read_piece (piece_tree p) ≡ Ok p) g.pieces piece-reads is.pieces)) refl
 
--- what a state of a table holds, all that its text needs
+-- the facts of a state that its text needs
 kept_groups : (s : State) → IsState s → AllByRecursion IsKept s.groups
 kept_groups s is =
     all-map (λ (g : Group). HasParts g × (IsOpen g × (g.first ≤ s.counts.lines))) IsKept s.groups
@@ -129,7 +129,6 @@ kept_groups s is =
     (all-zip HasParts (λ (g : Group). IsOpen g × (g.first ≤ s.counts.lines)) s.groups is.parts
     (all-zip IsOpen (λ (g : Group). g.first ≤ s.counts.lines) s.groups is.groups.each is.groups.begun))
 
--- the place of a state that tells its window or doesn't
 abbrev format_of : Bool → StateFormat
 format_of with_window = if with_window then WithWindow else WithoutWindow
 
@@ -177,7 +176,7 @@ tree-back : (with_window : Bool) (s : State) → IsState s → of_json (outline 
 unfolding tree_by
 tree-back with_window s is = grind (arith, number_of-decimal, groups-tree)
 
--- the state that is read where this is handed in
+-- the state that is read under a given window
 abbrev read_under : Bool → Window → State → State
 read_under with_window w s = record { id = s.id; window = record { lines = if with_window then s.window.lines else w.lines; in_order = w.in_order }; counts = s.counts; groups = s.groups }
 
@@ -192,7 +191,7 @@ state-reads with_window w s is id = grind (arith, decode_sized-encode_lower, gro
 bytes_eq-same : (bs : List ℕ) → bytes_eq bs bs ≡ true
 bytes_eq-same bs = (bytes_eq-Decides bs bs).1 refl
 
--- what remains to be asked of a text once its members are read
+-- the tests that remain after the members of a text are read
 abbrev asked : (ℕ → Option Kind) → List ℕ → Window → StateFormat → State → Result State StateFault
 asked kind id w format s = do
   same ← holds_or TableDiffers (bytes_eq s.id id)
@@ -214,8 +213,8 @@ text-asked kind id w s is known = by (are_waiting s)
     by : (with_window : Bool) → resumed kind id w (compact_text (tree_by with_window s)) ≡ asked kind id w (format_of with_window) (read_under with_window w s)
     by with_window = grind (arith, text, state-reads)
 
--- The text of a valid state, whose groups are of fast PGNs of its table, spells that state under its window, whether the
--- order of frames is asked for or not.
+-- The text of a valid state whose groups are of fast PGNs of its table spells that state under its window, with either
+-- order of frames.
 pub state_under : (kind : ℕ → Option Kind) (s : State) (order : Bool) → IsState s → AreFast kind s.groups → IsId s.id
     → resumed kind s.id (record { lines = s.window.lines; in_order = order }) (state_text s) ≡ Ok (record { id = s.id; window = record { lines = s.window.lines; in_order = order }; counts = s.counts; groups = s.groups })
 unfolding is_valid
@@ -237,12 +236,12 @@ state_under kind s order is fast id = text-asked kind s.id w s is id ∙ by (are
 pub state_back : (kind : ℕ → Option Kind) (s : State) → IsState s → AreFast kind s.groups → IsId s.id → resumed kind s.id s.window (state_text s) ≡ Ok s
 state_back kind s is fast id = state_under kind s s.window.in_order is fast id
 
--- Under another window it is refused, where it tells its own.
+-- A state with its window is refused under another window.
 pub state_elsewhere : (kind : ℕ → Option Kind) (s : State) (w : Window) → IsState s → AreWaiting s → IsId s.id → (s.window.lines ≡ w.lines → ⊥)
     → resumed kind s.id w (state_text s) ≡ Err WindowDiffers
 state_elsewhere kind s w is waits id other = grind (arith, bytes_eq-same, text-asked, in_time-to)
 
--- What a text is read as, once each question but that of the rules is answered.
+-- The result of reading a text, after each test except the rules.
 pub resumed-by : (kind : ℕ → Option Kind) (id bytes : List ℕ) (w : Window) (d : Data) (format : StateFormat) (s : State)
     → or_cause NotJson (parsed bytes) ≡ Ok d → format_in d ≡ Ok format → read_state format w d ≡ Ok s
     → bytes_eq s.id id ≡ true → (s.window.lines == w.lines) ≡ true → waits_hold format s ≡ true
@@ -250,7 +249,7 @@ pub resumed-by : (kind : ℕ → Option Kind) (id bytes : List ℕ) (w : Window)
 unfolding resumed
 resumed-by kind id bytes w d format s text place spells table window waits = rw text (rw place (rw spells (rw table (rw window (rw waits refl)))))
 
--- a state that was read is made of its parts and the window that was handed in, where both are one
+-- a state that was read is made of its parts and the given window, if the windows are equal
 pub of-parts : (s : State) (id : List ℕ) (window : ℕ) (order : Bool) (counts : Counts) (gs lent : List Group) (w : Window)
     → record { id = id; window = record { lines = window; in_order = order }; counts = record counts { held = length gs }; groups = gs } ≡ s
     → s.window.lines ≡ w.lines → s.window.in_order ≡ w.in_order → lent ≡ gs → s ≡ state_of_parts id w counts lent

@@ -1,5 +1,5 @@
--- The step in the forms in which a program makes it. A stored group is a list of frames as they came, and what a state
--- keeps of it is `group_of` of its key and that list.
+-- The step in the forms that a program uses. A stored group is a list of frames as they came; a state has `group_of` of
+-- its key and that list.
 use Rattle.std.proofs.Common.{◌≡◌, ◌<◌, ℕ, true, false, List, [], ◌∷◌, ◌++◌, length, map, refl, sym, ap, ◌∙◌, arith, Option, Some, None, option_map, option_to_list, filter_map, append-nil}
 use Rattle.std.specs.Option.{option_or}
 use Rattle.std.specs.List.{AllByRecursion}
@@ -27,9 +27,9 @@ use Rattle.n2k_join.proofs.Windows.{open-waiting, waits-before, waiting-all, all
 use Rattle.n2k_join.specs.Window.{Window}
 use Rattle.n2k_join.proofs.Lines.{frame_of_packet}
 
--- ---- what an entry is
+-- ---- an entry
 
--- a frame stands at the line, and its entry gives nothing else
+-- a frame has the line, and its entry gives nothing else
 pub record IsOnlyFrame (kind : ℕ → Option Kind) (n : ℕ) (e : Entry) (x : Frame) : Type 0 where
   pub line : x.line ≡ n
   pub alone : alone kind e ≡ None
@@ -39,7 +39,7 @@ pub record IsOnlyFrame (kind : ℕ → Option Kind) (n : ℕ) (e : Entry) (x : F
 pub only_frame : (kind : ℕ → Option Kind) (line : ℕ) (e : Entry) (x : Frame) → frame_in kind line e ≡ Some x → IsOnlyFrame kind line e x
 only_frame kind line e x is = grind (arith, frame_of_packet kind line e x is)
 
--- ---- what a key's held frames are
+-- ---- the held frames of a key
 
 so_far-of_key : (ends : EndTest) → IsEnding ends → (n : ℕ) (k : Key) (gs : List Group) → AreOpen n gs → so_far ends (of_key k (held gs)) ≡ option_map held_of (of_the_key k gs)
 unfolding so_far
@@ -51,7 +51,7 @@ so_far-of_key ends is_ending n k gs are = by (of_the_key k gs) refl
 
 -- ---- the step
 
--- What an entry gives, and the groups that it leaves open; so the state after it is this.
+-- The result of an entry, and the groups that it leaves open; so the state after it is this.
 pub record StepsTo (kind : ℕ → Option Kind) (s : State) (e : Entry) (gives : Given) (leaves : List Group) : Type 0 where
   pub given : step_given kind s e ≡ gives
   pub after : step_after kind s e ≡ record { id = s.id; window = s.window; counts = counts_after kind s.counts e gives (length leaves); groups = leaves }
@@ -75,7 +75,7 @@ pub message_alone : (w : Window) (x : Frame) (c : Option (List Frame)) → optio
 message_alone w x c = grind arith
 
 module _ (kind : ℕ → Option Kind) (s : State) (e : Entry) (some : 0 < s.window.lines) (are : AreOpen s.counts.lines s.groups) where
-  -- what a frame gives, and what it breaks beside the groups whose window ends
+  -- the result of a frame: its message, and the group that it breaks besides the groups whose window ends
   abbrev pub frame_gives : Frame → Given
   frame_gives x = record {
     message = frame_message s.window x (kept s);
@@ -95,7 +95,7 @@ module _ (kind : ℕ → Option Kind) (s : State) (e : Entry) (some : 0 < s.wind
   kept-groups : open_groups (within s.window) s.counts.lines (held (kept s)) ≡ kept s
   kept-groups = open_groups-held (within s.window) (within-ends s.window some) s.counts.lines (kept s) kept-open
 
-  -- what is held of them has them open, at the last line and at the next
+  -- the held frames of the kept groups have them open, at the last line and at the next
   kept-now : open_within s.window s.counts.lines (held (kept s)) ≡ kept s
   kept-now =
       ap (waiting s.window s.counts.lines) kept-groups
@@ -104,7 +104,7 @@ module _ (kind : ℕ → Option Kind) (s : State) (e : Entry) (some : 0 < s.wind
   kept-next : waiting s.window (next_line s) (open_within s.window s.counts.lines (held (kept s))) ≡ kept s
   kept-next = ap (waiting s.window (next_line s)) kept-now ∙ waiting-all s.window (next_line s) (kept s) kept-wait
 
-  -- an entry without a frame leaves them
+  -- an entry without a frame leaves the groups that wait
   pub step-none : frame_in kind (next_line s) e ≡ None → StepsTo kind s e (record { message = alone kind e; cause = cause_in kind e; broken = map as_broken (overdue s) }) (kept s)
   unfolding step_given given_by
   step-none none =
@@ -117,7 +117,7 @@ module _ (kind : ℕ → Option Kind) (s : State) (e : Entry) (some : 0 < s.wind
       ((ap (λ fs. map as_broken (overdue s) ++ broken_with w fs (next_line s)) fs ∙ ap (λ bs. map as_broken (overdue s) ++ bs) quiet ∙ append-nil (map as_broken (overdue s))) i))
       (ap (λ fs. open_within w (next_line s) fs) fs ∙ open_within-none w s.counts.lines some (held (kept s)) kept-log ∙ kept-next)
 
-  -- One with a frame gives what the frame gives with the open group of its key, and the groups advance.
+  -- An entry with a frame has the frame's result with the open group of its key, and the groups advance.
   pub step-frame : (x : Frame) → frame_in kind (next_line s) e ≡ Some x → StepsTo kind s e (frame_gives x) (advanced (within s.window) (kept s) x)
   unfolding step_given given_by
   step-frame x found =

@@ -1,4 +1,4 @@
--- Where frames fall into stretches, each of which ends by its last frame and not before, these are the groups.
+-- If frames fall into stretches, each ending at its last frame and not before, the stretches are the groups.
 use Rattle.std.proofs.Common.{◌≡◌, ℕ, zero, suc, ◌+◌, ◌<◌, ◌≤◌, ◌&&◌, Bool, map, true, false, List, [], ◌∷◌, ◌++◌, length, refl, ap, subst, ◌∙◌, sym, arith, length-append, ◌==◌, nat_lt}
 use Rattle.std.specs.List.{AllByRecursion, range_with_len}
 use Rattle.std.proofs.lemmas.Bool.{or_parts, or_from, and_right, eq-eqb, ne_eqb, lt-leb}
@@ -18,17 +18,17 @@ pub record IsStretch (ends : EndTest) (g : List Frame) : Type 0 where
   pub whole : complete g ≡ true
   pub goes_on : (f h : Frame) (front back : List Frame) → g ≡ (f ∷ front) ++ (h ∷ back) → closes ends (f ∷ front) h ≡ false
 
--- a stretch at the front is the first group
+-- a stretch at the start is the first group
 pub cut_stretch : (ends : EndTest) (g rest : List Frame) → IsStretch ends g → cut ends (g ++ rest) ≡ g ∷ cut ends rest
 cut_stretch ends g rest is = grind (arith, first_follows)
 
--- stretches one behind the other are the groups
+-- consecutive stretches are the groups
 pub cut_stretches : (ends : EndTest) (gs : List (List Frame)) → AllByRecursion (IsStretch ends) gs → cut ends (all_frames gs) ≡ gs
 unfolding cut
 cut_stretches ends [] each = refl
 cut_stretches ends (g ∷ gs) each = cut_stretch ends g (all_frames gs) each.0 ∙ ap (λ l. g ∷ l) (cut_stretches ends gs each.1)
 
--- what holds of a front, where no number comes twice
+-- a prefix of frames without a repeated number
 has_number-push : (n : ℕ) (fs back : List Frame) (h : Frame) → has_number n (fs ++ (h ∷ back)) ≡ false → (has_number n fs ≡ false) × ((h.number == n) ≡ false)
 has_number-push n [] back h e = grind arith
 has_number-push n (f ∷ fs) back h e =
@@ -44,18 +44,18 @@ apart-front (f ∷ fs) back h e =
     let rest = apart-front fs back h parts.1 in
     (or_from _ _ mine.0 rest.0, has_number-cons f fs h.number ∙ or_from _ _ (eqb-sym f.number h.number ∙ mine.1) rest.1)
 
--- the frames go on together: no front of them ends before the frame after it
+-- the frames go on together: no prefix of them ends before the next frame
 pub record GoesOn (ends : EndTest) (g : List Frame) : Type 0 where
   pub on : (f h : Frame) (front back : List Frame) → g ≡ (f ∷ front) ++ (h ∷ back) → ends (f ∷ front) h ≡ false
 
--- of frames whose numbers rise one by one none falls back
+-- if numbers rise one by one, none falls back
 above : (a n : ℕ) (front : List Frame) (h : Frame) (back : List Frame) → map (λ (f : Frame). f.number) (front ++ (h ∷ back)) ≡ range_with_len a n → (a ≤ h.number) × (has_from h.number front ≡ false)
 above a zero [] h back numbers = absurd (cc)
 above a (suc n) [] h back numbers = let here : h.number ≡ a = cc in (omega (arith, here), refl)
 above a zero (f ∷ front) h back numbers = absurd (cc)
 above a (suc n) (f ∷ front) h back numbers = grind (arith, above (a + 1) n front h back cc, lt-leb)
 
--- no number falls back, and no window ends before the last of them
+-- no number falls back, and no window ends before the last frame
 pub goes_on-within : (w : Window) (n : ℕ) (g : List Frame) → has_twice g ≡ false → (w.in_order ≡ true → map (λ (f : Frame). f.number) g ≡ range_with_len 0 n) → AllByRecursion (λ (f : Frame). f.line < first g + w.lines) g → GoesOn (within w) g
 goes_on-within w n g apart ordered each = record {
   on = λ f h front back e.
@@ -68,7 +68,7 @@ goes_on-within w n g apart ordered each = record {
     rises f h front back e true t = and_right (nat_lt f.line h.line) (has_from h.number (f ∷ front)) (above 0 n (f ∷ front) h back (ap (map (λ (f : Frame). f.number)) (sym e) ∙ ordered t)).1
     rises f h front back e false t = refl
 
--- all pieces of a message are a stretch, where they go on together
+-- all pieces of a message are a stretch, if they go on together
 pub stretch_pieces : (ends : EndTest) (x : Sending) (g : List Frame) → AllByRecursion (IsPieceOf x) g → has_twice g ≡ false → length g ≡ last_piece x.message + 1 → GoesOn ends g → IsStretch ends g
 stretch_pieces ends x g each apart full goes = record {
   nonempty = omega arith;

@@ -11,12 +11,12 @@ use Rattle.n2k_join.specs.UnderWay.{is_sent, EightUnderWay, AreOfOneStream}
 abbrev is_of : ℕ → ℕ → ℕ → PacketParts → Bool
 is_of src pgn dst m = (m.id.src == src) && ((m.id.pgn == pgn) && (m.id.dst == dst))
 
--- they are numbered in turn, modulo 8
+-- sendings are numbered in turn, modulo 8
 abbrev AreNumbered : ℕ → List Sending → Type 0
 AreNumbered n [] = Unit {0}
 AreNumbered n (x ∷ xs) = (x.sequence ≡ n % 8) × AreNumbered (n + 1) xs
 
--- what a message of the stream asks of the earlier ones
+-- the test of earlier messages by a message of the stream
 same_test : (src pgn dst : ℕ) (m : PacketParts) → is_of src pgn dst m ≡ true → (λ (e : PacketParts). same_stream (stream_of e.id) (stream_of m.id)) ≡ is_of src pgn dst
 unfolding same_stream
 same_test src pgn dst m h = grind arith

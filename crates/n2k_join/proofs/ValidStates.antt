@@ -1,4 +1,4 @@
--- What the rules of a valid state say, and a text that is JSON or not.
+-- The rules of a valid state, and whether a text is JSON.
 use Rattle.std.proofs.lemmas.Grind.{common_steps}
 use Rattle.std.proofs.Common.{◌≡◌, ◌≤◌, ◌<◌, ◌+◌, ◌&&◌, ℕ, Bool, true, false, if◌then◌else◌, List, [], ◌∷◌, length, Option, Some, None, Ok, Err, refl, sym, ap, ◌∙◌, arith, IsUtf8, IsTrue}
 use Rattle.std.specs.List.{AllByRecursion, list_all}

@@ -1,4 +1,4 @@
--- Frames that are different pieces of a message are complete where they are as many as its pieces, and carry its data.
+-- As many different pieces as a message has are complete, and carry its data.
 use Rattle.std.proofs.Common.{◌≡◌, ℕ, zero, suc, ◌+◌, ◌*◌, ◌-◌, ◌/◌, ◌<◌, Bool, true, false, not, ◌&&◌, List, [], ◌∷◌, ◌++◌, map, take, drop, length, refl, ap, ◌∙◌, arith, Option, Some, ◌==◌, flat_map, slice_index_or, unwrap_or}
 use Rattle.std.specs.List.{range_with_len, list_all, AllByRecursion}
 use Rattle.std.proofs.lemmas.Bool.{false≢true, and_parts, le-leb, eqb-true, eq-eqb, ne_eqb}
@@ -28,12 +28,12 @@ none_past : (x : Sending) (fs : List Frame) → AllByRecursion (IsPieceOf x) fs 
 none_past x [] pieces = refl
 none_past x (f ∷ fs) pieces = rw (le-leb f.number (last_piece x.message) pieces.0.in_range) (none_past x fs pieces.1)
 
--- the total, where frame 0 is there
+-- the total, if frame 0 is there
 pub total_of : (x : Sending) (fs : List Frame) → AllByRecursion (IsPieceOf x) fs → has_number 0 fs ≡ true → total fs ≡ length x.message.payload
 unfolding piece_bytes
 total_of x fs pieces has = ap total_by (carried_pieces x fs 0 pieces has)
 
--- different pieces of a message are complete exactly where they are as many as its pieces
+-- different pieces of a message are complete exactly if they are as many as its pieces
 pub complete_pieces : (x : Sending) (fs : List Frame) → AllByRecursion (IsPieceOf x) fs → has_twice fs ≡ false → complete fs ≡ (length fs == last_piece x.message + 1)
 unfolding complete
 complete_pieces x fs pieces apart = by_first (has_number 0 fs) refl
@@ -53,7 +53,7 @@ unfolding piece_bytes
 chunks payload a zero = refl
 chunks payload a (suc k) = grind (arith, chunks payload (a + 1) k, range-append (7 * a) 7 (7 * k))
 
--- a list is what it holds at its places
+-- a list by its items
 looked_up : (g : ℕ → ℕ) (a : ℕ) (xs : List ℕ) → ((k : ℕ) → k < length xs → g (a + k) ≡ slice_index_or xs k 255) → map g (range_with_len a (length xs)) ≡ xs
 looked_up g a [] e = refl
 looked_up g a (x ∷ xs) e =
@@ -70,7 +70,7 @@ bytes_pieces x fs (n ∷ ns) pieces all =
     ap (λ (o : Option (List ℕ)). unwrap_or o [] ++ flat_map (bytes_at fs) ns) (carried_pieces x fs n pieces parts.0)
     ∙ ap (λ l. piece_bytes x.message.payload n ++ l) (bytes_pieces x fs ns pieces parts.1)
 
--- the bytes after the first, as many as the data
+-- the bytes after the first, cut to the length of the data, are the data
 sent_data : (payload : List ℕ) → take (length payload) (drop 1 (map (sent_byte payload) (range_with_len 0 (7 * (length payload / 7 + 1))))) ≡ payload
 sent_data payload = grind (arith, take-map-range_with_len (sent_byte payload) 1 ((length payload) + (7 * (length payload / 7 + 1) - (length payload + 1))) (length payload) (omega arith), looked_up)
 

@@ -1,4 +1,4 @@
--- The open groups under a window: what the window has ended may go before the next frame is taken.
+-- The open groups under a window: groups whose window has ended may be removed before the next frame is taken.
 use Rattle.std.proofs.Common.{◌≡◌, ◌<◌, ◌+◌, ℕ, Bool, true, false, cond, List, [], ◌∷◌, ◌++◌, refl, sym, ap, ◌∙◌, arith, Option, Some, None, option_to_list, filter, filter_map, ltb-true, ltb-false, lt-ltb}
 use Rattle.std.specs.List.{AllByRecursion}
 use Rattle.std.proofs.lemmas.List.Elements.{filter-append, filter_passes, recursion_from_All}
@@ -28,7 +28,7 @@ all-filter P t (x ∷ xs) a = elim (t x) as (λ b. AllByRecursion P (cond b (x �
 pub all-passed : {X : Type 0} (t : X → Bool) (xs : List X) → AllByRecursion (λ x. t x ≡ true) (filter t xs)
 all-passed t xs = recursion_from_All (λ x. t x ≡ true) (filter t xs) (filter_passes t xs)
 
--- where all pass, all are left
+-- if all items pass, all remain
 pub filter-passed : {X : Type 0} (t : X → Bool) (xs : List X) → AllByRecursion (λ x. t x ≡ true) xs → filter t xs ≡ xs
 filter-passed t [] all = refl
 filter-passed t (x ∷ xs) all = ap (λ b. cond b (x ∷ filter t xs) (filter t xs)) all.0 ∙ ap (λ ys. x ∷ ys) (filter-passed t xs all.1)
@@ -44,9 +44,9 @@ pub open-waiting : (w : Window) (line n : ℕ) (gs : List Group) → AreOpen n g
 unfolding waiting
 open-waiting w line n gs are = open-filter n (is_waiting w line) gs are
 
--- ---- what the window has ended
+-- ---- groups whose window has ended
 
--- a group that waits at a line waited at those before
+-- a group that waits at a line waited at earlier lines
 pub waits-before : (w : Window) (line : ℕ) (g : Group) → is_waiting w (line + 1) g ≡ true → is_waiting w line g ≡ true
 waits-before w line g e = let l : line + 1 < g.first + w.lines = ltb-true _ _ e in lt-ltb line (g.first + w.lines) (omega (arith, l))
 
@@ -72,7 +72,7 @@ all-waiting w line gs = all-passed (is_waiting w line) gs
 
 -- ---- a frame's step and the window
 
--- a group that goes on keeps its first line
+-- a group that remains open keeps its first line
 taken-first : (ends : EndTest) (x : Frame) (g h : Group) → taken ends x g ≡ Some h → h.first ≡ g.first
 taken-first ends x g h e = grind (arith, with_frame, none-some, first_of)
 
@@ -84,15 +84,15 @@ waiting-taken ends w line x (g ∷ gs) = grind (arith, waiting-taken ends w line
 pub ended-ends : (w : Window) (x : Frame) (g : Group) → IsOpen g → is_waiting w x.line g ≡ false → within w (held_of g) x ≡ true
 ended-ends w x g is e = grind (arith, first-held)
 
--- and one before that ends it where its number is in it
+-- the window ends a waiting group of an earlier line if the frame's number is in it
 pub waits-ends : (w : Window) (x : Frame) (g : Group) → IsOpen g → is_waiting w x.line g ≡ true → within w (held_of g) x ≡ misfits w (held_of g) x
 waits-ends w x g is e = grind (arith, first-held)
 
--- what the code asks of a group of an earlier line
+-- the code's test of a group of an earlier line
 pub misfits-rejects : (w : Window) (x : Frame) (g : Group) → IsOpen g → g.first < x.line → misfits w (held_of g) x ≡ rejects w.in_order x.number g
 misfits-rejects w x g is l = grind (arith, first-held, lt-ltb, has-from, or-false)
 
--- What tells a group whose window has ended from none as little, finds the same group of a key among those that wait.
+-- A function that treats a group whose window has ended as no group finds the same value among the waiting groups.
 pub key-waiting : {X : Type 0} (w : Window) (x : Frame) (F : Option Group → X)
     → ((g : Group) → IsOpen g → is_waiting w x.line g ≡ false → F (Some g) ≡ F None)
     → (gs : List Group) → AllByRecursion IsOpen gs → AreApart gs
@@ -109,7 +109,7 @@ opened-waiting w x = grind (arith, key-waiting w x (opened (within w) x) (λ g i
 begun-waits : (ends : EndTest) (w : Window) (x : Frame) (o : Option Group) → 0 < w.lines → filter (is_waiting w x.line) (option_to_list (opened ends x o)) ≡ option_to_list (opened ends x o)
 begun-waits ends w x o some = grind (arith, lt-ltb)
 
--- The groups whose window ends at the frame's line go, and then the frame is taken.
+-- First the groups whose window ends at the frame's line are removed, then the frame is taken.
 pub advanced-waiting : (w : Window) (x : Frame) (gs : List Group) → 0 < w.lines → AllByRecursion IsOpen gs → AreApart gs → waiting w x.line (advanced (within w) gs x) ≡ advanced (within w) (waiting w x.line gs) x
 unfolding advanced waiting
 advanced-waiting w x gs some each apart = grind (arith, filter-append, waiting-taken, begun-waits, opened-waiting)
@@ -121,7 +121,7 @@ module _ (w : Window) (n : ℕ) (some : 0 < w.lines) where
   pub open_within-push : (fs : List Frame) (x : Frame) → IsLog n fs → x.line ≡ n + 1 → open_within w (n + 1) (fs ++ x ∷ []) ≡ advanced (within w) (waiting w (n + 1) (open_within w n fs)) x
   open_within-push fs x log at = grind (arith, open_groups-open, within-ends, open_groups-push, advanced-waiting, waiting-later)
 
-  -- and without one
+  -- a log without a frame at its next line
   pub open_within-none : (fs : List Frame) → IsLog n fs → open_within w (n + 1) fs ≡ waiting w (n + 1) (open_within w n fs)
   open_within-none fs log = ap (waiting w (n + 1)) (open_groups-none (within w) (within-ends w some) n fs log) ∙ sym (waiting-later w n (open_groups (within w) n fs))
 

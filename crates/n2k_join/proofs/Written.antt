@@ -1,4 +1,4 @@
--- The frames of messages, as they are written one behind the other, are scattered frames of these messages.
+-- The frames of messages, written in order, are scattered frames of these messages.
 use Rattle.std.proofs.Common.{◌≡◌, ℕ, zero, suc, ◌+◌, ◌*◌, ◌<◌, ◌≤◌, Bool, true, false, cond, List, [], ◌∷◌, ◌++◌, map, length, refl, ap, subst, ◌∙◌, sym, arith, Option, Some, None, flat_map, filter}
 use Rattle.std.specs.List.{AllByRecursion, All, range_with_len}
 use Rattle.std.proofs.lemmas.List.{map-append, length-map}
@@ -61,11 +61,11 @@ sending_stretch kind line x can = grind (arith, come_in_order)
 own_key : (kind : ℕ → Option Kind) (line : ℕ) (x : Sending) → IsSending kind x → (k : Key) (b : Bool) → same_key k (key_of_sending x) ≡ b → AllByRecursion (λ (f : Frame). same_key k f.key ≡ b) (frames_at kind line x)
 own_key kind line x can k b e = all-map (IsPieceOf x) (λ (f : Frame). same_key k f.key ≡ b) (frames_at kind line x) (λ f is. ap (same_key k) (piece_says x f is).key ∙ e) (sending_stretch kind line x can).each
 
--- the frames of sendings, one behind the other, fall into their stretches
+-- the frames of sendings, in order, fall into their stretches
 sent_frames : (ℕ → Option Kind) → ℕ → List Sending → List Frame
 sent_frames kind line xs = frames_from kind line (as_entries (flat_map (frames_of_sending kind) xs))
 
--- The frames of a sending stand at lines one behind the other, and there are 32 at most: so the shortest window holds them.
+-- A sending has at most 32 frames, at consecutive lines: so the shortest window contains them.
 short : (kind : ℕ → Option Kind) (x : Sending) → IsSending kind x → length (as_entries (frames_of_sending kind x)) ≤ 32
 unfolding pieces_as
 short kind x can = grind (arith, length-map, length-map-range_with_len)

@@ -1,4 +1,4 @@
--- What becomes of messages whose frames are scattered over a log.
+-- How messages arrive whose frames are scattered over a log.
 use Rattle.std.specs.Prelude.{◌≡◌, ℕ, ◌+◌, ◌<◌, min, true, false, List, [], ◌++◌, map, length, Option, Some, IfSome}
 use Rattle.std.specs.Prelude.{Contains}
 use Rattle.std.specs.List.{All, AllZip, range_with_len}
@@ -13,14 +13,14 @@ use Rattle.n2k_join.specs.Pieces.{last_piece, Sending}
 use Rattle.n2k_join.specs.Scattered.{key_of_sending, IsPieceOf, ArePieces, IsStretchOf, sendings_of}
 use Rattle.n2k_join.specs.Window.{Window}
 
--- The pieces of a sending make one group, in whatever order they come: all of them are complete and carry the message's
--- data, and fewer of them are not complete.
+-- The pieces of a sending make one group, in any order: all of them are complete and carry the message's data, and
+-- fewer of them are not complete.
 pub record PiecesJoin (x : Sending) : Type 0 where
   pub complete_together : (fs : List Frame) → IsStretchOf x fs → complete fs ≡ true
   pub carry_data : (fs : List Frame) → IsStretchOf x fs → data_of fs ≡ x.message.payload
   pub no_part : (fs : List Frame) → ArePieces x fs → length fs < last_piece x.message + 1 → complete fs ≡ false
 
--- The longest message fills the frames of all numbers, and one of a byte more would need a number more.
+-- The longest message has a frame of each number, and one more byte would need another number.
 pub record FillsAllFrames : Type 0 where
   pub all : last_number longest_message + 1 ≡ most_frames
   pub no_more : last_number (longest_message + 1) ≡ most_frames
@@ -34,8 +34,8 @@ pub record Brings (window : Window) (kind : ℕ → Option Kind) (es : List Entr
   pub carries : data_of group ≡ x.message.payload
   pub given : message window kind es (last_line group) ≡ Some x.message
 
--- Each message arrives whole: the groups of a key bring that key's messages, one each and in their order; and no group
--- is broken at any line, and none stays open.
+-- Each message arrives whole: the groups of a key bring that key's messages, one each and in their order; no group is
+-- broken at any line, and none stays open.
 pub record ArriveWhole (window : Window) (kind : ℕ → Option Kind) (ms : List PacketParts) (es : List Entry)
     : Type 0 where
   pub brought : (key : Key)
@@ -43,8 +43,8 @@ pub record ArriveWhole (window : Window) (kind : ℕ → Option Kind) (ms : List
   pub none_broken : (line : ℕ) → broken window kind es line ≡ []
   pub none_open : open_within window (length es) (frames kind es) ≡ []
 
--- After the entries `front` of a log, in the rest of it, `back`, the next frames of a sending's key are its pieces, by
--- rising number: `group`, within the window. The key's frames that come later are `after`.
+-- After the entries `front` of a log, the next frames of a sending's key are its pieces, by rising number: `group`,
+-- within the window. `back` is the rest of the log, `after` the key's later frames.
 pub record ComesNext (window : Window) (kind : ℕ → Option Kind) (front back : List Entry) (x : Sending)
     (group after : List Frame) : Type 0 where
   pub next : of_key (key_of_sending x) (frames kind (front ++ back))
@@ -53,14 +53,14 @@ pub record ComesNext (window : Window) (kind : ℕ → Option Kind) (front back 
   pub rising : map (λ (f : Frame). f.number) group ≡ range_with_len 0 (last_piece x.message + 1)
   pub in_time : All (λ (f : Frame). f.line < first group + window.lines) group
 
--- What the front leaves open under that key, if anything, has frame 0.
+-- If the entries `front` leave a group of the sending's key open, it has frame 0.
 abbrev pub LeavesZero : Window → (ℕ → Option Kind) → List Entry → Sending → Type 0
 LeavesZero window kind front x =
     IfSome (open_of (within window) (key_of_sending x) (frames kind front))
     (λ last. length front < first last + window.lines → has_number 0 last ≡ true)
 
--- The key heals: the message is given at the line of its last piece, and what was left open, if anything, is broken: at
--- the line of its first, or before, where its own window ends before that.
+-- heals: the line of the last piece gives the message, and the group left open, if any, is broken at the line of the
+-- first piece, or earlier if its window ends earlier.
 pub record Heals (window : Window) (kind : ℕ → Option Kind) (front back : List Entry) (x : Sending) (group : List Frame)
     : Type 0 where
   pub given : message window kind (front ++ back) (last_line group) ≡ Some x.message

@@ -1,4 +1,4 @@
--- What a state holds at the most, one that was read among them.
+-- The limits of a state, including one that was read.
 use Rattle.std.specs.Prelude.{◌≡◌, ◌≤◌, ℕ, ◌+◌, ◌*◌, List, length, Ok, IfSome}
 use Rattle.std.specs.List.{AllByRecursion}
 use Rattle.n2k_join.specs.declared.saved.object.StateFormat.TheVariants.{WithWindow}
@@ -12,8 +12,8 @@ use Rattle.n2k_join.specs.State.{State, AreWaiting}
 abbrev pub HasWindow : List ℕ → Type 0
 HasWindow bytes = IfSome (parsed bytes) (λ d. format_in d ≡ Ok WithWindow)
 
--- Few groups are open: none whose window has ended, so no more than the window has lines; each has few frames; and what
--- is saved of them is short.
+-- Few groups are open: the window of none has ended, so there are at most as many as the window has lines; each has few
+-- frames; and their saved text is short.
 pub record HoldsFew (s : State) : Type 0 where
   pub waiting : AreWaiting s
   pub groups : length s.groups ≤ s.window.lines

@@ -1,5 +1,5 @@
--- What a complete group is in order: frames by rising number with no other of their key between them. Whether a device
--- sent them one after the other, no log shows.
+-- A complete group, in order: frames by rising number with no other of their key between them. No log shows whether a
+-- device sent them consecutively.
 use Rattle.std.specs.Prelude.{◌≡◌, ℕ, ◌+◌, true, List, [], ◌∷◌, ◌++◌, map, Option}
 use Rattle.std.specs.List.{All, range_with_len}
 use Rattle.n2k_wire.specs.declared.entry.Entry.{Entry}
@@ -9,8 +9,7 @@ use Rattle.n2k_join.specs.Groups.{within, complete, cut, total, last_number, las
 use Rattle.n2k_join.specs.Messages.{Keyed, message_of}
 use Rattle.n2k_join.specs.Window.{Window}
 
--- The frames come one behind the other among the key's frames of a log, and their numbers are 0 to the last, in that
--- order.
+-- The frames are consecutive among the key's frames of a log, and their numbers are 0 to the last, in that order.
 pub record AreConsecutive (key : Key) (fs group : List Frame) : Type 0 where
   pub before : List Frame
   pub after : List Frame
@@ -24,7 +23,7 @@ GroupsConsecutive window kind es key =
     (cut (within window) (of_key key (frames kind es)))
 
 -- The message of a line has the data of such a group, and the stamp, the priority and the identifier of its last frame,
--- which is that of the line.
+-- which is at that line.
 pub record ComesOfConsecutive (kind : ℕ → Option Kind) (es : List Entry) (line : ℕ) (m : Keyed) : Type 0 where
   pub group : List Frame
   pub consecutive : AreConsecutive m.key (frames kind es) group

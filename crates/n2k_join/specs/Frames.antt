@@ -11,12 +11,11 @@ use Rattle.n2k_wire.specs.Packet.{PacketParts, longest_message}
 use Rattle.n2k_table.specs.declared.definition.Kind.{Kind}
 use Rattle.n2k_table.specs.declared.definition.Kind.TheVariants.{Single, Fast}
 
--- the numbers that five bits have, so the most frames of a group
+-- the most frames of a group: their numbers have five bits
 abbrev pub most_frames : ℕ
 most_frames = 32
 
--- the sequences that three bits have, so the most messages of one sender, destination and PGN that are under way at
--- once
+-- the most messages of one sender, destination and PGN that are under way at once: their sequences have three bits
 abbrev pub most_sequences : ℕ
 most_sequences = 8
 
@@ -24,7 +23,7 @@ most_sequences = 8
 abbrev pub frame_bytes : ℕ
 frame_bytes = 7
 
--- what the bytes of a frame are filled with
+-- the byte that fills a frame up
 abbrev pub filler : ℕ
 filler = 255
 
@@ -57,8 +56,7 @@ abbrev pub has_total : List ℕ → Bool
 has_total [] = false
 has_total (total ∷ rest) = nat_le total longest_message
 
--- Data can be those of a frame of a fast packet: there is a header, and where its number is 0, a total that isn't too
--- large.
+-- The data can be a frame of a fast packet: there is a header and, if its number is 0, a total that is not too large.
 abbrev pub is_fast_payload : List ℕ → Bool
 is_fast_payload [] = false
 is_fast_payload (header ∷ rest) = not (header % most_frames == 0) || has_total rest
@@ -74,14 +72,14 @@ frame_with line packet header rest = record {
   id = packet.id;
 }
 
--- the frame of a packet of a fast PGN at that line, none where its data can't be a frame's
+-- the frame in a packet of a fast PGN at that line, or None if its data are not a frame's
 unfoldable pub fast_frame : ℕ → PacketParts → Option Frame
 fast_frame line packet =
     if is_fast_payload packet.payload
     then Some (frame_with line packet (slice_index_or packet.payload 0 0) (drop 1 packet.payload))
     else None
 
--- the frame that a packet gives, sent as its kind says
+-- the frame of a packet, by the kind of its PGN
 abbrev pub frame_by : Option Kind → ℕ → PacketParts → Option Frame
 frame_by None line packet = None
 frame_by (Some Single) line packet = None
@@ -92,7 +90,7 @@ abbrev pub frame_in : (ℕ → Option Kind) → ℕ → Entry → Option Frame
 frame_in kind line (entries.Frame packet) = frame_by (kind packet.id.pgn) line packet
 frame_in kind line _ = None
 
--- the frames of entries, whose first is that of line `first`
+-- the frames of entries; the first entry is line `first`
 abbrev pub frames_from : (ℕ → Option Kind) → ℕ → List Entry → List Frame
 frames_from kind first [] = []
 frames_from kind first (e ∷ es) = cons_option (frame_in kind first e) (frames_from kind (first + 1) es)

@@ -1,7 +1,7 @@
--- How the frames of one key fall into groups, and what a group's message holds. A group ends where it is complete, or
--- where the frame after it can't join it. Whether a frame can't is a test (`EndTest`), which every word that cuts takes
--- as an argument. By a window it can't where its number is in the group, where the group's window has ended, and, in
--- order, where its number isn't greater than each number in the group.
+-- How the frames of one key fall into groups, and what a group's message contains. A group ends if it is complete, or
+-- if the next frame can't join it. Whether a frame can't is a test (`EndTest`), an argument of each definition that
+-- cuts. By a window, a frame can't join if the group has its number, if the group's window has ended or, in order, if
+-- its number is not greater than each number in the group.
 use Rattle.std.specs.Prelude.{◌≡◌, ◌<◌, ℕ, ◌+◌, length, ◌/◌, ◌==◌, nat_le, nat_lt, slice_index_or, Bool, true, false}
 use Rattle.std.specs.Prelude.{not, ◌&&◌, ◌||◌, if◌then◌else◌, List, [], ◌∷◌, ◌++◌, take, drop, flat_map, Option, Some}
 use Rattle.std.specs.Prelude.{None, unwrap_or, option_and_then, is_some}
@@ -42,7 +42,7 @@ has_all last group = list_all (λ n. has_number n group) (range_with_len 0 (last
 abbrev pub is_within : ℕ → List Frame → Bool
 is_within last group = list_all (λ (f : Frame). nat_le f.number last) group
 
--- A group is complete: no number comes twice, 0 is among them, and they are exactly those that the total needs.
+-- A group is complete: no number is repeated, 0 is among them, and they are exactly the numbers that the total needs.
 unfoldable pub complete : List Frame → Bool
 complete group =
     not (has_twice group) && (has_number 0 group
@@ -66,7 +66,7 @@ last_line (f ∷ g ∷ fs) = last_line (g ∷ fs)
 abbrev pub repeats : EndTest
 repeats group f = has_number f.number group
 
--- a number that comes again ends a group
+-- a repeated number ends a group
 pub record EndsRepeats (ends : EndTest) : Type 0 where
   pub repeated : (group : List Frame) (f : Frame) → repeats group f ≡ true → ends group f ≡ true
 
@@ -75,8 +75,8 @@ abbrev pub has_from : ℕ → List Frame → Bool
 has_from number [] = false
 has_from number (f ∷ fs) = nat_le number f.number || has_from number fs
 
--- The frame's number isn't greater than each number in it. The frames that a state holds of a group stand at its first
--- line, and end nothing among themselves.
+-- The frame's number is not greater than each number in the group. The frames of an open group in a state all have its
+-- first line, so they do not end each other.
 abbrev pub falls_back : EndTest
 falls_back group f = nat_lt (first group) f.line && has_from f.number group
 
@@ -84,11 +84,11 @@ falls_back group f = nat_lt (first group) f.line && has_from f.number group
 abbrev pub misfits : Window → EndTest
 misfits window group f = repeats group f || (window.in_order && falls_back group f)
 
--- the frame comes where the group's window has ended, so many lines after its first
+-- the frame comes after the group's window, which has so many lines from its first
 abbrev pub is_late : Window → EndTest
 is_late window group f = nat_le (first group + window.lines) f.line
 
--- what ends a group that isn't complete, by the window
+-- the test that ends an incomplete group, by the window
 abbrev pub within : Window → EndTest
 within window group f = misfits window group f || is_late window group f
 
@@ -96,24 +96,23 @@ within window group f = misfits window group f || is_late window group f
 abbrev pub closes : EndTest → List Frame → Frame → Bool
 closes ends group f = complete group || ends group f
 
--- the groups of frames of one key, the first of them beginning with these
+-- the groups of frames of one key; the first group begins with `group`
 abbrev pub cut_from : EndTest → List Frame → List Frame → List (List Frame)
 cut_from ends group [] = group ∷ []
 cut_from ends group (f ∷ fs) =
     if closes ends group f then group ∷ cut_from ends (f ∷ []) fs else cut_from ends (group ++ f ∷ []) fs
 
--- the groups of frames of one key, in order
+-- cut: the groups of frames of one key, in order
 unfoldable pub cut : EndTest → List Frame → List (List Frame)
 cut ends [] = []
 cut ends (f ∷ fs) = cut_from ends (f ∷ []) fs
 
--- A front of frames is a group that has ended: it is complete, or no frame follows, or it ends before the one that
--- does.
+-- A prefix of frames is a group that has ended: it is complete, or no frame follows, or it ends before the next frame.
 abbrev pub HasEnded : EndTest → List Frame → List Frame → Type 0
 HasEnded ends group [] = Unit {0}
 HasEnded ends group (f ∷ rest) = closes ends group f ≡ true
 
--- What the first group of frames is: the shortest front, not an empty one, that has ended.
+-- The first group of frames: the shortest nonempty prefix that has ended.
 pub record IsFirstGroup (ends : EndTest) (fs group rest : List Frame) : Type 0 where
   pub joined : fs ≡ group ++ rest
   pub nonempty : 0 < length group
@@ -125,7 +124,7 @@ pub record IsFirstGroup (ends : EndTest) (fs group rest : List Frame) : Type 0 w
 abbrev pub incomplete : List Frame → Option (List Frame)
 incomplete group = if complete group then None else Some group
 
--- The open group of a key: the last one, where it isn't complete. Its window may have ended since.
+-- The open group of a key: the last one, if it is incomplete. Its window may have ended since.
 abbrev pub open_of : EndTest → Key → List Frame → Option (List Frame)
 open_of ends key fs = option_and_then incomplete (last_or None (cut ends (of_key key fs)))
 
@@ -133,8 +132,7 @@ open_of ends key fs = option_and_then incomplete (last_or None (cut ends (of_key
 abbrev pub bytes_at : List Frame → ℕ → List ℕ
 bytes_at group number = unwrap_or (carried group number) []
 
--- The data of a complete group: what its frames carry, by rising number, without the total, and no more bytes than it
--- says.
+-- The data of a complete group: the bytes of its frames, by rising number, without the total, and cut to the total.
 unfoldable pub data_of : List Frame → List ℕ
 data_of group =
     take (total group) (drop 1 (flat_map (bytes_at group) (range_with_len 0 (last_number (total group) + 1))))

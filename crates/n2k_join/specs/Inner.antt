@@ -1,4 +1,4 @@
--- Words that only private clauses, invariants and proofs of this crate use.
+-- Definitions that only private clauses, invariants and proofs of this crate use.
 pub mod Apart
 pub mod Order
 pub mod Places

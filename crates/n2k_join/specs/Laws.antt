@@ -1,4 +1,4 @@
--- What holds of the groups of frames, of the step, and of bad lines, for all lists of them.
+-- Laws of the groups of frames, of the step, and of bad lines.
 use Rattle.std.specs.Prelude.{◌≡◌, ◌<◌, ◌≤◌, ◌⊎◌, ℕ, ◌+◌, false, true, List, [], ◌∷◌, ◌++◌, length, flat_map, slice_get}
 use Rattle.std.specs.Prelude.{All, Option, Some, option_map}
 use Rattle.n2k_wire.specs.declared.entry.Entry.{Entry}
@@ -12,7 +12,7 @@ use Rattle.n2k_join.specs.State.{State, state, step_given, step_after}
 use Rattle.n2k_join.specs.Step.{expired}
 use Rattle.n2k_join.specs.Window.{Window}
 
--- The groups that frames are cut into are the frames in their order; none is empty, and none has a number twice.
+-- The groups that frames are cut into are the frames in their order; none is empty, and none has a repeated number.
 pub record CutJoins (ends : EndTest) (fs : List Frame) : Type 0 where
   pub joined : flat_map (λ (group : List Frame). group) (cut ends fs) ≡ fs
   pub nonempty : All (λ (group : List Frame). 0 < length group) (cut ends fs)
@@ -24,19 +24,19 @@ pub record HasFirstGroup (ends : EndTest) (fs : List Frame) : Type 0 where
   pub rest : List Frame
   pub is : IsFirstGroup ends fs group rest
 
--- No frames have no groups; the first group of others is the shortest front that has ended, and the rest is cut
--- likewise. So this says what the groups are.
+-- No frames have no groups. Otherwise the first group is the shortest prefix that has ended, and the rest is cut in the
+-- same way. This determines the groups.
 pub record CutFirst (ends : EndTest) (fs : List Frame) : Type 0 where
   pub none : cut ends [] ≡ []
   pub begins : 0 < length fs → HasFirstGroup ends fs
   pub follows : (group rest : List Frame) → IsFirstGroup ends fs group rest → cut ends fs ≡ group ∷ cut ends rest
 
--- Of some groups the one at a place is settled: it is complete, or another follows.
+-- The group at a place is settled: it is complete, or another follows.
 abbrev pub IsSettled : List (List Frame) → ℕ → List Frame → Type 0
 IsSettled groups place group = (complete group ≡ true) ⊎ (place + 1 < length groups)
 
--- Frames that follow leave each settled group in its place, and each group begins where it began, so that what was
--- broken is broken at the same line. The number of groups never falls.
+-- More frames leave each settled group in its place. Each group begins where it began, so a broken group stays broken
+-- at the same line. The number of groups never falls.
 pub record CutGrows (ends : EndTest) (fs back : List Frame) : Type 0 where
   pub stays : (place : ℕ) (group : List Frame) → slice_get (cut ends fs) place ≡ Some group
       → IsSettled (cut ends fs) place group → slice_get (cut ends (fs ++ back)) place ≡ Some group
@@ -44,7 +44,7 @@ pub record CutGrows (ends : EndTest) (fs back : List Frame) : Type 0 where
       → option_map first (slice_get (cut ends (fs ++ back)) place) ≡ Some (first group)
   pub no_fewer : length (cut ends fs) ≤ length (cut ends (fs ++ back))
 
--- What the lines of a front of a log gave is settled: whatever follows, they give the same messages and the same broken
+-- The results of the lines of `front` are settled: whatever follows, they give the same messages and the same broken
 -- groups.
 pub record HasSettled (window : Window) (kind : ℕ → Option Kind) (front back : List Entry) : Type 0 where
   pub messages : (line : ℕ) → 1 ≤ line → line ≤ length front
@@ -52,7 +52,7 @@ pub record HasSettled (window : Window) (kind : ℕ → Option Kind) (front back
   pub broken_groups : (line : ℕ) → line ≤ length front
       → broken window kind (front ++ back) line ≡ broken window kind front line
 
--- The step from the state of a log is the state of the log with the entry, and gives what that one's last line gives.
+-- The step from the state of a log is the state of the log with the entry, and has the result of that log's last line.
 pub record StepsAgree (id : List ℕ) (window : Window) (kind : ℕ → Option Kind) (es : List Entry) (e : Entry)
     : Type 0 where
   pub after : step_after kind (state id window kind es) e ≡ state id window kind (es ++ e ∷ [])
@@ -62,14 +62,14 @@ pub record StepsAgree (id : List ℕ) (window : Window) (kind : ℕ → Option K
     broken = broken window kind (es ++ e ∷ []) (length es + 1);
   }
 
--- With an entry more each earlier line gives what it gave.
+-- With one more entry each earlier line keeps its result.
 pub record LinesStay (window : Window) (kind : ℕ → Option Kind) (es : List Entry) (e : Entry) : Type 0 where
   pub messages : (line : ℕ) → 1 ≤ line → line ≤ length es
       → message window kind (es ++ e ∷ []) line ≡ message window kind es line
   pub broken_groups : (line : ℕ) → line ≤ length es
       → broken window kind (es ++ e ∷ []) line ≡ broken window kind es line
 
--- Where an entry is bad: with a skipped line in its place only the count of bad lines changes.
+-- For a bad entry: with a skipped line in its place, only the count of bad lines changes.
 pub record BadAlone (window : Window) (kind : ℕ → Option Kind) (front : List Entry) (e : Entry) (back : List Entry)
     : Type 0 where
   pub messages : (line : ℕ)
@@ -83,8 +83,8 @@ pub record BadAlone (window : Window) (kind : ℕ → Option Kind) (front : List
         bad = (counts window kind (front ++ entries.Skip ∷ back)).bad + 1;
       }
 
--- A group that is due may be broken before its line is taken: the step from the state without it leads to the same
--- state, and gives the same but for that group, which is the first of those that the line breaks.
+-- A group that is due may be broken before its line is taken: without it, the step leads to the same state and gives
+-- the same except for that group, the first that the line breaks.
 pub record ExpiresFirst (kind : ℕ → Option Kind) (s : State) (e : Entry) (group : Group) : Type 0 where
   pub after : step_after kind s e ≡ step_after kind (expired s) e
   pub given : step_given kind s e ≡ record {

@@ -1,5 +1,4 @@
--- What the lines of a log give: messages, bad lines and broken groups. `kind` says how a PGN is sent, as the table has
--- it.
+-- The results of the lines of a log: messages, bad lines and broken groups. `kind` is how a PGN is sent, by the table.
 use Rattle.std.specs.Prelude.{ℕ, zero, suc, ◌+◌, ◌==◌, min, Bool, false, not, ◌&&◌, if◌then◌else◌, List, [], ◌∷◌, find}
 use Rattle.std.specs.Prelude.{filter_map, length, sum_by, count_by, slice_get, Option, Some, None, option_map}
 use Rattle.std.specs.Prelude.{option_and_then, is_some}
@@ -32,7 +31,7 @@ message_of f group = record { stamp = f.stamp; id = f.id; payload = data_of grou
 abbrev pub is_done_at : ℕ → List Frame → Bool
 is_done_at line group = complete group && (last_line group == line)
 
--- what the frame makes complete among the groups of its key
+-- the message of the group that the frame completes, among the groups of its key
 abbrev pub gathered_by : EndTest → List Frame → Frame → Option Keyed
 gathered_by ends fs f =
     option_map (λ group. record { key = f.key; message = message_of f group })
@@ -47,19 +46,19 @@ abbrev pub entry_at : List Entry → ℕ → Option Entry
 entry_at es zero = None
 entry_at es (suc i) = slice_get es i
 
--- the message that a frame gives alone, by its PGN's kind: it is one where the PGN is sent in single frames
+-- the message that a frame gives alone, by its PGN's kind: its packet, if the PGN is sent in single frames
 abbrev pub single_by : Option Kind → PacketParts → Option PacketParts
 single_by None packet = None
 single_by (Some Single) packet = Some packet
 single_by (Some Fast) packet = None
 
--- the message that an entry gives alone: a whole message is one where its PGN is in the table, however that is sent
+-- the message that an entry gives alone: a whole message counts if its PGN is in the table, of either kind
 abbrev pub alone : (ℕ → Option Kind) → Entry → Option PacketParts
 alone kind (entries.Frame packet) = single_by (kind packet.id.pgn) packet
 alone kind (entries.Whole packet) = if is_some (kind packet.id.pgn) then Some packet else None
 alone kind _ = None
 
--- the message that a line gives: of the group that it completes, or of its entry alone
+-- the message of a line: of the group that it completes, or of its entry alone
 abbrev pub message_with : EndTest → (ℕ → Option Kind) → List Entry → ℕ → Option PacketParts
 message_with ends kind es line =
     option_or (option_map (λ (m : Keyed). m.message) (gathered ends (frames kind es) line))
@@ -68,8 +67,7 @@ message_with ends kind es line =
 abbrev pub message : Window → (ℕ → Option Kind) → List Entry → ℕ → Option PacketParts
 message window = message_with (within window)
 
--- why the line of a frame is bad, by its PGN's kind: under a fast PGN its data may not be those of a fast packet's
--- frame
+-- why the line of a frame is bad, by its PGN's kind: under a fast PGN, if its data are not a frame's
 abbrev pub fast_cause : Option Kind → PacketParts → Option BadCause
 fast_cause None packet = None
 fast_cause (Some Single) packet = None
@@ -81,25 +79,25 @@ cause_in kind (entries.Bad cause) = Some cause
 cause_in kind (entries.Frame packet) = fast_cause (kind packet.id.pgn) packet
 cause_in kind _ = None
 
--- what is reported of a broken group: its key, and the line that opened it
+-- the report of a broken group: its key, and the line that opened it
 abbrev pub broken_from : Key → ℕ → Broken
 broken_from key line = record { pgn = key.pgn; src = key.src; dst = key.dst; seq = key.sequence; first = line }
 
--- that, by its key and frames
+-- the report of a group, by its key and frames
 abbrev pub broken_of : Key → List Frame → Broken
 broken_of key group = broken_from key (first group)
 
--- and by what a state keeps of it
+-- the report of a state's group
 abbrev pub as_broken : Group → Broken
 as_broken group = broken_from group.key group.first
 
--- The line at which a group that isn't complete is broken, where these groups come after it: that at which its window
--- ends, or that of the frame after it, whichever is first.
+-- The line at which an incomplete group is broken, given the later groups of its key: the line at which its window
+-- ends, or the first line of the next group if that is earlier.
 abbrev pub broken_line : Window → List Frame → List (List Frame) → ℕ
 broken_line window group [] = first group + window.lines
 broken_line window group (next ∷ groups) = min (first group + window.lines) (first next)
 
--- of the groups of a key the one that begins at line `begun`, where it is broken at line `line`
+-- among the groups of a key, the group that begins at line `begun`, if it is broken at line `line`
 abbrev pub broken_among : Window → ℕ → ℕ → List (List Frame) → Option (List Frame)
 broken_among window begun line [] = None
 broken_among window begun line (group ∷ groups) =
@@ -110,7 +108,7 @@ abbrev pub broken_by : Window → List Frame → ℕ → Frame → Option Broken
 broken_by window fs line f =
     option_map (broken_of f.key) (broken_among window f.line line (cut (within window) (of_key f.key fs)))
 
--- the group that the frame at line `begun` opened, where it is broken at line `line`
+-- the group that the frame at line `begun` opened, if it is broken at line `line`
 abbrev pub broken_begun : Window → List Frame → ℕ → ℕ → Option Broken
 broken_begun window fs line begun = option_and_then (broken_by window fs line) (frame_at begun fs)
 
@@ -131,8 +129,8 @@ is_unknown kind _ = false
 abbrev pub numbers : List Entry → List ℕ
 numbers es = range_with_len 1 (length es)
 
--- lines, skipped ones too; those that give a message; bad ones; those of an unknown PGN; groups broken, and groups open
--- at the end
+-- lines, including skipped ones; lines that give a message; bad lines; lines of an unknown PGN; broken groups; and
+-- `held`, the groups open at the end
 abbrev pub counts : Window → (ℕ → Option Kind) → List Entry → Counts
 counts window kind es = record {
   lines = length es;

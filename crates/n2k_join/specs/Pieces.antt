@@ -10,8 +10,8 @@ use Rattle.n2k_table.specs.declared.definition.Kind.{Kind}
 use Rattle.n2k_table.specs.declared.definition.Kind.TheVariants.{Single, Fast}
 pub use Rattle.n2k_join.specs.declared.stream.Stream.{Stream}
 
--- What the frames of a fast packet carry, one behind the other: the length of the data, the data, and FF without end.
--- This is the byte at a place of that.
+-- The byte at a place of the stream that the frames of a fast packet carry: the length of the data, the data, then FF
+-- without end.
 abbrev pub sent_byte : List ℕ → ℕ → ℕ
 sent_byte payload place = slice_index_or (length payload ∷ payload) place filler
 
@@ -29,7 +29,7 @@ piece m sequence n =
 abbrev pub last_piece : PacketParts → ℕ
 last_piece m = last_number (length m.payload)
 
--- the frames of a message whose PGN is of this kind: none where the PGN is unknown
+-- pieces: the frames of a message whose PGN is of this kind, none if the PGN is unknown
 unfoldable pub pieces_as : Option Kind → PacketParts → ℕ → List PacketParts
 pieces_as None m sequence = []
 pieces_as (Some Single) m sequence = m ∷ []
@@ -38,7 +38,7 @@ pieces_as (Some Fast) m sequence = map (piece m sequence) (range_with_len 0 (las
 abbrev pub pieces_by : (ℕ → Option Kind) → PacketParts → ℕ → List PacketParts
 pieces_by kind m sequence = pieces_as (kind m.id.pgn) m sequence
 
--- the stream of an identifier: who sends what to whom
+-- the stream of an identifier
 abbrev pub stream_of : Id → Stream
 stream_of id = record { src = id.src; pgn = id.pgn; dst = id.dst }
 
@@ -50,7 +50,7 @@ pub record Sending : Type 0 where
   pub sequence : ℕ
   pub message : PacketParts
 
--- the sequence of a message that comes after others: as many as there are of its stream, modulo the number of sequences
+-- the sequence of a message after others: the number of earlier messages of its stream, modulo the number of sequences
 abbrev pub sequence_after : List PacketParts → PacketParts → ℕ
 sequence_after earlier m =
     count_by (λ (e : PacketParts). same_stream (stream_of e.id) (stream_of m.id)) earlier % most_sequences
@@ -86,17 +86,17 @@ is_fast (Some Fast) = true
 is_fast (Some Single) = false
 is_fast None = false
 
--- after a message of the stream: the next sequence, where the PGN is sent as fast packets
+-- after a message of the stream: its next sequence, if the PGN is sent as fast packets
 unfoldable pub raised : (ℕ → Option Kind) → Sequences → Stream → Sequences
 raised kind held stream other =
     if is_fast (kind stream.pgn) && same_stream stream other then (held other + 1) % most_sequences else held other
 
--- what a splitter that holds these sequences makes of messages
+-- the frames that a splitter with these sequences makes of messages
 unfoldable pub split_from : (ℕ → Option Kind) → Sequences → List PacketParts → List PacketParts
 split_from kind held [] = []
 split_from kind held (m ∷ ms) =
     pieces_by kind m (held (stream_of m.id)) ++ split_from kind (raised kind held (stream_of m.id)) ms
 
--- what a new splitter makes of messages
+-- the frames that a new splitter makes of messages
 abbrev pub split_all : (ℕ → Option Kind) → List PacketParts → List PacketParts
 split_all kind ms = split_from kind first_sequences ms

@@ -1,4 +1,4 @@
--- What a whole log gives, and what of it belongs to a key.
+-- The messages of a whole log, and the messages of a key.
 use Rattle.std.specs.Prelude.{◌≡◌, ℕ, List, map, filter, filter_map, length, Option}
 use Rattle.n2k_wire.specs.declared.entry.Entry.{Entry}
 use Rattle.n2k_wire.specs.Packet.{PacketParts}
@@ -14,20 +14,20 @@ use Rattle.n2k_join.specs.Window.{Window}
 abbrev pub messages : Window → (ℕ → Option Kind) → List Entry → List PacketParts
 messages window kind es = filter_map (message window kind es) (numbers es)
 
--- those that its groups give
+-- the messages that the groups of a log give
 abbrev pub gathered_messages : Window → (ℕ → Option Kind) → List Entry → List Keyed
 gathered_messages window kind es = filter_map (gathered (within window) (frames kind es)) (numbers es)
 
--- those that the groups of a key give
+-- the messages that the groups of a key give
 abbrev pub given_to : Key → Window → (ℕ → Option Kind) → List Entry → List PacketParts
 given_to key window kind es =
     map (λ (m : Keyed). m.message) (filter (λ (m : Keyed). same_key key m.key) (gathered_messages window kind es))
 
--- of a list of messages those whose frames have the key
+-- the messages of a list whose frames have the key
 abbrev pub sent_to : Key → List PacketParts → List PacketParts
 sent_to key ms = map (λ (x : Sending). x.message) (sendings_of key ms)
 
--- The log gives the messages: as many as they are, each by a group, and each key's in their order.
+-- The log gives these messages and no more, each by a group, and each key's in their order.
 pub record Replays (window : Window) (kind : ℕ → Option Kind) (ms : List PacketParts) (es : List Entry) : Type 0 where
   pub as_many : length (messages window kind es) ≡ length ms
   pub by_groups : messages window kind es ≡ map (λ (m : Keyed). m.message) (gathered_messages window kind es)

@@ -1,5 +1,5 @@
--- What a text says as a saved state: which state it spells, or the first reason why it is refused. Any JSON text is
--- taken that `serde_json` reads as such an object: spaces, another order of members, digits of either case.
+-- Reading a text as a saved state: the state that it spells, or the first reason why it is refused. Any JSON text is
+-- accepted that `serde_json` reads as such an object: with spaces, members in another order, digits of either case.
 use Rattle.std.specs.Prelude.{ℕ, ◌+◌, ◌==◌, nat_le, nat_lt, Bool, true, false, not, ◌&&◌, ◌||◌, slice_index_or, codes}
 use Rattle.std.specs.Prelude.{List, [], ◌∷◌, ◌++◌, length, if◌then◌else◌, Option, None, option_and_then, Result}
 use Rattle.std.specs.Prelude.{Ok, Err}
@@ -50,14 +50,13 @@ abbrev pub has_only : Object → Members → Bool
 has_only object no_members = true
 has_only object (member name d ms) = is_name object name && has_only object ms
 
--- The value is an object without any member but those of this one. That each of these is there, the readers of the
--- members say.
+-- The value is an object without unknown members. The readers of the members require each of them.
 abbrev pub members_at : Object → Data → Result (Unit {0}) StateFault
 members_at object d = do
   ms ← or_cause Shape (as_object d)
   holds_or Shape (has_only object ms)
 
--- the value of a member that has to be there
+-- the value of a required member
 abbrev pub required : List ℕ → Data → Result Data StateFault
 required name d = or_cause Shape (get name d)
 
@@ -86,7 +85,7 @@ elements_of d = do
   ds ← or_cause Shape (as_array d)
   Ok (values_in ds)
 
--- each of a list read in turn
+-- the items of a list, read in turn
 abbrev pub each : {A : Type 0} → (Data → Result A StateFault) → List Data → Result (List A) StateFault
 each f [] = Ok []
 each f (d ∷ ds) = do
@@ -135,7 +134,7 @@ read_groups d = do
   ds ← elements_of e
   each read_group ds
 
--- The counts that are written. That of the open groups is not: it is their number.
+-- The counts in the text. The count of open groups is not there: it is their number.
 unfoldable pub read_counts : Data → Result Counts StateFault
 read_counts d = do
   bad ← count_at (codes "bad") d
@@ -155,12 +154,12 @@ abbrev pub state_of_parts : List ℕ → Window → Counts → List Group → St
 state_of_parts id window counts groups =
     record { id = id; window = window; counts = record counts { held = length groups }; groups = groups }
 
--- The window of a state, by its format: it is that which is handed in, where the state doesn't tell one.
+-- The window of a state, by its format, or the given one if the state has no window.
 abbrev pub read_window : StateFormat → ℕ → Data → Result ℕ StateFault
 read_window WithWindow lines d = count_at (codes "window") d
 read_window WithoutWindow lines d = Ok lines
 
--- The state that a value of a format spells, whatever its numbers. Whether the window is in order is as handed in.
+-- The state that a value of a format spells, whatever its numbers. The given window decides whether it is in order.
 unfoldable pub read_state : StateFormat → Window → Data → Result State StateFault
 read_state format window d = do
   known ← members_at (objects.State format) d
@@ -170,15 +169,14 @@ read_state format window d = do
   lines ← read_window format window.lines d
   Ok (state_of_parts id (record { lines = lines; in_order = window.in_order }) counts groups)
 
--- the format that a value has
+-- the format of a state's value
 abbrev pub format_in : Data → Result StateFormat StateFault
 format_in d = do
   n ← or_cause Format (option_and_then as_int (get (codes "format") d))
   if n == old_format then Ok WithoutWindow else if n == saved_format then Ok WithWindow else Err Format
 
--- The rules of a valid state.
--- Each line counts once at most as a message, as bad or as unknown, and opens one group at most, which is broken or
--- open.
+-- The rules of a valid state. Each line counts at most once as a message, as bad or as unknown, and opens at most one
+-- group, which is broken or open.
 unfoldable pub counts_hold : Counts → Bool
 counts_hold c =
     nat_le c.lines most_lines && (nat_le (c.broken + c.held) c.lines && nat_le (c.messages + c.bad + c.unknown) c.lines)
@@ -201,7 +199,7 @@ total_holds number bytes = not (number == 0) || nat_le (slice_index_or bytes 0 0
 abbrev pub piece_holds : ℕ → Piece → Bool
 piece_holds least p = nat_le least p.number && (nat_lt p.number most_frames && total_holds p.number p.bytes)
 
--- numbers rise and are those that frames can have
+-- the numbers rise and are valid frame numbers
 unfoldable pub pieces_rise : ℕ → List Piece → Bool
 pieces_rise least [] = true
 pieces_rise least (p ∷ ps) = piece_holds least p && pieces_rise (p.number + 1) ps
@@ -223,12 +221,12 @@ groups_hold kind (g ∷ gs) =
 unfoldable pub is_valid : (ℕ → Option Kind) → State → Bool
 is_valid kind s = counts_hold s.counts && (firsts_rise 1 s.counts.lines s.groups && groups_hold kind s.groups)
 
--- beside these, a state with its window has no group whose window has ended
+-- a state with its window has no group whose window has ended
 abbrev pub waits_hold : StateFormat → State → Bool
 waits_hold WithWindow s = are_waiting s
 waits_hold WithoutWindow s = true
 
--- a value where the test holds, and else Invalid
+-- a value if the test holds, and else Invalid
 abbrev pub valid_if : {A : Type 0} → Bool → A → Result A StateFault
 valid_if true x = Ok x
 valid_if false x = Err Invalid
@@ -237,8 +235,8 @@ valid_if false x = Err Invalid
 abbrev pub parsed : List ℕ → Option Data
 parsed bytes = if is_utf8 bytes then read bytes else None
 
--- The state that the bytes spell under a table and a window, or the first fault that is found in them. A window that
--- the bytes have is never taken on in the place of the one that is handed in.
+-- The state that the bytes spell under a table and a window, or their first fault. A window in the bytes never replaces
+-- the given one.
 unfoldable pub resumed : (ℕ → Option Kind) → List ℕ → Window → List ℕ → Result State StateFault
 resumed kind id window bytes = do
   d ← or_cause NotJson (parsed bytes)

@@ -1,5 +1,5 @@
--- The rules of a valid state have two forms: as tests, which the reader of a text makes in turn, and as what holds of
--- the state of every join. They are one.
+-- The rules of a valid state have two forms: tests, which the reader of a text makes in turn, and properties of every
+-- join's state. They are equivalent.
 use Rattle.std.specs.Prelude.{◌≡◌, ◌<◌, ◌↔◌, ℕ, true, length, Option}
 use Rattle.std.specs.List.{AllByRecursion}
 use Rattle.n2k_table.specs.declared.definition.Kind.{Kind}
@@ -15,14 +15,14 @@ pub record HasSeven (piece : Piece) : Type 0 where
   pub seven : length piece.bytes ≡ frame_bytes
   pub are_bytes : AllByRecursion (λ byte. byte < 256) piece.bytes
 
--- A state whose numbers may be any, as a text spells one that is read under a window.
+-- The shape of a state that a text spells under a window; its numbers may be any.
 pub record HasShape (s : State) : Type 0 where
   pub window : IsWindow s.window.lines
   pub held : s.counts.held ≡ length s.groups
   pub frames : AllByRecursion (λ (g : Group). AllByRecursion HasSeven g.pieces) s.groups
 
--- A state that passes the tests is one that a join can have, with groups of fast PGNs, and such a state passes them.
--- The test of its window says that no group's window has ended.
+-- A state that passes the tests is a state of a join, with groups of fast PGNs, and such a state passes them. The test
+-- of the window is that no group's window has ended.
 pub record RulesAreOne (kind : ℕ → Option Kind) (s : State) : Type 0 where
   pub state : is_valid kind s ≡ true → IsState s × AreFast kind s.groups
   pub passes : IsState s → AreFast kind s.groups → is_valid kind s ≡ true

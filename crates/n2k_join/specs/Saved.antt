@@ -1,5 +1,5 @@
--- The text of a saved state: one JSON object, as `serde_json` writes it. It is compact, and the members of each object
--- are in the order of their names. It has the lines of the window, but not whether that is in order.
+-- The text of a saved state: one JSON object, compact as `serde_json` writes it, with the members of each object in the
+-- order of their names. It has the lines of the window, but not whether the window is in order.
 use Rattle.std.specs.Prelude.{◌≡◌, ℕ, Bool, if◌then◌else◌, List, length, map, codes}
 use Rattle.std.specs.List.{list_all}
 use Rattle.serde_json.specs.Data.{Data, Members, number, unsigned, string, array, object, no_items, item, no_members}
@@ -21,7 +21,7 @@ saved_format = 2
 abbrev pub old_format : ℕ
 old_format = 1
 
--- No group's window has ended. Where one has, the state was read in the old format and no line has been taken since.
+-- No group's window has ended. Otherwise the state was read in the old format and has taken no line since.
 abbrev pub are_waiting : State → Bool
 are_waiting s = list_all (is_waiting s.window s.counts.lines) s.groups
 
@@ -62,16 +62,16 @@ tree_by with_window s = object (
     member (codes "table") (string (encode_lower s.id)) (
     member (codes "unknown") (whole s.counts.unknown) (window_member with_window s.window.lines)))))))))
 
--- The state as it is saved. With a group whose window has ended it would not be read if it had its window; so it is
+-- The state as it is saved. With the window of a group ended, a state that had its window would be refused; so it is
 -- saved without.
 abbrev pub state_tree : State → Data
 state_tree s = tree_by (are_waiting s) s
 
--- its text
+-- the text of a saved state
 unfoldable pub state_text : State → List ℕ
 state_text s = compact_text (state_tree s)
 
--- the most bytes that the text of a state has beside its open groups, and the most that each of them adds
+-- the most bytes of a state's text without open groups, and the most bytes that each group adds
 abbrev pub bare_bytes : ℕ
 bare_bytes = 300
 

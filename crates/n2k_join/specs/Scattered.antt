@@ -35,13 +35,13 @@ pub record IsStretchOf (x : Sending) (fs : List Frame) : Type 0 where
   pub pieces : ArePieces x fs
   pub whole : length fs ≡ last_piece x.message + 1
 
--- A stretch, all of whose frames come before its window ends; in order, by rising number.
+-- A stretch whose frames all come before its window ends; in order, by rising number.
 pub record IsStretchWithin (window : Window) (x : Sending) (fs : List Frame) : Type 0 where
   pub stretch : IsStretchOf x fs
   pub in_time : All (λ (f : Frame). f.line < first fs + window.lines) fs
   pub ordered : window.in_order ≡ true → map (λ (f : Frame). f.number) fs ≡ range_with_len 0 (last_piece x.message + 1)
 
--- the frames of all groups, one group behind the other
+-- the frames of all groups, in order
 abbrev pub all_frames : List (List Frame) → List Frame
 all_frames groups = flat_map (λ (group : List Frame). group) groups
 
@@ -51,7 +51,7 @@ pub record FallInto (window : Window) (xs : List Sending) (fs : List Frame) : Ty
   pub one_behind_the_other : fs ≡ all_frames stretches
   pub each : AllZip (IsStretchWithin window) xs stretches
 
--- of a list of messages those whose frames have the key, with their sequence
+-- the messages of a list whose frames have the key, each with its sequence
 abbrev pub sendings_of : Key → List PacketParts → List Sending
 sendings_of key ms = filter (λ (x : Sending). same_key key (key_of_sending x)) (sendings ms)
 
@@ -70,7 +70,7 @@ IsMute kind es = All (λ (e : Entry). alone kind e ≡ None) es
 abbrev pub as_entries : List PacketParts → List Entry
 as_entries packets = map (λ p. entries.Frame p) packets
 
--- The frames that are written, a line each and in their order, make such a log, and it gives no message alone.
+-- The frames, written one a line in their order, make a scattered log, and it gives no message alone.
 pub record WrittenLog (window : Window) (kind : ℕ → Option Kind) (ms : List PacketParts) : Type 0 where
   pub entries : All IsEntry (as_entries (written kind ms))
   pub mute : IsMute kind (as_entries (written kind ms))

@@ -1,4 +1,4 @@
--- What a splitter holds, and why it refuses a message.
+-- The state of a splitter, and why it refuses a message.
 use Rattle.std.specs.Prelude.{ℕ, List, Option, Some, None, unwrap_or, length, nat_le, if◌then◌else◌}
 use Rattle.std.specs.Map.{lookup}
 use Rattle.n2k_wire.specs.Packet.{PacketParts}
@@ -13,8 +13,8 @@ use Rattle.n2k_join.specs.Pieces.{Stream, same_stream, Sequences}
 abbrev pub sequences : List (Stream × ℕ) → Sequences
 sequences held stream = unwrap_or (lookup (same_stream stream) held) 0
 
--- Why a message is refused, whose PGN is of this kind: nothing says how it is sent, or it is over what a frame carries
--- and its PGN is sent in single frames.
+-- Why a message whose PGN is of this kind is refused: its kind is unknown, or it is too long for the one frame of a
+-- single PGN.
 abbrev pub refusal : Option Kind → PacketParts → Option SplitFault
 refusal None m = Some Unknown
 refusal (Some Single) m = if nat_le (length m.payload) frame_payload then None else Some TooLong

@@ -1,5 +1,5 @@
--- The state of a join after a log, and the step that one more entry makes. The step knows no log: it is read off the
--- cuts of the frames that the state holds, followed by the entry's.
+-- The state of a join after a log, and the step that one more entry makes. The step needs no log: it cuts the frames
+-- that the state holds, followed by the entry's.
 use Rattle.std.specs.Prelude.{◌≡◌, ◌≤◌, ◌<◌, ℕ, ◌+◌, false, true, Bool, List, [], ◌∷◌, ◌++◌, map, reverse, length}
 use Rattle.std.specs.Prelude.{flat_map, Option, option_map, option_to_list, is_some, slice_index_or, Some}
 use Rattle.std.specs.Option.{option_or}
@@ -19,8 +19,7 @@ pub use Rattle.n2k_join.specs.Open.{Piece, Group}
 use Rattle.n2k_join.specs.Messages.{Keyed, gathered, alone, cause_in, as_broken, broken_with, is_unknown, counts}
 use Rattle.n2k_join.specs.Window.{Window, IsWindow}
 
--- which table the lines were read with, what ends a group, what the lines count, and the open groups by rising
--- first line
+-- the id of the table of the lines, the window, the counts of the lines, and the open groups by rising first line
 pub record State : Type 0 where
   pub id : List ℕ
   pub window : Window
@@ -49,16 +48,15 @@ held_frame group piece = record {
   id = record { prio = 0; pgn = group.key.pgn; src = group.key.src; dst = group.key.dst };
 }
 
--- The frames of an open group, by falling number: so frame 0, which has the total, comes last, and no front is
--- complete.
+-- The frames of an open group, by falling number: frame 0, which has the total, comes last, so no prefix is complete.
 abbrev pub held_of : Group → List Frame
 held_of group = map (held_frame group) (reverse group.pieces)
 
--- the frames that are held, group by group
+-- held: the frames of the open groups, group by group
 abbrev pub held : List Group → List Frame
 held groups = flat_map held_of groups
 
--- what a line gives: a message, the cause why it is bad, the groups that are broken at it
+-- the result of a line: a message, the cause of a bad line, the groups that are broken at it
 pub record Given : Type 0 where
   pub message : Option PacketParts
   pub cause : Option BadCause
@@ -68,15 +66,15 @@ pub record Given : Type 0 where
 abbrev pub next_line : State → ℕ
 next_line s = s.counts.lines + 1
 
--- the groups whose window ends at the next line, if not before: they are broken there before its frame is taken
+-- the groups whose window has ended by the next line: they are broken there before its frame is taken
 abbrev pub overdue : State → List Group
 overdue s = ended s.window (next_line s) s.groups
 
--- the frames that a state holds of the other groups, followed by the one of the next entry
+-- the held frames of the groups that wait, followed by the next entry's frame
 abbrev pub step_frames : (ℕ → Option Kind) → State → Entry → List Frame
 step_frames kind s e = held (waiting s.window (next_line s) s.groups) ++ option_to_list (frame_in kind (next_line s) e)
 
--- what the next entry gives
+-- the result of the next entry
 unfoldable pub step_given : (ℕ → Option Kind) → State → Entry → Given
 step_given kind s e = record {
   message =
@@ -87,16 +85,16 @@ step_given kind s e = record {
   broken = map as_broken (overdue s) ++ broken_with s.window (step_frames kind s e) (next_line s);
 }
 
--- the open groups after it
+-- the open groups after the next entry
 abbrev pub step_groups : (ℕ → Option Kind) → State → Entry → List Group
 step_groups kind s e = open_within s.window (next_line s) (step_frames kind s e)
 
--- one for a value, none for its absence
+-- 1 if true, 0 if false
 abbrev pub one_if : Bool → ℕ
 one_if true = 1
 one_if false = 0
 
--- the counts with one more entry, which gave this and left so many groups open
+-- the counts after one more entry with this result and so many open groups
 abbrev pub counts_after : (ℕ → Option Kind) → Counts → Entry → Given → ℕ → Counts
 counts_after kind c e given held = record {
   lines = c.lines + 1;
@@ -107,7 +105,7 @@ counts_after kind c e given held = record {
   held = held;
 }
 
--- the state after it
+-- the state after the next entry
 unfoldable pub step_after : (ℕ → Option Kind) → State → Entry → State
 step_after kind s e = record {
   id = s.id;
@@ -116,14 +114,14 @@ step_after kind s e = record {
   groups = step_groups kind s e;
 }
 
--- what counts can be after lines: each line gives at most one of a message, a cause and an unknown PGN, and opens at
--- most one group, which is broken or open afterwards
+-- the possible counts of lines: each line gives at most one of a message, a cause and an unknown PGN, and opens at most
+-- one group, which is broken or open afterwards
 pub record AreCounts (c : Counts) : Type 0 where
   pub lines : c.lines ≤ most_lines
   pub given : c.messages + c.bad + c.unknown ≤ c.lines
   pub broken : c.broken + c.held ≤ c.lines
 
--- a key's parts are such as packets have
+-- the limits of a key's parts in packets
 pub record IsKey (key : Key) : Type 0 where
   pub src : key.src < 256
   pub dst : key.dst < 256
@@ -136,7 +134,7 @@ pub record IsPiece (piece : Piece) : Type 0 where
   pub are_bytes : AllByRecursion (λ byte. byte < 256) piece.bytes
   pub total : piece.number ≡ 0 → slice_index_or piece.bytes 0 0 ≤ longest_message
 
--- the parts of a group are such as frames have
+-- the limits of a group's parts in frames
 pub record HasParts (group : Group) : Type 0 where
   pub key : IsKey group.key
   pub pieces : AllByRecursion IsPiece group.pieces
@@ -165,8 +163,8 @@ pub record AreOpen (lines : ℕ) (groups : List Group) : Type 0 where
   pub begun : AllByRecursion (λ (g : Group). g.first ≤ lines) groups
   pub apart : AreApart groups
 
--- A state that a join can have, whether or not a log leads to it. That its id is 32 bytes, the join's type says. That
--- its groups are of fast PGNs is not needed: the next line may be read with another table.
+-- A state that a join can have, even if no log leads to it. The join's type guarantees the 32 bytes of its id. Its
+-- groups need not be of fast PGNs: the next line may be read with another table.
 pub record IsState (s : State) : Type 0 where
   pub window : IsWindow s.window.lines
   pub counted : AreCounts s.counts
@@ -178,6 +176,6 @@ pub record IsState (s : State) : Type 0 where
 abbrev pub AreFast : (ℕ → Option Kind) → List Group → Type 0
 AreFast kind groups = AllByRecursion (λ (g : Group). kind g.key.pgn ≡ Some Fast) groups
 
--- No group's window has ended. The state of a log is such, and each state after a line.
+-- No group's window has ended: so it is in the state of a log, and in each state after a line.
 abbrev pub AreWaiting : State → Type 0
 AreWaiting s = AllByRecursion (λ (g : Group). s.counts.lines < g.first + s.window.lines) s.groups

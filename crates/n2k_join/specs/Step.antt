@@ -1,4 +1,4 @@
--- What a line answers, as the definitions see it.
+-- The result of a line, as the definitions see it.
 use Rattle.std.specs.Prelude.{◌≡◌, ◌≤◌, ◌<◌, ◌↔◌, ℕ, ◌+◌, ◌-◌, ◌==◌, is_some, Bool, true, false, not, if◌then◌else◌}
 use Rattle.std.specs.Prelude.{List, drop}
 use Rattle.std.specs.Prelude.{length, slice_get, Option, Some, None, option_to_list, Result, IfOk, OnOk}
@@ -18,7 +18,7 @@ use Rattle.n2k_join.specs.Open.{Group}
 use Rattle.n2k_join.specs.State.{State, Given, next_line, overdue, step_given, step_after, AreWaiting}
 use Rattle.n2k_join.specs.Counts.{most_lines}
 
--- A line breaks at most one group beside those whose window ends at it.
+-- A line breaks at most one group besides the groups whose window ends at it.
 abbrev pub given_of : Step → Given
 given_of step = record { message = step.message; cause = step.bad; broken = option_to_list step.broken }
 
@@ -29,11 +29,11 @@ packet_in (entries.Bad cause) = None
 packet_in (entries.Frame packet) = Some packet
 packet_in (entries.Whole packet) = Some packet
 
--- the packet of a line as its message, where it is one
+-- the packet of a line, if it is a message
 abbrev pub message_in : Bool → Option PacketParts → Option PacketParts
 message_in is_message own = if is_message then own else None
 
--- a message that an entry now has, and what its table has of its PGN
+-- a message that an entry now has, and its PGN in the table
 abbrev pub IsOwn : TableParts → Option KnownParts → Option PacketParts → Type 0
 IsOwn t None own = Unit {0}
 IsOwn t (Some known) None = ⊥
@@ -55,12 +55,11 @@ opens_by groups (Some f) = not (list_any (λ (g : Group). same_key f.key g.key) 
 abbrev pub opens : (ℕ → Option Kind) → State → Entry → Bool
 opens kind s e = opens_by s.groups (frame_in kind (next_line s) e)
 
--- The oldest of the open groups whose window ends at the next line, if not before. After the most lines there is no
--- next.
+-- The oldest open group whose window has ended by the next line. After the most lines there is no next line.
 abbrev pub due : State → Option Group
 due s = if s.counts.lines == most_lines then None else slice_get (overdue s) 0
 
--- the state where that one is broken: it is the first of the open groups, since these are ordered by first line
+-- the state after that group is broken: it is the first, since the groups are ordered by first line
 unfoldable pub expired : State → State
 expired s = record {
   id = s.id;
@@ -69,9 +68,8 @@ expired s = record {
   groups = drop 1 s.groups;
 }
 
--- What an answer says of a line that a join takes in the state `old`, and which state it leaves. Taken, the line is a
--- step of the definition. It is refused exactly at the most lines, or for want of memory where it opens a group; then
--- nothing changes.
+-- The result of a line that a join takes in the state `old`, and the state after it. An accepted line is a step of the
+-- definition. It is refused exactly at the most lines, or if memory for a new group is refused; then nothing changes.
 pub record TakesLine {Answer : Type 0} (gives : Answer → Given) (kind : ℕ → Option Kind) (old new : State) (e : Entry)
     (result : Result Answer JoinFault) : Type 0 where
   pub given : IfOk result (λ answer. gives answer ≡ step_given kind old e)

@@ -9,12 +9,12 @@ use Rattle.n2k_join.specs.Scattered.{key_of_sending}
 abbrev pub is_sent : ℕ → ℕ → ℕ → Sending → Bool
 is_sent src pgn dst x = (x.message.id.src == src) && ((x.message.id.pgn == pgn) && (x.message.id.dst == dst))
 
--- of a list of messages those of a sender, PGN and receiver, in their order, each with its sequence
+-- the messages of a sender, PGN and receiver, in their order, each with its sequence
 abbrev pub sent_by : ℕ → ℕ → ℕ → List PacketParts → List Sending
 sent_by src pgn dst ms = filter (is_sent src pgn dst) (sendings ms)
 
--- Of these any eight that follow one another, and any fewer, have different keys, whatever other messages come between
--- them.
+-- Any eight consecutive messages of one sender, PGN and receiver, and any fewer, have different keys, whatever other
+-- messages come between them.
 pub record EightUnderWay (ms : List PacketParts) : Type 0 where
   pub apart : (src pgn dst : ℕ) (front next back : List Sending) → sent_by src pgn dst ms ≡ front ++ (next ++ back)
       → length next ≤ most_sequences → AllPairs (λ (x y : Sending). key_of_sending x ≢ key_of_sending y) next

@@ -1,4 +1,4 @@
--- What ends a group that isn't complete: its window of lines, and the order of its frames' numbers.
+-- What ends an incomplete group: its window of lines, and the order of its frames' numbers.
 use Rattle.std.specs.Prelude.{◌≤◌, ℕ, Bool}
 
 -- the fewest lines of a window, and the most
@@ -8,8 +8,8 @@ shortest_window = 32
 abbrev pub longest_window : ℕ
 longest_window = 1_000_000
 
--- What ends a group that isn't complete, beside a number that comes twice: so many lines from its first frame's on,
--- that one counted; and, in order, a frame whose number isn't greater than each number in it.
+-- What ends an incomplete group, besides a repeated number: so many lines, counted from its first frame's; and, in
+-- order, a frame whose number is not greater than each number in it.
 pub record Window : Type 0 where
   pub lines : ℕ
   pub in_order : Bool

@@ -1,6 +1,6 @@
 //! The counts of a run.
 
-/// What a run counts, as its summary prints it.
+/// The counts of a run, as its summary prints them.
 #[derive(Clone, Copy, Debug, Default, PartialEq, Eq)]
 pub struct Counts {
     /// Lines read, skipped ones too.
@@ -13,7 +13,7 @@ pub struct Counts {
     pub unknown: u64,
     /// Groups that ended without a message.
     pub broken: u64,
-    /// Groups that are open at the end; the summary calls them `open`.
+    /// Groups that are open at the end. The summary calls this count `open`.
     pub held: u64,
 }
 

@@ -1,4 +1,4 @@
-//! What an entry gives, and the open groups that it leaves.
+//! The result of an entry, and the open groups after it.
 ghost use Rattle.std.specs.Prelude.{◌≡◌, ◌+◌, Some, None, true, false, not, IfOk, IfSome, OnOk, OnErr, is_some, option_map};
 ghost use Rattle.std.specs.List.{AllByRecursion};
 ghost use Rattle.n2k_table.specs.declared.definition.Kind.TheVariants.{Fast};
@@ -19,16 +19,16 @@ use n2k_table::{Kind, KnownPgn, Table};
 use n2k_wire::{BadCause, Entry, Packet};
 use std::alloc::AllocError;
 
-/// What a line gives. A packet is large, so that a message stays in the line's entry.
+/// The result of a line. A message stays in the line's entry, since a packet is large.
 #[derive(Drop)]
 pub(crate) struct Taken<'t> {
-    /// Where the entry's packet is now a message, its PGN.
+    /// The PGN of the message that is now in the entry's packet.
     pub(crate) message: Option<KnownPgn<'t>>,
     /// Why the line is bad.
     pub(crate) bad: Option<BadCause>,
-    /// The group that it breaks.
+    /// The group that the line breaks.
     pub(crate) broken: Option<Broken>,
-    /// Whether its PGN is unknown.
+    /// Whether the line's PGN is unknown.
     pub(crate) is_unknown: bool,
 }
 
@@ -74,7 +74,7 @@ pub(crate) fn packet_in(entry: &Entry) -> Option<&Packet>
     }
 }
 
-/// The packet of an entry, which is let go.
+/// The packet of an entry, if it has one. The entry is dropped.
 pub(crate) fn packet_of(entry: Entry) -> Option<Packet>
     ensures { result ≡ packet_in entry }
 {

@@ -3,13 +3,13 @@
 use std::alloc::{AllocError, AllocFailed};
 use thiserror::Error;
 
-/// Why a join can't take a line. It is then as it was before.
+/// Why a join rejects a line. A rejected line leaves the join unchanged.
 #[derive(Clone, Copy, Debug, PartialEq, Eq, Error)]
 pub enum JoinFault {
     /// 1: an allocation was refused.
     #[error("out of memory")]
     Memory,
-    /// 2: as many lines as can be counted were taken.
+    /// 2: the line limit is reached.
     #[error("too many lines")]
     TooManyLines,
 }
@@ -25,29 +25,29 @@ impl From<AllocError> for JoinFault {
     }
 }
 
-/// Why a saved state is refused. The fault lines of `n2kdec` number the causes in this order, from 1. The first that
-/// applies is answered, where `WindowDiffers` goes before `Invalid`.
+/// Why a saved state is refused. The fault lines of `n2kdec` number the causes in this order, from 1. The first cause
+/// that applies is returned, but `WindowDiffers` before `Invalid`.
 #[derive(Clone, Copy, PartialEq, Eq, Debug, Error)]
 pub enum StateFault {
-    /// The bytes are not UTF-8, or no JSON text.
+    /// The bytes are not UTF-8, or not JSON.
     #[error("the state is not valid JSON")]
     NotJson,
-    /// It isn't an object whose `format` is 1 or 2.
+    /// Not an object whose `format` is 1 or 2.
     #[error("the state's format is missing, or is not 1 or 2")]
     Format,
-    /// A member is missing, unknown, or of another kind than its name says.
+    /// A member is missing, unknown, or not of the kind that its name requires.
     #[error("a member is missing or unknown, or its value is of another kind")]
     Shape,
-    /// It was saved under another table.
+    /// The state was saved under another table.
     #[error("the state was saved under another table")]
     TableDiffers,
-    /// Its numbers or its groups are such as no state has.
+    /// The state's counts or groups are inconsistent.
     #[error("the state's counts or groups are inconsistent")]
     Invalid,
     /// A growth was refused.
     #[error("out of memory")]
     Memory,
-    /// It was saved under another window.
+    /// The state was saved under another window.
     #[error("the state was saved under another window")]
     WindowDiffers,
 }
@@ -74,7 +74,7 @@ impl<T: Drop> From<AllocFailed<T>> for StateFault {
     }
 }
 
-/// Why a message isn't split into frames. The splitter and the vector are then as they were.
+/// Why a message isn't split into frames. A refused message leaves the splitter and the vector unchanged.
 #[derive(Clone, Copy, Debug, PartialEq, Eq, Error)]
 pub enum SplitFault {
     /// 1: the table doesn't have the PGN.

@@ -15,10 +15,10 @@ pub(crate) const MOST_SEQUENCES: u8 = 8;
 /// The most bytes of a message.
 pub(crate) const LONGEST_MESSAGE: u8 = 223;
 
-/// What the bytes of a frame are filled with.
+/// The byte that fills a frame up.
 const FILLER: u8 = 0xff;
 
-/// The byte at a place, or what fills a frame where the bytes have ended.
+/// The byte at a place, or the filler byte past the end.
 pub(crate) fn byte_or_filler(bytes: &[u8], at: usize) -> u8
     ensures { result ≡ slice_index_or bytes.now at filler }
 {
@@ -36,8 +36,8 @@ fn filled_bytes(rest: &[u8]) -> [u8; 7]
     [at(0), at(1), at(2), at(3), at(4), at(5), at(6)]
 }
 
-/// The frame that a packet of a fast PGN is. `None` where its data can't be a frame's: there is no byte, or it is a
-/// frame 0 without a total or with one over 223.
+/// The frame in a packet of a fast PGN. `None` if the data are not a frame's: they are empty, or a frame 0 without a
+/// total or with a total over 223.
 #[tactic(auto, unfolding(crate::specs::Frames::fast_frame))]
 pub(crate) fn fast_frame(packet: &Packet) -> Option<FastFrame>
     ensures { (line : ℕ) → option_map (λ frame. frame_of line packet.now frame) result ≡ fast_frame line packet.now }

@@ -25,11 +25,11 @@ fn place_of(groups: &OpenGroups, key: &FrameKey) -> Option<usize>
     }
 }
 
-/// What a frame gives: whether it completes a message, which its packet then is, and the group that it breaks.
+/// The result of a frame: whether its packet is now a message, and the group that the frame breaks.
 pub(crate) type Gain = (bool, Option<Broken>);
 
-/// Begins the group of a frame whose key has none, as the last. Where the frame completes it alone, its packet
-/// becomes the message, and the answer is true.
+/// Opens a group for a frame whose key has no open group, as the last. Returns true if the frame completes it alone:
+/// the packet then becomes the message.
 fn open_last(
     in_order: bool,
     groups: &mut OpenGroups,
@@ -58,8 +58,8 @@ fn open_last(
     Ok(false)
 }
 
-/// Takes a frame into the group of its key, which has a place for it. Where that completes it, it goes, its packet
-/// becomes the message, and the answer is true.
+/// Adds a frame to the group of its key, which has a place for it. Returns true if that completes the group: the group
+/// is removed and the packet becomes the message.
 fn join_at(
     in_order: bool,
     groups: &mut OpenGroups,
@@ -94,8 +94,8 @@ fn join_at(
     false
 }
 
-/// Ends the group of a frame's key, which has no place for it, and begins another with the frame: in the same memory,
-/// and as the last. Where the frame completes it alone, it goes, and its packet becomes the message.
+/// Breaks the group of a frame's key, which has no place for the frame, and opens a new last group with it in the same
+/// memory. If the frame completes the new group alone, the group is removed and the packet becomes the message.
 fn reopen_at(
     in_order: bool,
     groups: &mut OpenGroups,
@@ -130,8 +130,8 @@ fn reopen_at(
     (false, broken)
 }
 
-/// Takes a frame into the open groups. Its packet becomes the message that it completes. Memory is taken only where its
-/// key has none open, and where it is refused the packet stays.
+/// Adds a frame to the open groups. If it completes a message, its packet becomes that message. Memory is needed only
+/// if the key has no open group; if memory is refused, the packet is unchanged.
 pub(crate) fn take_frame(
     in_order: bool,
     groups: &mut OpenGroups,

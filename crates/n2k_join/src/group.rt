@@ -1,4 +1,4 @@
-//! A group of frames that is open, as bytes and a mask.
+//! An open group of frames, as bytes and a mask.
 ghost use Rattle.std.specs.Prelude.{◌≡◌, ◌==◌, ◌+◌, ◌-◌, ◌/◌, ◌^◌, ◌<◌, ◌≤◌, ◌++◌, [], ◌∷◌, ℕ, Some, None, true, false, not, option_map, length, IfSome, slice_index, is_some};
 ghost use Rattle.n2k_wire.specs.Packet.{PacketParts, longest_message};
 ghost use Rattle.n2k_join.specs.Frames.{Key, most_frames};
@@ -61,8 +61,8 @@ impl OpenGroup {
         self.mask >> u32::from(number) & 1 == 1
     }
 
-    /// Whether the group has no place for a frame of the number: that is there, or, where messages are sent in order,
-    /// it isn't greater than each of its own.
+    /// Whether the group has no place for a frame number: the number is already there or, in order, is not greater than
+    /// each number in the group.
     pub(crate) fn rejects(&self, in_order: bool, number: u8) -> bool
         requires { number < most_frames }
         ensures { (key : Key) → result ≡ rejects in_order number (group_in key self.now) }
@@ -74,7 +74,7 @@ impl OpenGroup {
         }
     }
 
-    /// What the group's frame of a number carries.
+    /// The bytes of the group's frame with a number.
     pub(crate) fn carried(&self, number: u8) -> Option<&[u8; 7]>
         requires { number < most_frames }
         ensures { option_map (λ bytes. bytes.now) result ≡ slot_of self.now number }
@@ -86,7 +86,7 @@ impl OpenGroup {
         }
     }
 
-    /// Takes a piece whose number isn't there yet.
+    /// Adds a piece whose number isn't there yet.
     pub(crate) fn take(&mut self, piece: StoredPiece)
         requires { slot_of self.old piece.number ≡ None }
         ensures first { self.new.first ≡ self.old.first }
@@ -110,7 +110,7 @@ impl OpenGroup {
         is_ones(self.mask, self.slots[0][0] / 7)
     }
 
-    /// Makes the packet that completed the group its message: that has the group's data, and the packet's stamp and
+    /// Turns the packet that completed the group into its message: the group's data with the packet's stamp and
     /// identifier.
     pub(crate) fn write_message(&self, packet: &mut Packet)
         requires { (key : Key) → complete (held_of (group_in key self.now)) ≡ true }
@@ -126,7 +126,7 @@ impl OpenGroup {
         packet.set_data(&sent[1..1 + total]);
     }
 
-    /// What is reported of the group, whose key this is, where it ends without a message.
+    /// The report of this group, with its key, if it ends without a message.
     pub(crate) fn broken(&self, key: &FrameKey) -> Broken
         ensures { result ≡ record {
           pgn = key.now.pgn;

@@ -1,4 +1,4 @@
-//! The join: the open groups and the counts of a log, taken on line by line.
+//! The join: the open groups and the counts of a log, updated line by line.
 ghost use Rattle.std.specs.Prelude.{◌≡◌, ◌+◌, ◌*◌, ◌≤◌, ◌<◌, ◌↔◌, ℕ, [], length, IfOk, IfSome, OnOk, OnErr, IsErrOf, IsSome, IsNone, Ok, Option, None, Some, true, is_some, option_map};
 ghost use Rattle.n2k_table.specs.declared.definition.Kind.{Kind};
 ghost use Rattle.n2k_table.specs.Table.{kind};
@@ -32,8 +32,8 @@ use n2k_wire::{Entry, Id, Packet};
 use std::alloc::{AllocError, Global};
 use std::marker::Model;
 
-/// What is known after the lines of a log: what they count, and the groups of frames that are open, by the lines
-/// that opened them. It holds no line and no stamp.
+/// The state after the lines of a log: their counts, and the open groups of frames, by the lines that opened them. It
+/// keeps no line and no stamp.
 #[derive(Drop)]
 pub struct Join {
     id: [u8; 32],
@@ -64,20 +64,20 @@ impl Model for Join {
     }) × IsKept (j.counts.lines + 1) j.groups };
 }
 
-/// What the types say of the parts of a packet.
+/// The types guarantee the parts of a packet.
 fn know_parts(stamp: &[u8], id: Id, data: &[u8])
     requires { IsPacket stamp.now id «data».now }
     ensures { IsPacketParts (record { stamp = stamp.now; id = id; payload = «data».now }) }
 {}
 
-/// What the types say of a packet.
+/// The types guarantee a packet.
 fn know_packet(packet: &Packet)
     ensures { IsPacketParts packet.now }
 {
     know_parts(packet.stamp(), packet.id(), packet.data());
 }
 
-/// What the types say of an entry.
+/// The types guarantee an entry.
 fn know_entry(entry: &Entry)
     ensures { IsShort entry.now → IsEntry entry.now }
 {
@@ -87,7 +87,7 @@ fn know_entry(entry: &Entry)
     }
 }
 
-/// Counts one more where that is so. It is a branch of its own, so that a line touches the counts that it changes alone.
+/// Counts one more if the condition is true. A separate branch, so that a line touches only the counts that it changes.
 #[inline(always)]
 fn count_if(is: bool, count: &mut u64)
     requires { count.old < most_lines + most_lines }
@@ -121,7 +121,7 @@ fn count_line(taken: &Taken<'_>, held: usize, counts: &mut Counts)
 }
 
 impl Join {
-    /// Before the first line, with a table and a window. It takes no memory.
+    /// A join before the first line, with a table and a window. It needs no memory.
     ///
     /// ```rust
     /// let table = sample_table(alloc)?;
@@ -140,7 +140,7 @@ impl Join {
         }
     }
 
-    /// What the lines so far count. It takes no memory.
+    /// The counts of the lines so far. It needs no memory.
     ///
     /// ```rust
     /// let table = sample_table(alloc)?;
@@ -154,7 +154,7 @@ impl Join {
         self.counts
     }
 
-    /// What ends a group that isn't complete: the window that was handed in. It takes no memory.
+    /// The window that was given. It needs no memory.
     ///
     /// ```rust
     /// let table = sample_table(alloc)?;
@@ -167,11 +167,10 @@ impl Join {
         self.window
     }
 
-    /// Breaks the oldest of the open groups whose window ends at the next line, if not before, and answers what is
-    /// reported of it. `None` where there is none, or where no more lines are counted; the join is then as it was. It
-    /// takes no memory.
+    /// Breaks the oldest open group whose window has ended by the next line, and returns its report. `None` if there is
+    /// no such group, or if the line limit is reached; the join is then unchanged. It needs no memory.
     ///
-    /// It is called before each line until it answers `None`: each group that it breaks is one of that line.
+    /// Call it before each line until it returns `None`. Each group that it breaks is reported for that line.
     ///
     /// ```rust
     /// let table = sample_table(alloc)?;
@@ -225,12 +224,12 @@ impl Join {
         Ok(taken)
     }
 
-    /// Takes the next line, as its entry, and answers what it gives: the message that it is or completes, why it is
-    /// bad, and the group that its frame breaks. The table says how each PGN is sent. The groups whose window ends at
-    /// the line have been broken before, by `expire`.
+    /// Takes the next line, as its entry. Returns the message that the line is or completes, why the line is bad, and
+    /// the group that its frame breaks. The table defines how each PGN is sent. `expire` must have broken the groups
+    /// whose window ends at this line.
     ///
-    /// At 999,999,999,999,999 lines it is refused as too many. Memory is taken only where a group is opened of a
-    /// key that has none open. After a refusal the join is as it was.
+    /// At 999,999,999,999,999 lines it refuses the line as too many. Memory is needed only to open a group for a key
+    /// that has no open group. A refused line leaves the join unchanged.
     ///
     /// ```rust
     /// let table = sample_table(alloc)?;
@@ -256,8 +255,8 @@ impl Join {
         })
     }
 
-    /// Takes the next line as `line` does, as an entry that stays where it is and has the message: where a group is
-    /// complete, the entry's packet becomes its message. After a refusal the join is as it was, and so is the entry.
+    /// Takes the next line as `line` does, but leaves the message in the entry: if a group is complete, the entry's
+    /// packet becomes its message. A refused line leaves the join and the entry unchanged.
     ///
     /// ```rust
     /// let table = sample_table(alloc)?;
@@ -291,7 +290,7 @@ impl Join {
         })
     }
 
-    /// The join of a state that was read, where it can be one under the table. The count of open groups is their
+    /// The join of a state that was read, if the state is valid under the table. The count of open groups is their
     /// number.
     fn from_state(
         alloc: Global,
@@ -317,8 +316,8 @@ impl Join {
         })
     }
 
-    /// The join of a text that `save` wrote under the table and the window, or `None` where it seems to be another: what
-    /// is found in the text is a join whose text is that one.
+    /// The join of a text that `save` wrote under this table and window. `None` if no join is found whose saved text is
+    /// the same.
     fn resume_written(
         alloc: Global,
         table: &Table,
@@ -370,13 +369,13 @@ impl Join {
         Join::from_state(alloc, table, state.id, window, state.counts, &state.groups)
     }
 
-    /// The join that a saved state spells, under the table and the window that it was saved with. It goes on where that
-    /// one ended. A state of format 1 has no window: it is read under the one that is handed in. Whether a group ends
-    /// before a lower number is not saved: that is as handed in, too.
+    /// The join that a saved state describes, under the table and the window of the save. It continues after the last
+    /// saved line. A state of format 1 has no window and gets the given one. Whether frame numbers must rise is not
+    /// saved; the given window decides.
     ///
-    /// Any JSON text is taken that spells a valid state, whether or not a log leads to it (docs/PROFILE.md has its
-    /// members and rules). Else the first fault is answered that is found, in the order of docs/PROFILE.md, or `Memory`
-    /// where a growth was refused.
+    /// Any JSON text of a valid state is accepted, even if no log could have produced it (docs/PROFILE.md lists its
+    /// members and rules). Otherwise the first fault found is returned, in the order of docs/PROFILE.md, or `Memory` if
+    /// memory was refused.
     ///
     /// ```rust
     /// let table = sample_table(alloc)?;
@@ -401,12 +400,11 @@ impl Join {
         Join::resume_any(alloc, table, window, bytes)
     }
 
-    /// The text of its state, from which `resume` goes on: JSON, as docs/PROFILE.md has it, without an LF.
+    /// The text of the state for `resume`: JSON as in docs/PROFILE.md, without an LF.
     ///
-    /// It reads back under the join's window and a table of the join's id in which the PGNs of its groups are fast
-    /// ones: so under the table that the join was made with, where its lines were taken with that one too. It is of
-    /// format 2, but of format 1 where a group's window has ended: that state was read in format 1, and has taken no
-    /// line since.
+    /// It reads back under the same window and under a table with the same id in which the PGNs of its groups are fast:
+    /// the table of the join, if its lines were taken with that table. The format is 2, or 1 if the window of a group
+    /// has ended: such a state was read in format 1 and has taken no line since.
     ///
     /// ```rust
     /// let table = sample_table(alloc)?;

@@ -1,4 +1,4 @@
-//! Laws that hold of the definitions: each is the contract of a function that does nothing.
+//! Theorems about the definitions: each is the contract of a function that does nothing.
 ghost use Rattle.std.specs.Prelude.{◌≡◌, ◌≤◌, ◌<◌, ◌≢◌, ℕ, Bool, All, true, List, [], length, Ok, Err, Option, Some, is_some};
 ghost use Rattle.n2k_wire.specs.declared.entry.Entry.{Entry};
 ghost use Rattle.n2k_wire.specs.Entry.{IsEntry};
@@ -26,21 +26,22 @@ ghost use Rattle.n2k_join.specs.Consecutive.{GroupsConsecutive, ComesOfConsecuti
 ghost use Rattle.n2k_join.specs.Bounds.{HasWindow, HoldsFew};
 ghost use Rattle.n2k_join.specs.UnderWay.{EightUnderWay, AreOfOneStream};
 
-/// The groups that frames are cut into are the frames in their order; none is empty, and none has a number twice. So
-/// it is of every test that ends a group at a number that comes again, and each window's test is one.
+/// The groups that frames are cut into are the frames in their order; none is empty, and none has a repeated number.
+/// This holds for every test that ends a group at a repeated number, as each window's test does.
 pub fn cut_joins()
     ensures joins { (ends : EndTest) (fs : List Frame) → EndsRepeats ends → CutJoins ends fs }
     ensures windows { (window : Window) → EndsRepeats (within window) }
 {}
 
-/// What the groups are, in other words: no frames have none; of others the first is the shortest front that has ended,
-/// because it is complete, or no frame follows, or it ends before the next one; and the rest is cut likewise.
+/// What the groups of a list of frames are. No frames have no groups. Otherwise the first group is the shortest prefix
+/// that has ended, because it is complete, no frame follows, or it ends before the next frame; the other frames are cut
+/// in the same way.
 pub fn cut_first()
     ensures { (ends : EndTest) (fs : List Frame) → CutFirst ends fs }
 {}
 
-/// Frames that follow leave each group that is complete, and each that is broken, as it was, and broken at the same
-/// line. So what the lines of a log gave is settled, whatever follows them.
+/// Later frames leave each complete group and each broken group as it was; a broken group stays broken at the same
+/// line. So the results of a log's lines are settled, whatever follows them.
 pub fn cut_grows()
     ensures grows { (ends : EndTest) (fs back : List Frame) → CutGrows ends fs back }
     ensures settled { (window : Window) (kind : ℕ → Option Kind) (front back : List Entry) → IsWindow window.lines
@@ -48,49 +49,49 @@ pub fn cut_grows()
 {}
 
 /// The step knows only the state, and yet agrees with the whole log: from the state of a log it leads to the state of
-/// the log with the entry, and gives the message, the cause and the broken groups of that one's last line.
+/// the log with the entry, and gives the message, the cause and the broken groups of the longer log's last line.
 pub fn steps_agree()
     ensures { (id : List ℕ) (window : Window) (kind : ℕ → Option Kind) (es : List Entry) (e : Entry)
         → IsWindow window.lines → StepsAgree id window kind es e }
 {}
 
-/// One entry more leaves each earlier line what it gave.
+/// One more entry leaves the result of each earlier line unchanged.
 pub fn lines_stay()
     ensures { (window : Window) (kind : ℕ → Option Kind) (es : List Entry) (e : Entry) → IsWindow window.lines
         → LinesStay window kind es e }
 {}
 
-/// A bad line is bad alone: with an empty line in its place every message, every broken group and every open group
-/// stays, and so does every count but that of bad lines, which is one less.
+/// A bad line affects nothing else: with an empty line in its place every message, every broken group and every open
+/// group stays, and so does every count except that of bad lines, which is one less.
 pub fn bad_alone()
     ensures { (window : Window) (kind : ℕ → Option Kind) (front : List Entry) (e : Entry) (back : List Entry)
         → is_some (cause_in kind e) ≡ true → BadAlone window kind front e back }
 {}
 
-/// What a new splitter makes of messages, with one counter a stream, is what the whole list says: each message's
-/// frames under the number of earlier messages of its stream, modulo 8.
+/// A new splitter, with one counter a stream, makes the defined frames: each message's frames under the number of
+/// earlier messages of its stream, modulo 8.
 pub fn splits_written()
     ensures { (kind : ℕ → Option Kind) (ms : List PacketParts) → split_all kind ms ≡ written kind ms }
 {}
 
-/// A stream's messages are kept apart by their numbers: of those of one sender, PGN and receiver, any eight that
-/// follow one another in a list have different keys, whatever other messages come between them. Messages that differ
-/// in sender, PGN or receiver never have one key.
+/// Messages of one stream are kept apart by their sequence numbers: any eight consecutive messages of one sender, PGN
+/// and receiver have different keys, whatever other messages come between them. Messages that differ in sender, PGN or
+/// receiver never share a key.
 pub fn eight_under_way()
     ensures apart { (ms : List PacketParts) → EightUnderWay ms }
     ensures streams { (x y : Sending) → key_of_sending x ≡ key_of_sending y → AreOfOneStream x y }
 {}
 
-/// The frames of a message's pieces make one group, in whatever order they come: together they are complete and carry
-/// the message's data, and no proper part of them is complete. The longest message has a frame of each number, and
-/// with a byte more it would need another.
+/// The frames of a message's pieces make one group, in any order: together they are complete and carry the message's
+/// data, and no proper part of them is complete. The longest message has a frame of each number; one more byte would
+/// need another frame.
 pub fn pieces_join()
     ensures pieces { (x : Sending) → PiecesJoin x }
     ensures longest { FillsAllFrames }
 {}
 
-/// Messages whose frames are scattered over a log arrive whole, each key's in their order: no group is broken, and none
-/// stays open. Where no entry gives a message alone, the log gives these messages and no other.
+/// Messages whose frames are scattered over a log arrive whole, each key's in their order: no group is broken and none
+/// stays open. If no entry gives a message alone, the log gives exactly these messages.
 pub fn arrives_whole()
     ensures whole { (window : Window) (kind : ℕ → Option Kind) (ms : List PacketParts) (es : List Entry)
         → IsWindow window.lines → IsScattered window kind ms es → ArriveWhole window kind ms es }
@@ -98,24 +99,24 @@ pub fn arrives_whole()
         → IsWindow window.lines → IsScattered window kind ms es → IsMute kind es → Replays window kind ms es }
 {}
 
-/// The frames of fast packets that are written, a line each and in their order, make a log over which the messages are
-/// scattered, and which gives no message alone: so `arrives_whole` speaks of it.
+/// Writing fast packets as frames, one a line in order, makes a log over which the messages are scattered, and which
+/// gives no message alone: so `arrives_whole` applies to it.
 pub fn written_is_scattered()
     ensures { (window : Window) (kind : ℕ → Option Kind) (ms : List PacketParts) → IsWindow window.lines
         → All IsPacketParts ms → All (λ (m : PacketParts). kind m.id.pgn ≡ Some Fast) ms → WrittenLog window kind ms }
 {}
 
-/// A key heals: where the next frames of a key are the pieces of one message by rising number, within the window, and
-/// what the key has open, if anything, has frame 0, the message is given at the line of its last piece, and what was
-/// open is broken at the line of its first, or where its own window ends before. So with a sender in rising order a
-/// lost frame other than frame 0 costs its own message alone.
+/// A key heals. Suppose the next frames of a key are the pieces of one message by rising number, within the window, and
+/// the key's open group, if any, has frame 0. Then the line of the last piece gives the message. The open group is
+/// broken at the line of the first piece, or earlier if its window ends earlier. So if a sender's numbers rise, a lost
+/// frame other than frame 0 costs only its own message.
 pub fn heals()
     ensures { (window : Window) (kind : ℕ → Option Kind) (front back : List Entry) (x : Sending)
         (group after : List Frame) → IsWindow window.lines → ComesNext window kind front back x group after
         → LeavesZero window kind front x → Heals window kind front back x group }
 {}
 
-/// In order a key heals whatever was lost: what it has open may be anything.
+/// In order a key heals whatever was lost: its open group may be any.
 pub fn heals_in_order()
     ensures { (window : Window) (kind : ℕ → Option Kind) (front back : List Entry) (x : Sending)
         (group after : List Frame) → window.in_order ≡ true → ComesNext window kind front back x group after
@@ -132,17 +133,17 @@ pub fn consecutive_frames()
         → ComesOfConsecutive kind es line m }
 {}
 
-/// The rules of a valid state are one: those that a text has to meet, and those that the state of each join keeps.
-/// So each text that is read spells a state that a join can have.
+/// The rules that a text must satisfy are the rules that the state of every join satisfies. So each accepted text
+/// describes a state that a join can have.
 pub fn rules_are_one()
     ensures one { (kind : ℕ → Option Kind) (s : State) → HasShape s → RulesAreOne kind s }
     ensures read { (kind : ℕ → Option Kind) (id : List ℕ) (window : Window) (bytes : List ℕ) (s : State)
         → IsWindow window.lines → resumed kind id window bytes ≡ Ok s → IsState s }
 {}
 
-/// The text of a state, read under its own table and window, gives that state, with the order of frames as the
-/// window has it: for every state that a join can have, whose open groups are of fast PGNs of the table. Under another
-/// window it is refused, where no group's window has ended.
+/// The text of a state, read under its own table and window, gives that state, with the frame order of the window. This
+/// holds for every state of a join whose open groups are of fast PGNs of the table. If no group's window has ended,
+/// another window is refused.
 pub fn state_reads_back()
     ensures same { (kind : ℕ → Option Kind) (s : State) → IsState s → AreFast kind s.groups → IsId s.id
         → resumed kind s.id s.window (state_text s) ≡ Ok s }
@@ -159,9 +160,8 @@ pub fn state_reads_back()
         → s.window.lines ≢ window.lines → resumed kind s.id window (state_text s) ≡ Err WindowDiffers }
 {}
 
-/// So a join that goes on under one table is read back: before the first line no group is open; those of a state that
-/// was read are of fast PGNs of the table that it was read with, whose id it has; and each further line leaves them
-/// such.
+/// A join used with one table can be read back: a new join has no open group, the groups of a state that was read are
+/// of fast PGNs of its table, and each line keeps that so.
 pub fn groups_stay_fast()
     ensures new { (kind : ℕ → Option Kind) (id : List ℕ) (window : Window) → AreFast kind (state id window kind []).groups }
     ensures read { (kind : ℕ → Option Kind) (id : List ℕ) (window : Window) (bytes : List ℕ) (s : State)
@@ -174,28 +174,27 @@ pub fn groups_stay_fast()
         → AreFast kind (step_after kind s e).groups }
 {}
 
-/// What is saved after a log reads back: for every log of entries that lines can be, with no more lines than are
-/// counted.
+/// The state saved after a log reads back: for every log of valid entries within the line limit.
 pub fn saved_log_reads_back()
     ensures { (kind : ℕ → Option Kind) (id : List ℕ) (window : Window) (es : List Entry) → IsWindow window.lines → IsId id
         → All IsEntry es → length es ≤ most_lines
         → resumed kind id window (state_text (state id window kind es)) ≡ Ok (state id window kind es) }
 {}
 
-/// A group whose window ends at the next line is broken before that line is taken, or at it: so `Join::expire` until it
-/// answers `None`, and then `Join::line`, make one step.
+/// A group whose window ends at the next line may be broken before that line or at it. So `Join::expire` until it
+/// returns `None`, then `Join::line`, is one step.
 pub fn expires_first()
     ensures { (kind : ℕ → Option Kind) (s : State) (e : Entry) (group : Group) → IsState s → due s ≡ Some group
         → ExpiresFirst kind s e group }
 {}
 
-/// Where no group's window has ended, no more groups are open than the window has lines.
+/// If no group's window has ended, at most as many groups are open as the window has lines.
 pub fn few_open()
     ensures { (s : State) → IsState s → AreWaiting s → length s.groups ≤ s.window.lines }
 {}
 
-/// A state that was read is such, too: where its text has its window, few groups are open at once, and whatever its
-/// format, few are after a line. What is saved then is short, too.
+/// For a state that was read, the window limits the open groups, too: at once if its text has its window, and after one
+/// line in either format. The text of the next save is then short.
 pub fn few_resumed()
     ensures read { (kind : ℕ → Option Kind) (id : List ℕ) (window : Window) (bytes : List ℕ) (s : State)
         → IsWindow window.lines → IsId id → HasWindow bytes → resumed kind id window bytes ≡ Ok s → HoldsFew s }

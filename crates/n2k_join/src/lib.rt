@@ -14,28 +14,27 @@
 //! assert_eq!(rt; message.data().len(), 13);
 //! ```
 //!
-//! - `Window` says what ends a group that isn't complete: a number of lines, and, in order, a number that doesn't
-//!   rise.
-//! - `Join::new` is the join before the first line. Before each line `Join::expire` breaks the groups whose window
-//!   ends at it, one a call. `Join::line` then takes the line, as its entry: it answers the message that the line is or
-//!   completes, why it is bad, and the group that its frame breaks (`Step`, `Broken`). A line that can't be taken
-//!   (`JoinFault`) leaves the join as it was. For the lines of a log, one after the other, use `Join::lend`: it answers
-//!   the same, and leaves the message in the entry (`LentStep`, `message_of`) where `line` moves it.
+//! - `Window` is the limit of an incomplete group: a number of lines and, in order, rising frame numbers.
+//! - `Join::new` is the join before the first line. Before each line, `Join::expire` breaks the groups whose window
+//!   ends at it, one a call. `Join::line` then takes the line, as its entry, and returns the message that the line is
+//!   or completes, why it is bad, and the group that its frame breaks (`Step`, `Broken`). A line that is refused
+//!   (`JoinFault`) leaves the join unchanged. For the lines of a log use `Join::lend`: it gives the same result, but
+//!   leaves the message in the entry (`LentStep`, `message_of`) instead of moving it.
 //! - `Join::counts` are the lines, messages, bad lines, unknown PGNs, broken and open groups so far (`Counts`).
-//! - `Join::save` writes the state of a join as text, and `Join::resume` goes on from one, or says why it is refused
-//!   (`StateFault`).
+//! - `Join::save` writes the state of a join as text. `Join::resume` continues from a text, or returns why it is
+//!   refused (`StateFault`).
 //! - `Splitter::message` appends the frames of a message, under the sequence of its stream, or refuses it
-//!   (`SplitFault`). For the messages of a log, one after the other, use `Splitter::split`, which lends a message's
-//!   frames one at a time (`Frames`).
-//! - `laws` has what holds of the definitions.
+//!   (`SplitFault`). For the messages of a log use `Splitter::split`, which makes a message's frames one at a time
+//!   (`Frames`).
+//! - `laws` has theorems about the definitions.
 //!
-//! What the messages of a log are is said over the whole log (specs/Messages): the frames of each key are cut into
-//! groups, and a complete group is a message. A join holds the open groups alone, and one line of it is one step of
-//! that definition, on a join of any state.
+//! The messages of a log are defined over the whole log (specs/Messages): the frames of each key are cut into groups,
+//! and a complete group is a message. A join keeps only the open groups, and one line of it is one step of that
+//! definition, from any state.
 //!
-//! Each example is a test of `n2k_join_tests`, in the same words. In them `rt` is the runtime that `main` or a test is
-//! handed, and `alloc` its allocator, `rt.alloc()`; `sample_table` reads a table in which 129026 is sent in single
-//! frames and 130820 in fast packets, and `message_in(line)` is the packet of a plain line.
+//! Each example is a test of `n2k_join_tests`, word for word. In them `rt` is the runtime that `main` or a test gets,
+//! and `alloc` its allocator, `rt.alloc()`; `sample_table` reads a table in which 129026 is sent in single frames and
+//! 130820 in fast packets, and `message_in(line)` is the packet of a plain line.
 #![tactic(auto)]
 
 mod counts;

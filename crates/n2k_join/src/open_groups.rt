@@ -20,7 +20,7 @@ const NOTED: usize = 256;
 /// The place of no group.
 const NOWHERE: usize = usize::MAX;
 
-/// A group, and the places of the one opened before it and of the one behind it.
+/// A group, and the places of the groups opened before and after it.
 #[derive(Drop)]
 pub(crate) struct Linked {
     pub(crate) group: OpenGroup,
@@ -28,14 +28,14 @@ pub(crate) struct Linked {
     pub(crate) behind: usize,
 }
 
-/// The open groups. The map is without order, so that any group is taken out of it at once, and the last takes its
-/// place. The list through them has the order: so the oldest is found at once, and any group leaves it at once.
+/// The open groups. The map has no order, so that any group is removed from it at once: the last takes its place. The
+/// list through the groups has the order: the oldest is found at once, and any group is removed at once.
 #[derive(Drop)]
 pub(crate) struct OpenGroups {
     pub(crate) groups: IndexMap<FrameKey, Linked>,
     pub(crate) first: usize,
     pub(crate) last: usize,
-    /// For the mixed bits of a key where its group may stand in the map. Whoever goes by it compares the key; that costs
+    /// By the mixed bits of a key, the place in the map where its group may be. The caller compares the key; that costs
     /// less than a hash.
     pub(crate) noted: [u16; NOTED],
 }
@@ -61,14 +61,14 @@ impl OpenGroups {
         }
     }
 
-    /// How many are open.
+    /// The number of open groups.
     pub(crate) fn len(&self) -> usize
         ensures { (next : ℕ) → IsKept next self.now → result ≡ length (listed self.now) }
     {
         self.groups.len()
     }
 
-    /// Says what stands behind a place, or first.
+    /// Sets the place after a place, or the first place.
     fn set_behind(&mut self, at: usize, behind: usize)
         requires few { length self.old.groups.entries < nowhere }
         requires place { IsPlace (length self.old.groups.entries) at }
@@ -80,7 +80,7 @@ impl OpenGroups {
         }
     }
 
-    /// Says what stands before a place, or last.
+    /// Sets the place before a place, or the last place.
     fn set_before(&mut self, at: usize, before: usize)
         requires few { length self.old.groups.entries < nowhere }
         requires place { IsPlace (length self.old.groups.entries) at }
@@ -92,8 +92,8 @@ impl OpenGroups {
         }
     }
 
-    /// Adds a group of a key that has none open. It is copied to where it stays, once: what is handed to the map is
-    /// copied twice, word by word. After a refusal of memory they are as they were.
+    /// Adds a group for a key that has no open group. The group is copied once, to its final place; the map itself
+    /// would copy it twice, word by word. If memory is refused, the groups are unchanged.
     pub(crate) fn insert(&mut self, key: FrameKey, group: &OpenGroup) -> Result<(), AllocError>
         requires kept { IsKept group.now.first self.old }
         requires new { found self.old.groups.entries key ≡ None }
@@ -120,7 +120,7 @@ impl OpenGroups {
         Ok(())
     }
 
-    /// Takes a place out of the list.
+    /// Removes a place from the list.
     fn unlink(&mut self, at: usize)
         requires kept { (next : ℕ) × IsKept next self.old }
         requires within { at < length self.old.groups.entries }
@@ -158,7 +158,7 @@ impl OpenGroups {
         self.last = at;
     }
 
-    /// Takes a group out. The last one of the map takes its place.
+    /// Removes a group. The last group of the map takes its place.
     pub(crate) fn remove_at(&mut self, at: usize)
         requires kept { (next : ℕ) × IsKept next self.old }
         requires within { at < length self.old.groups.entries }
@@ -177,7 +177,7 @@ impl OpenGroups {
         }
     }
 
-    /// Takes out the oldest of the groups whose window ends at the line, if not before, and answers what is reported of it.
+    /// Removes the oldest group whose window has ended by the line, and returns its report.
     pub(crate) fn take_ended(&mut self, window: Window, line: u64) -> Option<Broken>
         requires kept { IsKept line self.old }
         ensures broken { result ≡ option_map as_broken (slice_get (ended window line (listed self.old)) 0) }

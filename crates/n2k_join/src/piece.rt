@@ -1,4 +1,4 @@
-//! What the join keeps of a frame.
+//! The parts of a frame that the join keeps.
 ghost use Rattle.std.specs.Prelude.{◌≡◌, ◌+◌, ◌*◌, ◌^◌, ◌<◌, ◌≤◌, [], length, get_or, slice_index};
 ghost use Rattle.std.specs.Hash as fed;
 ghost use Rattle.std.specs.Cmp.Rules.{hashing};
@@ -44,15 +44,15 @@ pub(crate) struct StoredPiece {
     pub(crate) ghost total: { number ≡ 0 → slice_index bytes 0 ≤ longest_message },
 }
 
-/// What the data of a fast packet's frame say.
+/// The frame number, total and bytes in the data of a fast packet's frame.
 #[derive(Clone, Copy)]
 pub(crate) struct FastFrame {
     pub(crate) key: FrameKey,
     pub(crate) piece: StoredPiece,
 }
 
-/// A group of frames that is open: the line that opened it, which numbers are there, and seven bytes for each number
-/// that there can be. Its key is that under which it is kept.
+/// An open group of frames: the line that opened it, the numbers that it has, and seven bytes for each possible number.
+/// It is stored under its key.
 #[derive(Clone, Copy)]
 pub(crate) struct OpenGroup {
     pub(crate) first: u64,

@@ -1,4 +1,4 @@
-//! The saved state: its text, and the reading of one.
+//! The saved state: writing its text, and reading it.
 
 mod object;
 mod reader;

@@ -1,4 +1,4 @@
-//! The writer: messages are split into the frames of the bus.
+//! Splits messages into the frames of the bus.
 ghost use Rattle.std.specs.Prelude.{◌≡◌, ◌+◌, ◌*◌, ◌/◌, ◌%◌, if◌then◌else◌, ◌<◌, ◌≤◌, ◌++◌, [], ◌∷◌, IfOk, IfErr, IfSome, OnOk, OnErr, IsOkUnless, MatchOption, Some, None, Err, length, slice_get, vec_len, vec_capacity};
 ghost use Rattle.n2k_wire.specs.Candump.{frame_payload};
 ghost use Rattle.n2k_wire.specs.Packet.{longest_message};
@@ -41,7 +41,7 @@ impl Model for Splitter {
     ghost invariant = { λ s. AreSequences s.next.entries };
 }
 
-/// The frames of one message, under the sequence that it has. They are made one at a time.
+/// The frames of one message under its sequence, made one at a time.
 #[derive(Drop)]
 pub struct Frames<'a> {
     message: &'a Packet,
@@ -63,7 +63,7 @@ impl<'a> Model for Frames<'a> {
     ghost invariant = { λ f. AreFrames f.sequence f.count (pieces_as (Some f.kind) f.message.now f.sequence) };
 }
 
-/// The byte at a place of what the frames carry: the length of the data, the data, and then the filler.
+/// The byte at a place of the stream that the frames carry: the length of the data, the data, then the filler.
 fn sent_byte(data: &[u8], place: usize) -> u8
     requires short { length «data».now ≤ longest_message }
     ensures value { result ≡ sent_byte «data».now place }
@@ -123,7 +123,7 @@ fn set_piece(frame: &mut Packet, message: &Packet, sequence: u8, number: u8)
 }
 
 impl<'a> Frames<'a> {
-    /// How many they are, one at least.
+    /// The number of frames, at least 1.
     ///
     /// ```rust
     /// let table = sample_table(alloc)?;
@@ -140,7 +140,7 @@ impl<'a> Frames<'a> {
         self.count
     }
 
-    /// The frame of this number, from 0 on. It may be made in `room`, whatever that holds.
+    /// The frame of this number, from 0 on. It may be made in `room`, whatever its content.
     ///
     /// ```rust
     /// let table = sample_table(alloc)?;
@@ -199,7 +199,7 @@ fn append_frames(packets: &mut Vec<Packet>, message: &Packet, frames: &Frames)
 }
 
 impl Splitter {
-    /// A splitter before its first message: every stream begins with sequence 0. It takes no memory.
+    /// A splitter before its first message: every stream begins with sequence 0. It needs no memory.
     ///
     /// ```rust
     /// let table = sample_table(alloc)?;
@@ -240,12 +240,12 @@ impl Splitter {
         }
     }
 
-    /// The frames of a message, to be made one at a time. A message of a single PGN is its own frame. One of a fast PGN
-    /// is cut into frames of seven bytes each, the length of the data first and FF behind the data, under its stream's
-    /// sequence, which this raises by one modulo 8.
+    /// The frames of a message, to be made one at a time. A message of a single PGN is its own frame. A message of a
+    /// fast PGN is cut into frames of seven bytes each: the length of the data, the data, then FF. The frames carry the
+    /// sequence of the stream, which this call raises by one modulo 8.
     ///
     /// `Unknown`: the table doesn't have the PGN. `TooLong`: the PGN is single, and the data are over 8 bytes.
-    /// `Memory`: a growth was refused. After each of them the splitter is as it was.
+    /// `Memory`: a growth was refused. After a fault the splitter is unchanged.
     ///
     /// ```rust
     /// let table = sample_table(alloc)?;
@@ -268,7 +268,7 @@ impl Splitter {
         ensures raised { OnOk result (sequences self.new
             ≡ raised (kind table.now) (sequences self.old) (stream_of message.now.id)) }
 
-        // A message is refused where its PGN or its length asks for it, else only for want of memory.
+        // The PGN or the length decides a refusal; otherwise only memory can be refused.
         ensures refused { MatchOption (refusal (kind table.now message.now.id.pgn) message.now)
             (IsOkUnless result Memory) (λ fault. result ≡ Err fault) }
         ensures unchanged { OnErr result (self.new ≡ self.old) }
@@ -292,8 +292,8 @@ impl Splitter {
         }
     }
 
-    /// Appends the frames of a message, as `split` has them, and answers how many they are. Room is taken for all of
-    /// them first, so after a fault the splitter and the vector are as they were.
+    /// Appends the frames of a message, as `split` makes them, and returns their number. Room for all of them is
+    /// reserved first, so a fault leaves the splitter and the vector unchanged.
     ///
     /// ```rust
     /// let table = sample_table(alloc)?;
@@ -318,7 +318,7 @@ impl Splitter {
         ensures raised { OnOk result (sequences self.new
             ≡ raised (kind table.now) (sequences self.old) (stream_of message.now.id)) }
 
-        // A message is refused where its PGN or its length asks for it, else only for want of memory.
+        // The PGN or the length decides a refusal; otherwise only memory can be refused.
         ensures refused { MatchOption (refusal (kind table.now message.now.id.pgn) message.now)
             (IsOkUnless result Memory) (λ fault. result ≡ Err fault) }
         ensures unchanged { OnErr result (self.new ≡ self.old) }

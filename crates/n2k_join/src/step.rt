@@ -1,4 +1,4 @@
-//! What a line gives: a message, a cause, a broken group.
+//! The result of a line: a message, a cause, a broken group.
 
 ghost use Rattle.std.specs.Prelude.{◌≡◌, IfSome, is_some, option_map};
 ghost use Rattle.n2k_table.specs.Table.{TableParts};
@@ -8,40 +8,40 @@ use crate::entry_taking::packet_in;
 use n2k_table::KnownPgn;
 use n2k_wire::{BadCause, Entry, Packet};
 
-/// What a line gives. A line that gives nothing is counted.
+/// The result of a line. A line without a message, cause or broken group is counted, too.
 #[derive(Drop)]
 pub struct Step {
-    /// The message that it is or completes.
+    /// The message that the line is or completes.
     pub message: Option<Packet>,
-    /// Why it is bad.
+    /// Why the line is bad.
     pub bad: Option<BadCause>,
-    /// The group that its frame breaks.
+    /// The group that the line's frame breaks.
     pub broken: Option<Broken>,
 }
 
-/// A message that stays in its line's entry, and what the table has of its PGN.
+/// A message that stays in its line's entry, and its PGN in the table.
 #[derive(Drop)]
 pub struct TableMessage<'a> {
     /// The message.
     pub packet: &'a Packet,
-    /// Its PGN, looked up in the table.
+    /// The message's PGN, looked up in the table.
     pub pgn: KnownPgn<'a>,
 }
 
-/// What a line gives, by its number. Its entry has the message.
+/// The result of a line, with its number. The message is in the line's entry.
 #[derive(Drop)]
 pub struct LentStep<'t> {
     /// The number of the line, counted from 1.
     pub line: u64,
-    /// The PGN of the message that it is or completes, looked up in the table.
+    /// The PGN of the message that the line is or completes, looked up in the table.
     pub message: Option<KnownPgn<'t>>,
-    /// Why it is bad.
+    /// Why the line is bad.
     pub bad: Option<BadCause>,
-    /// The group that its frame breaks.
+    /// The group that the line's frame breaks.
     pub broken: Option<Broken>,
 }
 
-/// The message that the entry of a line now has, where its PGN was found.
+/// The message that the entry of a line now has, if its PGN was found.
 ///
 /// ```rust
 /// let table = sample_table(alloc)?;
@@ -64,18 +64,18 @@ pub fn message_of<'a>(found: Option<KnownPgn<'a>>, entry: &'a Entry) -> Option<T
     Some(TableMessage { packet, pgn })
 }
 
-/// A group of frames that ended without a message: one of its frame numbers came again, its window ended, or, in
-/// order, a number came that isn't greater than each of its own.
+/// A group of frames that ended without a message: a frame number was repeated, its window ended or, in order, a number
+/// came that is not greater than each number in the group.
 #[derive(Clone, Copy, Debug, PartialEq, Eq)]
 pub struct Broken {
     /// The PGN of its frames.
     pub pgn: u32,
-    /// Who sent them.
+    /// The sender's address.
     pub src: u8,
-    /// To whom, 255 for all.
+    /// The receiver's address, 255 for all.
     pub dst: u8,
-    /// Their sequence, 0 to 7.
+    /// The sequence of its frames, 0 to 7.
     pub seq: u8,
-    /// The line that opened it, counted from 1.
+    /// The line that opened the group, counted from 1.
     pub first: u64,
 }

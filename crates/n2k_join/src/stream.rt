@@ -4,14 +4,14 @@ ghost use Rattle.n2k_join.specs.Pieces.{stream_of};
 
 use n2k_wire::Id;
 
-/// A stream: who sends what to whom. Its messages are numbered in turn.
+/// A stream: a sender's messages of one PGN to one receiver, numbered in turn.
 #[derive(Clone, Copy, Debug, PartialEq, Eq, Hash)]
 pub struct Stream {
-    /// Who sends.
+    /// The sender's address.
     pub src: u8,
-    /// What is sent.
+    /// The PGN.
     pub pgn: u32,
-    /// To whom, 255 for all.
+    /// The receiver's address, 255 for all.
     pub dst: u8,
 }
 

@@ -1,14 +1,14 @@
-//! What ends a group that isn't complete.
+//! What ends an incomplete group.
 ghost use Rattle.std.specs.Prelude.{◌≡◌, ◌↔◌, ◌+◌, nat_lt, true, false, IfSome, IsSome};
 ghost use Rattle.n2k_join.specs.Window.{IsWindow};
 
 use std::marker::Model;
 
-/// What ends a group of frames that isn't complete, beside a number that comes twice: its window, a number of lines
-/// from 32 to 1,000,000, and, where it is in order, the order of its frames' numbers.
+/// What ends an incomplete group, besides a repeated frame number: its window, a number of lines from 32 to 1,000,000,
+/// and, in order, a frame number that does not rise.
 ///
-/// A group is broken so many lines after its first frame's line, skipped and bad lines counted. In order, it is
-/// broken too by a frame of its key whose number isn't greater than each number in it.
+/// A group is broken that many lines after the line of its first frame, counting skipped and bad lines. In order, a
+/// frame of its key also breaks it if the frame's number is not greater than each number in the group.
 #[derive(Clone, Copy, Debug, PartialEq, Eq)]
 pub struct Window {
     lines: u32,
@@ -28,13 +28,13 @@ impl Model for Window {
 }
 
 impl Window {
-    /// The fewest lines of a window: the frames of the longest message, one behind the other, fit in.
+    /// The fewest lines of a window: the frames of the longest message fit, one a line.
     pub const SHORTEST: u32 = 32;
 
     /// The most lines of a window.
     pub const LONGEST: u32 = 1_000_000;
 
-    /// A window of so many lines, without an order of the numbers; `None` out of range.
+    /// A window of so many lines, with frame numbers in any order; `None` if out of range.
     ///
     /// ```rust
     /// let window = Window::new(10_000).unwrap();
@@ -83,7 +83,7 @@ impl Window {
         }
     }
 
-    /// Whether the order of the numbers ends a group.
+    /// Whether a frame number that does not rise ends a group.
     ///
     /// ```rust
     /// let window = Window::new(10_000).unwrap();
@@ -97,7 +97,7 @@ impl Window {
     }
 }
 
-/// Whether a window of so many lines, counted from line `first` on, ends after a line. No sum of them wraps.
+/// Whether a window of so many lines, counted from line `first` on, ends after a line. The sum can't overflow.
 pub(crate) fn is_waiting(first: u64, window: u64, line: u64) -> bool
     ensures { result ≡ nat_lt line (first + window) }
 {

@@ -1,4 +1,4 @@
--- What an answer says of the lines of all the bytes.
+-- A result and the lines of all the bytes.
 use Rattle.std.proofs.Common.{◌≡◌, ℕ, ◌<◌, Bool, List, [], ◌∷◌, ◌++◌, length, map, ap, ◌∙◌, append_assoc, arith, Option, Some, Result, Ok, Err, Bor, append-nil}
 use Rattle.std.proofs.lemmas.List.Splits.{slice_split_none}
 use Rattle.n2k_run.specs.declared.blocks.Found.TheVariants as found

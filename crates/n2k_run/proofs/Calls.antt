@@ -16,7 +16,7 @@ one_more_at_most calls = grind arith
 ended_once : (b : Bool) → (if b then 1 else 0) ≤ 1
 ended_once b = grind arith
 
--- and one does where the end was found
+-- at the end, one call gives no byte
 pub idle_at_end : (ended : Bool) → ended ≡ true → 1 ≤ (if ended then 1 else 0)
 idle_at_end ended is = grind arith
 
@@ -40,7 +40,7 @@ reads_on ended idle left₀ left left' calls₀ calls calls' on before after =
       few = omega (arith, all.few, after.few, length-append all.came after.came);
     }
 
--- the calls of an answer are those of what is made of it, also where that is refused
+-- the calls of finding a line are the calls of the whole step, even if the line is refused
 pub reads_of_answer : {T : Type 0} (old new : Held) (left₀ left : Option (List ℕ)) (calls₀ calls : ℕ) (next : Next) (result : Result T RunFault) → Answers old new left₀ left calls₀ calls (Ok next) → ReadsBytes (idle_calls new.has_ended result) left₀ left calls₀ calls
 reads_of_answer old new left₀ left calls₀ calls next result a = grind arith
 
@@ -48,6 +48,6 @@ reads_of_answer old new left₀ left calls₀ calls next result a = grind arith
 pub came_within : (log came : List ℕ) (left : Option (List ℕ)) → Consumes (Some log) left came → length came ≤ length log
 came_within log came left given = grind (arith, length-append)
 
--- a source that never fails has an end that is found, where it has fewer bytes than reads are made
+-- the end of a source that never fails is found, if it has fewer bytes than reads are made
 pub end_found : (log : List ℕ) (left : Option (List ℕ)) (calls : ℕ) → length log + 1 < most_reads → ReadsBytes 1 (Some log) left 0 calls → HasFailed 0 0 ⊎ OutlastsReads 0 calls → ⊥
 end_found log left calls few reads h = grind (arith, came_within)

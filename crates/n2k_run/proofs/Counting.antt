@@ -1,4 +1,4 @@
--- What a run that only counts makes of its entries.
+-- The output of a run whose only state is its counts.
 use Rattle.std.proofs.Common.{◌≡◌, ℕ, ◌+◌, ◌<◌, Bool, cond, List, [], ◌∷◌, ◌++◌, length, refl, ap, arith, zero-add, count_by, if◌then◌else◌}
 use Rattle.std.specs.List.{flat_map}
 use Rattle.std.proofs.lemmas.List.Sums.{sum_by-cons}

@@ -1,4 +1,4 @@
--- The first line of bytes, where a front of them stands for a part of a long line.
+-- The first line of bytes that begin with the placeholder for a part of a long line.
 use Rattle.std.proofs.Common.{◌≡◌, ◌⊎◌, inl, inr, ℕ, ◌+◌, ◌<◌, ◌≤◌, Bool, true, false, List, [], ◌∷◌, ◌++◌, length, take, drop, refl, sym, ap, ◌∙◌, subst, append_assoc, arith, length-append, length-take, Option, Some, if◌then◌else◌, slice_index}
 use Rattle.std.specs.Io.KnownBytes.{IsAtEnd}
 use Rattle.std.proofs.lemmas.List.{append-nil, length-replicate, get_or-replicate, get_or_at}
@@ -33,7 +33,7 @@ without_return-length piece = grind (arith, length-take)
 pub long_piece : (piece : List ℕ) → longest_line + 1 < length piece → longest_line < length (without_return piece)
 long_piece piece long = omega (arith, without_return-length piece, long)
 
--- and so is what stands for a part of one, whatever comes after it
+-- the last byte of the placeholder, whatever comes after it
 passed-last : (n : ℕ) → n ≡ longest_line → slice_index passed n ≡ 120
 unfolding passed
 passed-last n is = get_or-replicate (longest_line + 1) n 120 0 (omega (arith, is))
@@ -45,7 +45,7 @@ pub long_after : (rest : List ℕ) → longest_line < length (without_return (pa
 long_after [] = grind (arith, append-nil, passed-whole, length-passed)
 long_after (byte ∷ rest) = long_piece (passed ++ (byte ∷ rest)) (omega (arith, length-append passed (byte ∷ rest), length-passed))
 
--- a text without a line feed in front moves into the piece
+-- a prefix without a line feed belongs to the piece
 pub split_past : (front rest piece after : List ℕ) → HasNoFeed front → front ++ rest ≡ piece ++ (10 ∷ after) → (more : List ℕ) × (piece ≡ front ++ more) × (rest ≡ more ++ (10 ∷ after))
 split_past [] rest piece after none is = (piece, refl, is)
 split_past (byte ∷ front) rest [] after none is =
@@ -62,7 +62,7 @@ feed_or_none bytes feed none = grind (arith, length-append feed.0 (10 ∷ feed.1
 pub feed_at : (bytes : List ℕ) (feed : Option ℕ) (size : ℕ) → FindsEnd bytes feed → feed ≡ Some size → EndsAt bytes size
 feed_at bytes feed size finds is = subst (FindsEnd bytes) is finds
 
--- The piece ends at a line feed, or at the end of the source, where nothing is left after it; before it stands `front`.
+-- The piece ends at a line feed, or at the end of the source, with nothing left after it; `front` is before it.
 abbrev pub EndsPiece : (front kept piece rest : List ℕ) → Bool → Option (List ℕ) → Type 0
 EndsPiece front kept piece rest ended left = ((ended ≡ false) × (kept ≡ piece ++ (10 ∷ rest)))
     ⊎ (IsAtEnd left × (ended ≡ true) × (kept ≡ piece) × (0 < length (front ++ piece)) × (rest ≡ []))
@@ -84,7 +84,7 @@ first_of front kept piece line rest ended left before none ends is = record {
 none : HasNoFeed []
 none = λ k d below. absurd (omega (arith, below))
 
--- the line that is answered is the first of all that is unanswered
+-- the line found is the first of all bytes not yet returned
 pub finds : (passing : Bool) (kept piece : List ℕ) (new : Held) (found : Found) (left : Option (List ℕ)) → HasNoFeed piece → Judges passing (without_return piece) new.line found → EndsPiece (if passing then passed else []) kept piece (unanswered new) new.has_ended left
     → FindsLine ((if passing then passed else []) ++ kept) new left found
 finds false kept piece new Line left no_feed judged ends = (first_of [] kept piece new.line _ _ left none no_feed ends judged.1, rw judged.1 judged.2)
@@ -93,18 +93,18 @@ finds true kept piece new Line left no_feed judged ends = cc
 finds true kept piece new Long left no_feed judged ends = (without_return (passed ++ piece), first_of passed kept piece _ _ _ left passed-no_feed no_feed ends refl, long_after piece)
 finds _ kept piece new End left no_feed judged ends = absurd judged
 
--- what is unanswered has a byte
+-- the bytes not yet returned include at least one
 pub some_byte : (passing : Bool) (kept : List ℕ) → (passing ≡ true) ⊎ (0 < length kept) → 0 < length ((if passing then passed else []) ++ kept)
 some_byte passing kept some = grind (arith, length-append, length-passed)
 
--- no line ends in what is unanswered where none ends in what is kept
+-- no line ends in the bytes not yet returned if none ends in the kept bytes
 pub unanswered-no_feed : (held : Held) → HasNoFeed held.kept → HasNoFeed (unanswered held)
 unanswered-no_feed held none =
     let P : Bool → Type 0 = λ b. HasNoFeed ((if b then passed else []) ++ held.kept) in
     let split : (b : Bool) → P b = λ b. elim b as P [ true ↦ All-append is_plain passed held.kept passed-no_feed none | false ↦ none ] in
     split held.is_passing
 
--- what is kept while a long line is read past, or where the block is full, is let go
+-- while a long line is skipped, or if the block is full, the kept bytes are discarded
 pub lets_go : (held : Held) (size : ℕ) → (held.is_passing ≡ true) ⊎ (length held.kept ≡ size) → longest_line + 1 < size → MakesRoom (unanswered held) (passed ++ [])
 lets_go held size why long =
     let P : Bool → Type 0 = λ b. (b ≡ true) ⊎ (length held.kept ≡ size) → MakesRoom ((if b then passed else []) ++ held.kept) (passed ++ []) in

@@ -1,4 +1,4 @@
--- How the next line is found: what comes of the source, until the line is there.
+-- How the next line is found: bytes come of the source until the line is there.
 use Rattle.std.proofs.Common.{◌≡◌, inl, inr, ℕ, ◌+◌, ◌<◌, ◌≤◌, Bool, true, false, List, [], ◌∷◌, ◌++◌, length, refl, sym, ap, ◌∙◌, subst, append_assoc, arith, length-append, Option, Ok, Err, if◌then◌else◌, append-nil, drop_at}
 use Rattle.std.specs.Io.KnownBytes.{IsAtEnd}
 use Rattle.std.proofs.KnownBytes.{Consumes-nil}
@@ -16,7 +16,7 @@ use Rattle.n2k_run.specs.Inner.Reading.{Gains}
 use Rattle.n2k_run.proofs.Calls.{one_more_at_most}
 use Rattle.n2k_run.proofs.Feeds.{is_plain, long_piece, long_after, length-passed, passed-no_feed, split_past, unanswered-no_feed}
 
--- no line ends in all of it where none ends in what stands for it
+-- if no line ends in the bytes or their placeholder, none ends in all of them
 pub no_feed_whole : (whole bytes : List ℕ) → Stays whole bytes → HasNoFeed bytes → HasNoFeed whole
 no_feed_whole whole bytes (inl same) none = subst HasNoFeed same none
 no_feed_whole whole bytes (inr r) none =
@@ -27,7 +27,7 @@ no_feed_whole whole bytes (inr r) none =
 pub stays_more : (whole bytes more : List ℕ) → Stays whole bytes → Stays (whole ++ more) (bytes ++ more)
 stays_more whole bytes more h = grind (arith, append_assoc)
 
--- what is replaced is no shorter
+-- the replaced bytes are no shorter
 whole-long : (whole bytes : List ℕ) → Stays whole bytes → longest_line + 1 < length bytes → longest_line + 1 < length whole
 whole-long whole bytes h long = grind (arith, length-append)
 
@@ -37,7 +37,7 @@ stays_room whole bytes after none stays h = grind (arith, append-nil, whole-long
 pub calls_more : (c₀ c c' r₀ r r' : ℕ) → CallsAre c₀ c r₀ r → c' ≡ one_more c → r' ≡ r + 1 → CallsAre c₀ c' r₀ r'
 calls_more c₀ c c' r₀ r r' so_far is more = grind arith
 
--- so many calls were made as are made at most
+-- the read limit is reached
 pub calls_end : (calls₀ calls reads : ℕ) → CallsAre calls₀ calls 0 reads → reads ≡ most_reads → OutlastsReads calls₀ calls
 calls_end calls₀ calls reads h all = grind arith
 
@@ -62,7 +62,7 @@ pub reads_round : (idle : ℕ) (old loop taken made new : Held) (left₀ left le
     → Gains made.kept new.kept left left' → length made.kept < length new.kept + idle → new.is_passing ≡ made.is_passing → new.reads ≡ made.reads + 1 → calls' ≡ one_more calls → Reads idle old new left₀ left' calls₀ calls'
 reads_round idle old loop taken made new left₀ left left' calls₀ calls calls' so_far same none room room_reads gains gave passing reads called = grind (arith, reads_more idle old made new left₀ left left' calls₀ calls calls' (reads_room old taken made left₀ left calls₀ calls (subst (λ (h : Held). Reads 0 old h left₀ left calls₀ calls) (sym same) so_far) (subst (λ (h : Held). HasNoFeed h.kept) (sym same) none) room room_reads) gains gave passing reads called)
 
--- a first line of what stands for the bytes is one of the bytes
+-- a first line that begins with the placeholder is a long first line of the bytes
 long_first : (whole bytes line rest : List ℕ) (ended : Bool) (left : Option (List ℕ)) (r : ReplacesLong whole bytes) → FirstLine bytes line rest ended left → FirstLong whole rest ended left × (longest_line < length line)
 long_first whole bytes line rest ended left r f =
     let feed : (ended ≡ false) × (bytes ≡ f.piece ++ (10 ∷ rest)) → FirstLong whole rest ended left × (longest_line < length line) = λ e.

@@ -1,4 +1,4 @@
--- What is made of entries, and of more entries after them.
+-- The output of entries, and of more entries after them.
 use Rattle.std.proofs.Common.{◌≡◌, ℕ, List, [], ◌∷◌, ◌++◌, refl, sym, ap, ◌∙◌, append_assoc}
 use Rattle.n2k_wire.specs.declared.entry.Entry.{Entry}
 use Rattle.n2k_run.specs.Fold.{Fold, after_all, given_from}

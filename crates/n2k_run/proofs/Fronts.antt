@@ -1,4 +1,4 @@
--- The front of a log that was taken, and one line more of it.
+-- The prefix of a log that was taken, and one more line of it.
 use Rattle.std.proofs.Common.{◌≡◌, inl, inr, ℕ, ◌-◌, ◌<◌, Bool, true, false, List, [], ◌∷◌, ◌++◌, length, map, refl, sym, ap, ◌∙◌, subst, append_assoc, arith, length-append, Option, Some, None, IfSome}
 use Rattle.std.specs.Io.{IsEmptyOrEndsWith}
 use Rattle.std.specs.Io.KnownBytes.{Consumes, IsAtEnd}
@@ -18,14 +18,14 @@ use Rattle.n2k_run.proofs.Splits.{lines-append, whole_lines-is}
 pub ends_feed : (bytes : List ℕ) → IsEmptyOrEndsWith (bytes ++ (10 ∷ [])) line_feed
 ends_feed bytes = grind (arith, length-append, get_or_at)
 
--- the lines whose end came are those before what has no line's end
+-- the whole lines, followed by bytes without a line feed
 pub whole_front : (front after : List ℕ) → IsEmptyOrEndsWith front line_feed → HasNoFeed after → whole_lines (front ++ after) ≡ front
 whole_front front after ends none = grind (arith, take_at front after (length front) refl, whole_lines-is (front ++ after) (length front) (omega (arith, (length-append front after))) (λ k from below. subst (λ b. is_line_feed b ≡ false) (sym (get_or-append_right front after (length front) k 0 refl from)) (none (k - length front) 0 (omega (arith, (length-append front after), from, below)))) (λ some. get_or_append_left front after 0 (length front - 1) (omega (arith, some)) ∙ ends some), get_or-append_right, get_or_append_left)
 
 pub entries-append : (packing : Packing) (front rest : List ℕ) → IsEmptyOrEndsWith front line_feed → entries packing (front ++ rest) ≡ entries packing front ++ entries packing rest
 entries-append packing front rest ends = grind (arith, lines-append, map-append)
 
--- the entries that were taken lead those of the log
+-- the entries that were taken are a prefix of the log's
 abbrev pub Leads : Packing → Option (List ℕ) → List Entry → Type 0
 Leads packing left₀ es = IfSome left₀ (λ log. (more : List Entry) × (entries packing log ≡ es ++ more))
 

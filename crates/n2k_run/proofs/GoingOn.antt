@@ -1,4 +1,4 @@
--- The output and the reports of a log that goes on, after those of its front.
+-- The output and the reports of a log after those of its prefix.
 use Rattle.std.proofs.Common.{◌≡◌, ℕ, zero, suc, ◌+◌, ◌<◌, ◌≤◌, List, [], ◌∷◌, ◌++◌, length, Result, Ok, Err, refl, sym, ap, ◌∙◌, subst, length-append, arith, slice_get, inl, inr}
 use Rattle.std.specs.List.{flat_map, range_with_len}
 use Rattle.std.specs.Io.{IsEmptyOrEndsWith}
@@ -36,7 +36,7 @@ same_on f g a (suc n) same = grind (arith, same_on f g (a + 1) n (λ i low high.
 numbers-append : (front es : List Entry) → numbers (front ++ es) ≡ numbers front ++ numbers_after front es
 numbers-append front es = grind (arith, length-append, range-append)
 
--- what a function gives of the lines of both, where the lines of the front stay
+-- the values for the lines of both, if the lines of the prefix keep theirs
 parts_of : (f g : ℕ → List ℕ) (front es : List Entry) → ((i : ℕ) → 1 ≤ i → i ≤ length front → f i ≡ g i) → flat_map f (numbers (front ++ es)) ≡ flat_map g (numbers front) ++ flat_map f (numbers_after front es)
 parts_of f g front es same = grind (arith, numbers-append, flat_map-append, same_on)
 
@@ -81,7 +81,7 @@ module _ (t : TableParts) (o : Options) (laws : LogLaws o.window) where
     goes_partly : (more : List ℕ) (before after : Devices) → HasFronts (output_after t o (entries o.packing front)) before after more → GoesOnPartly t o front more before after
     goes_partly more before after fronts = grind (arith, output-on, reports-on)
 
-    -- where the log has more lines than are counted
+    -- the log has more lines than the limit
     to_limit : (log : List ℕ) (before after : Devices) (part : Part) (es : List Entry) (next : Entry) (more : List Entry) → entries o.packing log ≡ es ++ (next ∷ more)
         → length (entries o.packing front) + length es ≡ most_lines → Gained (output_after t o (entries o.packing front)) before after es
         → IsPartOf t o (state t.id o.window (kind t) (entries o.packing front ++ es)) part → GoesOnToLimit t o front log before after part

@@ -1,4 +1,4 @@
--- Parts that lie in memory, taken one after the other.
+-- Parts in memory, taken in order.
 use Rattle.std.proofs.Common.{◌≡◌, ℕ, List, [], ◌∷◌, ◌++◌, arith, length, length-append, map, Option, Some, None, Result, Ok, Err, refl, sym, ap, ◌∙◌, subst, append-nil, ◌⊎◌, ◌+◌, IfOk, inl, inr, ◌<◌, get_or, take, drop, suc, Bor}
 use Rattle.std.specs.List.{All, concat}
 use Rattle.std.proofs.lemmas.List.{get_or_at, map-append, take-append-drop}
@@ -64,7 +64,7 @@ module _ (t : TableParts) (o : Options) (laws : LogLaws o.window) where
         leads_to = subst (λ es. IsPartOf t o (state t.id o.window (kind t) es) next) all (of_log _ _ _ _ (λ log. IsPartOf t o (state t.id o.window (kind t) (front ++ entries o.packing log)) next) ran.ends ran.ends.holds);
       }
 
--- where the state is refused, both sinks are as they were
+-- if the state is refused, both sinks are unchanged
 pub both_untouched : {W E : Type 0} (P : Type 0) (result : Result Part PartFault) (w w' : W) (e e' : E) (seen : W → E → Devices) → OnRefusal result (P × (w' ≡ w) × (e' ≡ e)) → OnRefusal result (seen w' e' ≡ seen w e)
 both_untouched P result w w' e e' seen same = grind arith
 
@@ -73,7 +73,7 @@ pub runs_part : (t : TableParts) (o : Options) (front : List Entry) (met : List 
     → TellsRun (output_after t o front) (λ es. HasPart t o result (state t.id o.window (kind t) (front ++ es))) (with_source before (Some reader.left) reader.calls 0) (with_source after left calls 0) result → OnRefusal result (after ≡ before) → RunsPart t o front met before after result
 runs_part t o front met reader before after left calls result is told untouched = grind arith
 
--- a part that is one of these
+-- a property of all parts holds of one of them
 part_met : (P : List ℕ → Type 0) (parts done : List (List ℕ)) (met : List ℕ) (later : List (List ℕ)) → All P parts → parts ≡ done ++ met ∷ later → P met
 part_met P parts done met later all is = grind (arith, get_or_at done met later [] (length done) refl, length-append done (met ∷ later))
 
@@ -88,7 +88,7 @@ not_read t o parts before after (Err (Stopped fault part)) few (inl end) = cc
 not_read t o parts before after (Err (Stopped fault part)) few (inr end) = grind (arith, part_met (λ met. length met + 1 < most_reads) parts end.done end.met end.later few end.parts_are, not_stopped)
 not_read t o parts before after _ few end = tt
 
--- the parts before one, that one, and those after it
+-- the parts before a part, the part, and the parts after it
 pub split_parts : (parts : List (Bor (List ℕ))) (i : ℕ) (d : Bor (List ℕ)) → i < length parts → map (λ (p : Bor (List ℕ)). p.now) parts ≡ map (λ (p : Bor (List ℕ)). p.now) (take i parts) ++ (get_or parts i d).now ∷ map (λ (p : Bor (List ℕ)). p.now) (drop (suc i) parts)
 split_parts parts i d within = grind (arith, take-append-drop i parts, drop-cons parts i d within, map-append (λ (p : Bor (List ℕ)). p.now) (take i parts) (get_or parts i d ∷ drop (suc i) parts))
 

@@ -1,4 +1,4 @@
--- The bytes of the lines that were taken, where a log has more lines.
+-- The bytes of the lines that were taken, if a log has more lines.
 use Rattle.std.proofs.Common.{◌≡◌, inl, inr, ℕ, ◌<◌, Bool, true, false, List, [], ◌∷◌, ◌++◌, length, map, refl, sym, ap, ◌∙◌, subst, append_assoc, arith, length-append, ◌⊎◌, eqb-true}
 use Rattle.std.specs.Io.{IsEmptyOrEndsWith}
 use Rattle.std.proofs.lemmas.List.{append-nil, get_or-append_right}
@@ -12,7 +12,7 @@ use Rattle.n2k_run.specs.Lines.{line_feed, is_line_feed, without_return}
 use Rattle.n2k_run.proofs.Answering.{lines_piece, lines_rest}
 use Rattle.n2k_run.proofs.Fronts.{ends_feed}
 
--- bytes up to their first line feed, and those after it
+-- bytes up to their first line feed, and the bytes after it
 record FirstFeed (bytes : List ℕ) : Type 0 where
   pub piece : List ℕ
   pub rest : List ℕ
@@ -35,7 +35,7 @@ ends_on : (front bytes : List ℕ) → IsEmptyOrEndsWith front line_feed → IsE
 ends_on front [] first last = subst (λ x. IsEmptyOrEndsWith x line_feed) (sym (append-nil front)) first
 ends_on front (y ∷ ys) first last = grind (arith, length-append, get_or-append_right)
 
--- the bytes of these entries' lines, with their line feeds, and those after them
+-- the bytes of these entries' lines, with their line feeds, and the bytes after them
 pub record TakenBytes (packing : Packing) (log : List ℕ) (es : List Entry) : Type 0 where
   pub bytes : List ℕ
   pub rest : List ℕ
@@ -44,7 +44,7 @@ pub record TakenBytes (packing : Packing) (log : List ℕ) (es : List Entry) : T
   pub whole : IsEmptyOrEndsWith bytes line_feed
   pub entries_are : entries packing bytes ≡ es
 
--- one line alone has no other after it
+-- a single line has no other after it
 one_line : (packing : Packing) (log : List ℕ) (e next : Entry) (es more : List Entry) → HasNoFeed log → entries packing log ≡ e ∷ (es ++ (next ∷ more)) → ⊥
 one_line packing [] e next es more none is = let bad : [] ≡ e ∷ (es ++ (next ∷ more)) = is in cc
 one_line packing (b ∷ bs) e next es more none is = grind (arith, lines_rest (b ∷ bs) none (omega arith), length-append es (next ∷ more))

@@ -1,4 +1,4 @@
--- What the steps of a join give of a log's lines is what the whole log says of them.
+-- The steps of a join over a log's lines give the output of the whole log.
 use Rattle.std.proofs.Common.{◌≡◌, ℕ, ◌+◌, ◌<◌, ◌≤◌, Bool, List, [], ◌∷◌, ◌++◌, length, Option, Some, refl, sym, ap, ◌∙◌, subst, append_assoc, append-nil, length-append, arith, option_and_then, option_to_list, slice_get, IfSome}
 use Rattle.std.specs.List.{flat_map, range_with_len}
 use Rattle.n2k_wire.specs.declared.entry.Entry.{Entry}
@@ -26,8 +26,8 @@ lines_after : (k : ℕ → Option Kind) (s : State) (e : Entry) → (step_after 
 unfolding step_after
 lines_after k s e = refl
 
--- An entry was taken by the join, after the groups were broken whose window ends at its line, and what both gave was made into
--- texts.
+-- An entry was taken by the join, after the groups were broken whose window ends at its line, and texts were made of
+-- both results.
 pub join_moves : (t : TableParts) (empty : Bool) (s mid s' : State) (e : Entry) (step : Step) (n : ℕ) (text text' report due told report' : List ℕ) → n ≡ s'.counts.lines → given_of step ≡ step_given (kind t) mid e → s' ≡ step_after (kind t) mid e → mid.counts.lines < most_lines
     → BreaksOverdue s mid report due → told ≡ due ++ flat_map (broken_text n) (option_to_list step.broken) → report' ≡ told ++ cause_report n step.bad → text' ≡ text ++ message_line t empty step.message
     → MovesOn (join_fold t empty) s s' e text text' report report'
@@ -63,7 +63,7 @@ at_place (b ∷ front) e es = at_place front e es
 entry_next : (front : List Entry) (e : Entry) (es : List Entry) → entry_at (front ++ e ∷ es) (length front + 1) ≡ Some e
 entry_next front e es = grind (arith, at_place front e es)
 
--- The laws of the join on a log, with what ends its groups.
+-- The laws of the join on a log, by the window.
 pub record LogLaws (w : Window) : Type 0 where
   pub agree : (id : List ℕ) (kind : ℕ → Option Kind) (es : List Entry) (e : Entry) → StepsAgree id w kind es e
   pub stay : (kind : ℕ → Option Kind) (es : List Entry) (e : Entry) → LinesStay w kind es e
@@ -94,7 +94,7 @@ module _ (t : TableParts) (o : Options) (laws : LogLaws o.window) (id : List ℕ
       ∙ state_after (front ++ e ∷ []) es
       ∙ ap (state id o.window (kind t)) (append_assoc front (e ∷ []) es)
 
-  -- what the next entry gives is what the log says of its line, however it goes on
+  -- the result of the next entry is the log's result of its line, whatever follows
   message_next : (front : List Entry) (e : Entry) (es : List Entry) → (step_given (kind t) (state id o.window (kind t) front) e).message ≡ message o.window (kind t) (front ++ e ∷ es) (length front + 1)
   message_next front e es =
       ap (λ (g : Given). g.message) (laws.agree id (kind t) front e).given
@@ -112,7 +112,7 @@ module _ (t : TableParts) (o : Options) (laws : LogLaws o.window) (id : List ℕ
       ap (λ (g : Given). g.cause) (laws.agree id (kind t) front e).given
       ∙ ap (option_and_then (cause_in (kind t))) (sym (entry_next front e es))
 
-  -- so is what is given of all the next entries
+  -- the values of all the next entries are the log's values of their lines
   given_after : (given : State → Entry → List ℕ) (at : List Entry → ℕ → List ℕ) → ((front : List Entry) (e : Entry) (es : List Entry) → given (state id o.window (kind t) front) e ≡ at (front ++ e ∷ es) (length front + 1)) → (front es : List Entry)
       → given_from given (join_fold t o.empty) (state id o.window (kind t) front) es ≡ flat_map (at (front ++ es)) (numbers_after front es)
   given_after given at here front [] = refl
@@ -135,7 +135,7 @@ module _ (t : TableParts) (o : Options) (laws : LogLaws o.window) (id : List ℕ
   pub reports_after : (front es : List Entry) → reports_from (join_fold t o.empty) (state id o.window (kind t) front) es ≡ flat_map (report_at t o (front ++ es)) (numbers_after front es)
   reports_after = given_after (join_fold t o.empty).report (report_at t o) report_next
 
--- a run from a log's state makes what the whole log says
+-- a run from a log's state has the output of the whole log
 pub output_after-is : (t : TableParts) (o : Options) → LogLaws o.window → (id : List ℕ) (front : List Entry) → output_from (join_fold t o.empty) o.packing (state id o.window (kind t) front) ≡ output_after t o front
 output_after-is t o laws id front = output_same o.packing (length front) _ _ _ _ (texts_after t o laws id front) (reports_after t o laws id front)
 

@@ -22,12 +22,12 @@ use Rattle.n2k_run.proofs.Ending.{of_log}
 use Rattle.n2k_run.proofs.GoingOn.{both, output-on, reports-on}
 use Rattle.n2k_run.proofs.LogSteps.{LogLaws}
 
--- so many reads of a source that never fails were made only where it has as many bytes
+-- the read limit of a source that never fails is reached only if it has as many bytes
 many_bytes : {P : Type 0} (log : List ℕ) (left : Option (List ℕ)) (calls : ℕ) → ReadsBytes 1 (Some log) left 0 calls → HasFailed 0 0 ⊎ (OutlastsReads 0 calls × P) → most_reads ≤ length log + 1
 many_bytes log left calls reads h = grind (arith, came_within)
 
 module _ (t : TableParts) (o : Options) (laws : LogLaws o.window) (front : List ℕ) (whole : IsEmptyOrEndsWith front line_feed) where
-  -- the front and what was taken are as many lines as are counted, and one comes after them
+  -- the prefix and the taken lines are the most lines, and one more follows
   past_limit : (more : List ℕ) (taken : List Entry) (next : Entry) (rest : List Entry) → entries o.packing more ≡ taken ++ next ∷ rest → length (entries o.packing front) + length taken ≡ most_lines → most_lines < length (entries o.packing (front ++ more))
   past_limit more taken next rest is full = grind (arith, both, length-append)
 

@@ -1,4 +1,4 @@
--- Texts that are one line each are the lines of what they make together.
+-- Texts of one line each are the lines of their concatenation.
 use Rattle.std.proofs.Common.{◌≡◌, ℕ, ◌≤◌, List, [], ◌∷◌, ◌++◌, map, refl, arith, append_assoc, flat_map, All}
 use Rattle.n2k_table.specs.OneLine.{IsOneLine}
 use Rattle.n2k_run.specs.Lines.{without_return, lines}
@@ -13,7 +13,7 @@ keeps_end (b ∷ bs) clean = grind arith
 pub lines_one : (front rest : List ℕ) → All (λ b. 32 ≤ b) front → lines (front ++ (10 ∷ rest)) ≡ front ∷ lines rest
 lines_one front rest clean = grind (arith, lines_piece, keeps_end)
 
--- texts of a line each are the lines of what they make together
+-- texts of one line each are the lines of their concatenation
 pub lines_of_texts : {X : Type 0} (text : X → List ℕ) → ((x : X) → IsOneLine (text x)) → (xs : List X) → map (λ line. line ++ 10 ∷ []) (lines (flat_map text xs)) ≡ map text xs
 lines_of_texts text one [] = refl
 lines_of_texts text one (x ∷ xs) = grind (arith, lines_of_texts text one xs, append_assoc, lines_one)

@@ -1,4 +1,4 @@
--- The groups whose window ends at the next line are broken before it: one round of the loop that does so.
+-- The groups whose window ends at the next line are broken before it: one round of that loop.
 use Rattle.std.proofs.Common.{◌≡◌, ◌+◌, ◌<◌, ℕ, List, ◌++◌, refl, sym, ap, ◌∙◌, append_assoc, Option, Some, option_map, arith}
 use Rattle.std.specs.List.{flat_map}
 use Rattle.n2k_wire.specs.declared.entry.Entry.{Entry}
@@ -13,7 +13,7 @@ use Rattle.n2k_join.specs.Step.{due, expired}
 use Rattle.n2k_run.specs.Inner.Overdue.{BreaksOverdue}
 use Rattle.n2k_run.specs.Reports.{broken_text}
 
--- the group of which was told
+-- the group that was reported
 record FoundDue (s : State) (b : Broken) : Type 0 where
   pub group : Group
   pub is : due s ≡ Some group
@@ -22,7 +22,7 @@ record FoundDue (s : State) (b : Broken) : Type 0 where
 found_due : (s : State) (b : Broken) → option_map as_broken (due s) ≡ Some b → FoundDue s b
 found_due s b e = grind arith
 
--- a group that is broken so counts no line
+-- breaking a due group counts no line
 pub lines_stay : (s : State) → (expired s).counts.lines ≡ s.counts.lines
 unfolding expired
 lines_stay s = refl

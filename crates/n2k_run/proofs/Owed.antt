@@ -1,11 +1,11 @@
--- How what is owed of a text shrinks as it is written.
+-- How the rest of a text shrinks as it is written.
 use Rattle.std.proofs.Common.{ℕ, List, ◌++◌, ◌<◌, length, take, drop, sym, ◌∙◌, subst, append_assoc, ◌-◌, Option, arith, length-append, Result, Ok, Err, OnErr}
 use Rattle.std.specs.Io.KnownBytes.{Appends}
 use Rattle.std.proofs.KnownBytes.{Appends-trans}
 use Rattle.std.proofs.lemmas.List.{take-append-drop, take_rest}
 use Rattle.n2k_run.specs.Writing.{Owes, AppendsFront}
 
--- the first part of what is still to come is written
+-- the first part of the rest is written
 pub Owes-part : (old mid new : Option (List ℕ)) (text part rest : List ℕ) → Owes old mid text (part ++ rest) → Appends mid new part → Owes old new text rest
 Owes-part old mid new text part rest owed more = record {
   front = owed.front ++ part;
@@ -13,7 +13,7 @@ Owes-part old mid new text part rest owed more = record {
   still = owed.still ∙ sym (append_assoc owed.front part rest);
 }
 
--- as many bytes of it as a write took
+-- a write took some bytes of the rest
 pub Owes-taken : (old mid new : Option (List ℕ)) (text rest : List ℕ) (n : ℕ) → Owes old mid text rest → Appends mid new (take n rest) → Owes old new text (take (length rest - n) (drop n rest))
 Owes-taken old mid new text rest n owed more =
     let whole : Owes old mid text (take n rest ++ drop n rest) = subst (λ r. Owes old mid text r) (sym (take-append-drop n rest)) owed in
@@ -24,11 +24,11 @@ Owes-taken old mid new text rest n owed more =
 pub both_parts : (old mid new : Option (List ℕ)) (first rest : List ℕ) → Appends old mid first → Appends mid new rest → Appends old new (first ++ rest)
 both_parts = Appends-trans
 
--- or a front of the first
+-- a prefix of the first of two texts is a prefix of both
 pub front_of_first : (old new : Option (List ℕ)) (first rest : List ℕ) → AppendsFront old new first → AppendsFront old new (first ++ rest)
 front_of_first old new first rest owed = grind (arith, append_assoc owed.1.front owed.0 rest)
 
--- or the first and a front of the other
+-- the first of two texts and a prefix of the other are a prefix of both
 pub first_and_front : (old mid new : Option (List ℕ)) (first rest : List ℕ) → Appends old mid first → AppendsFront mid new rest → AppendsFront old new (first ++ rest)
 first_and_front old mid new first rest done owed = grind (arith, append_assoc)
 

@@ -1,4 +1,4 @@
--- A part of a log: what its run promises is what its answer says.
+-- A part of a log: its run's promise gives its own.
 use Rattle.std.proofs.Common.{◌≡◌, ℕ, List, [], ◌∷◌, ◌++◌, arith, Option, Some, None, Result, Ok, Err, refl, sym, ◌∙◌, subst, append-nil, ◌⊎◌, IfSome}
 use Rattle.n2k_wire.specs.declared.entry.Entry.{Entry}
 use Rattle.n2k_table.specs.declared.definition.Kind.{Kind}
@@ -34,7 +34,7 @@ pub unbegun : (o : Output) (stands : List Entry → Type 0) (before : Devices) (
 unbegun o stands before fault none = grind (arith, known_any, none_gained, append-nil, none_read)
 
 module _ (o : Output) (before after : Devices) where
-  -- where a run stands at a line, the sinks gained fronts of what is made of the log
+  -- if a run ends at a line, the sinks gained prefixes of the log's output
   pub line_fronts : (stands : List Entry → Type 0) (ran : Result (Unit {0}) RunFault) → EndsAtLine ran → Runs o stands before after ran → IfSome before.left (HasFronts o before after)
   line_fronts stands (Ok x) line runs = of_log o stands before after _ runs.ends (record {
     printed = all_gained before.written after.written (o.texts (entries o.packing runs.ends.came)) runs.ends.gained.printed;
@@ -44,7 +44,7 @@ module _ (o : Output) (before after : Devices) where
   line_fronts stands (Err run_faults.TooManyLines) line runs = runs.fronts
   line_fronts stands _ line runs = absurd line
 
-  -- the run of which an answer tells, by the end that it tells
+  -- the run of a result, by its end
   pub told_ok : (stands : List Entry → Type 0) (part : Part) → TellsRun o stands before after (Ok part) → Runs {T = Unit {0}} o stands before after (Ok tt)
   told_ok stands part told = subst (λ r. Runs o stands before after r) told.ended told.runs
 
@@ -63,13 +63,13 @@ not_refused result ran P finishes = grind arith
 
 -- ---- the states that a part goes through
 
--- a state under a table and a window: what is saved of it reads back
+-- a state under a table and a window; its saved text reads back
 pub record IsUnder (t : TableParts) (o : Options) (s : State) : Type 0 where
   pub fast : AreFast (kind t) s.groups
   pub same_table : s.id ≡ t.id
   pub same_window : s.window ≡ o.window
 
--- what the join's laws say of states under a table
+-- the join's laws of states under a table
 pub record KeepsFast : Type 0 where
   pub new : (kind : ℕ → Option Kind) (id : List ℕ) (w : Window) → AreFast kind (state id w kind []).groups
   pub read : (kind : ℕ → Option Kind) (id : List ℕ) (w : Window) (bytes : List ℕ) (s : State) → resumed kind id w bytes ≡ Ok s → AreFast kind s.groups
@@ -112,7 +112,7 @@ module _ (laws : KeepsFast) (t : TableParts) (o : Options) (window : IsWindow o.
       → (s : State) → begun t o handed ≡ Ok s → TellsRun (output_from (join_fold t o.empty) o.packing s) (λ es. HasPart t o result (after_all (join_fold t o.empty) s es)) before after result
   steps_of handed join join' before after ran result id began runs saved finishes s is = grind (arith, begun-under handed join began, same_state, runs_more, has_part, after-under)
 
--- from the state of a log: what the whole log says
+-- from the state of a log: the output of the whole log
 pub log_of : (t : TableParts) (o : Options) → LogLaws o.window → (before after : Devices) (result : Result Part PartFault) (front : List Entry)
     → TellsRun (output_from (join_fold t o.empty) o.packing (state t.id o.window (kind t) front)) (λ es. HasPart t o result (after_all (join_fold t o.empty) (state t.id o.window (kind t) front) es)) before after result
     → TellsRun (output_after t o front) (λ es. HasPart t o result (state t.id o.window (kind t) (front ++ es))) before after result

@@ -15,12 +15,12 @@ use Rattle.n2k_run.specs.Lines.{lines}
 use Rattle.n2k_run.specs.Replayed.{json_lines, with_line_feeds, PrintsBack}
 use Rattle.n2k_run.proofs.OutputLines.{lines_of_texts}
 
--- what is written of lines, is written of the messages that they give
+-- the texts of lines are the texts of the messages that they give
 texts_of_messages : (t : TableParts) (empty : Bool) (gives : ℕ → Option PacketParts) (ns : List ℕ) → flat_map (λ n. message_line t empty (gives n)) ns ≡ flat_map (λ m. json t m empty) (filter_map gives ns)
 texts_of_messages t empty gives [] = refl
 texts_of_messages t empty gives (n ∷ ns) = grind (arith, texts_of_messages t empty gives ns)
 
--- the lines of what is printed of entries are the JSON lines of their messages
+-- the output lines of entries are the JSON lines of their messages
 pub out_of-lines : (t : TableParts) (o : Options) (es : List Entry) → ((m : PacketParts) (empty : Bool) → IsOneLine (json t m empty)) → with_line_feeds (lines (out_of t o es)) ≡ json_lines t o (messages o.window (kind t) es)
 out_of-lines t o es one = grind (arith, texts_of_messages t o.empty (message o.window (kind t) es) (numbers es), lines_of_texts (λ m. json t m o.empty) (λ m. one m o.empty) (messages o.window (kind t) es))
 

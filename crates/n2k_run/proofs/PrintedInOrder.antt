@@ -1,4 +1,4 @@
--- In order each line that is printed tells a message that is one by itself, or one of consecutive frames.
+-- In order, each printed line shows a message that is alone in its line or made of consecutive frames.
 use Rattle.std.proofs.Common.{arith, ◌≡◌, ℕ, Bool, List, [], ◌∷◌, ◌++◌, refl, Option, Some, None, ◌⊎◌, filter_map, option_map, option_and_then, inl, inr}
 use Rattle.std.specs.List.{AllByRecursion}
 use Rattle.std.specs.Option.{option_or}
@@ -22,7 +22,7 @@ use Rattle.n2k_run.specs.Lines.{lines}
 use Rattle.n2k_run.specs.Replayed.{json_lines, with_line_feeds}
 use Rattle.n2k_run.proofs.PrintedBack.{out_of-lines}
 
--- what the laws below say, under a rule in order
+-- the facts that the laws below need, under a rule in order
 pub record OrderLaws (t : TableParts) (o : Options) : Type 0 where
   pub one_line : (m : PacketParts) (empty : Bool) → IsOneLine (json t m empty)
   pub consecutive : (es : List Entry) (line : ℕ) (m : Keyed) → gathered (within o.window) (frames (kind t) es) line ≡ Some m → ComesOfConsecutive (kind t) es line m
@@ -30,12 +30,12 @@ pub record OrderLaws (t : TableParts) (o : Options) : Type 0 where
 abbrev Comes : TableParts → List Entry → PacketParts → Type 0
 Comes t es m = ComesAlone t es m ⊎ ComesInOrder t es m
 
--- what each line gives
+-- a property of each line's value
 all_given : {Y : Type 0} (P : Y → Type 0) (gives : ℕ → Option Y) → ((n : ℕ) (y : Y) → gives n ≡ Some y → P y) → (ns : List ℕ) → AllByRecursion P (filter_map gives ns)
 all_given P gives each [] = tt
 all_given {Y} P gives each (n ∷ ns) = grind (arith, all_given P gives each ns)
 
--- texts that are the JSON lines of messages tell them
+-- JSON lines of messages show them
 told : (t : TableParts) (o : Options) (es : List Entry) (ls : List (List ℕ)) (ms : List PacketParts) → with_line_feeds ls ≡ json_lines t o ms → AllByRecursion (Comes t es) ms → AllByRecursion (TellsOne t o es) ls
 told t o es [] ms is each = tt
 told t o es (l ∷ ls) [] is each = absurd (cc)
@@ -62,7 +62,7 @@ module _ (t : TableParts) (o : Options) (laws : OrderLaws t o) (es : List Entry)
   each_tells_one = All-from_recursion (TellsOne t o es) (lines (out_of t o es))
       (told t o es (lines (out_of t o es)) (messages o.window (kind t) es) (out_of-lines t o es laws.one_line) (all_given (Comes t es) (message o.window (kind t) es) comes (numbers es)))
 
--- so does each line of what a log prints
+-- each line that a log prints is of a message that comes alone or in order
 pub log_in_order : (t : TableParts) (o : Options) (log : List ℕ) → OrderLaws t o → EachTellsOne t o (entries o.packing log) (out t o log)
 unfolding out
 log_in_order t o log laws = each_tells_one t o laws (entries o.packing log)

@@ -1,4 +1,4 @@
--- The engine of the runs: what stands after each step, and what each end leaves.
+-- The engine of the runs: what holds after each step and at each end.
 use Rattle.std.proofs.Common.{◌≡◌, inl, inr, ℕ, true, false, List, [], ◌∷◌, ◌++◌, length, refl, sym, ap, ◌∙◌, subst, append_assoc, arith, length-append, Option, Result, Ok, Err, IfSome, if◌then◌else◌, append-nil}
 use Rattle.std.specs.Io.KnownBytes.{Appends, Consumes}
 use Rattle.std.proofs.KnownBytes.{Appends-nil, Appends-trans, Consumes-nil, Consumes-trans}
@@ -26,11 +26,11 @@ none_gained held text = (text, record { front = []; appended = Appends-nil held;
 pub all_gained : (old new : Option (List ℕ)) (text : List ℕ) → Appends old new text → AppendsFront old new text
 all_gained old new text appended = ([], record { front = text; appended = appended; still = sym (append-nil text) })
 
--- a front of a text that has more after it
+-- a prefix of a longer text
 longer_front : (old new : Option (List ℕ)) (text more whole : List ℕ) → AppendsFront old new text → whole ≡ text ++ more → AppendsFront old new whole
 longer_front old new text more whole (rest, owes) is = grind (arith, append_assoc)
 
--- a front of what follows a text
+-- a text, and a prefix of the text after it
 more_front : (old mid new : Option (List ℕ)) (text part whole : List ℕ) → Appends old mid text → AppendsFront mid new part → whole ≡ text ++ part → AppendsFront old new whole
 more_front old mid new text part whole first (rest, owes) is = grind (arith, append_assoc)
 
@@ -52,11 +52,11 @@ module _ {S : Type 0} (m : Fold S) (packing : Packing) (s₀ : S) (before : Devi
   abbrev o : Output
   o = output_from m packing s₀
 
-  -- what is made of a front, and what is made of the log
+  -- the values of the first entries are a prefix of the log's
   led : (given : S → Entry → List ℕ) (es more : List Entry) (log : List ℕ) → entries packing log ≡ es ++ more → given_from given m s₀ (entries packing log) ≡ given_from given m s₀ es ++ given_from given m (after_all m s₀ es) more
   led given es more log is = ap (given_from given m s₀) is ∙ given-append m given s₀ es more
 
-  -- what is written of it and what is kept
+  -- the written texts and the pending texts
   parts : (given : S → Entry → List ℕ) (es written kept : List Entry) (last : List ℕ) → es ≡ written ++ kept → last ≡ given_from given m (after_all m s₀ written) kept → given_from given m s₀ es ≡ given_from given m s₀ written ++ last
   parts given es written kept last are is = ap (given_from given m s₀) are ∙ given-append m given s₀ written kept ∙ ap (λ t. given_from given m s₀ written ++ t) (sym is)
 
@@ -65,7 +65,7 @@ module _ {S : Type 0} (m : Fold S) (packing : Packing) (s₀ : S) (before : Devi
       → Appends w₀ w (given_from given m s₀ written) → Appends w w' last → Appends w₀ w' (given_from given m s₀ es)
   all_out given es written kept last w₀ w w' are is first next = subst (λ t. Appends w₀ w' t) (sym (parts given es written kept last are is)) (Appends-trans w₀ w w' _ last first next)
 
-  -- what was made of entries, and what of it is written and kept
+  -- the output of entries, written and pending
   abbrev MadeOf : S → List Entry → List ℕ → List ℕ → Devices → Type 0
   MadeOf s es text report now = Made m s₀ s es text report before.written now.written before.reported now.reported
 
@@ -95,7 +95,7 @@ module _ {S : Type 0} (m : Fold S) (packing : Packing) (s₀ : S) (before : Devi
         none_failed = record { reads = refl; writes = refl; reports = refl };
       }
 
-  -- all that is kept was written
+  -- all pending texts were written
   made_written : (s : S) (es : List Entry) (text report : List ℕ) (now after : Devices) → MadeOf s es text report now → Appends now.written after.written text → Appends now.reported after.reported report → MadeOf s es [] [] after
   made_written s es text report now after made texts reports = grind (arith, append-nil es, all_out)
 
@@ -166,9 +166,9 @@ module _ {S : Type 0} (m : Fold S) (packing : Packing) (s₀ : S) (before : Devi
             }
       ]
 
-  -- ---- what a run leaves
+  -- ---- the end of a run
 
-  -- What the sinks gained of these entries: the reports of the first of them whole, and a front of the texts of the same.
+  -- The sinks gained of these entries: all reports of the first of them, and a prefix of their texts.
   record HasOut (es : List Entry) (after : Devices) : Type 0 where
     taken : List Entry
     rest : List Entry
@@ -177,7 +177,7 @@ module _ {S : Type 0} (m : Fold S) (packing : Packing) (s₀ : S) (before : Devi
     reports_first : (more : List ℕ) × Appends before.reported after.reported (reports_from m s₀ taken ++ more)
     reported : AppendsFront before.reported after.reported (reports_from m s₀ es)
 
-  -- it is so for the log that they lead
+  -- the entries are a prefix of the log's
   all_entries : (es : List Entry) (after : Devices) (out : HasOut es after) (log : List ℕ) (l : (more : List Entry) × (entries packing log ≡ es ++ more)) → entries packing log ≡ out.taken ++ (out.rest ++ l.0)
   all_entries es after out log l = l.1 ∙ ap (λ es. es ++ l.0) out.entries_are ∙ append_assoc out.taken out.rest l.0
 
@@ -196,14 +196,14 @@ module _ {S : Type 0} (m : Fold S) (packing : Packing) (s₀ : S) (before : Devi
     reported = out.reports_first;
   }) lead
 
-  -- all of them are written
+  -- all of the entries are written
   gained : (s : S) (es : List Entry) (now : Devices) → MadeOf s es [] [] now → Gained o before now es
   gained s es now made = record {
     printed = all_out m.text es made.written made.kept [] _ _ _ made.entries_are made.text_is made.printed (Appends-nil now.written);
     reported = all_out m.report es made.written made.kept [] _ _ _ made.entries_are made.report_is made.reported (Appends-nil now.reported);
   }
 
-  -- all reports were written, and of the texts a front
+  -- all reports were written, and a prefix of the texts
   written_out : (es : List Entry) (after : Devices) → AppendsFront before.written after.written (texts_from m s₀ es) → Appends before.reported after.reported (reports_from m s₀ es) → HasOut es after
   written_out es after texts reports = record {
     taken = es;
@@ -214,7 +214,7 @@ module _ {S : Type 0} (m : Fold S) (packing : Packing) (s₀ : S) (before : Devi
     reported = all_gained before.reported after.reported _ reports;
   }
 
-  -- no more texts were written, and of the reports a front
+  -- no more texts were written, and a prefix of the reports
   report_out : (s : S) (es : List Entry) (text report : List ℕ) (now after : Devices) → MadeOf s es text report now → (after.written ≡ now.written) × AppendsFront now.reported after.reported report → HasOut es after
   report_out s es text report now after made out = record {
     taken = made.written;
@@ -225,12 +225,11 @@ module _ {S : Type 0} (m : Fold S) (packing : Packing) (s₀ : S) (before : Devi
     reported = more_front before.reported now.reported after.reported _ report _ made.reported out.1 (parts m.report es made.written made.kept report made.entries_are made.report_is);
   }
 
-  -- how a run ends by a fault, of which so much is out
+  -- how a run ends by a fault, with so much output
   ended : (stands : List Entry → Type 0) (es : List Entry) (after : Devices) (fault : RunFault) → RunEnds {T = Unit {0}} o stands before after (Err fault) → HasOut es after → Leads packing before.left es → IsOfDevice {T = Unit {0}} before after (Err fault)
       → ReadsBytes 1 before.left after.left before.calls after.calls → Runs {T = Unit {0}} o stands before after (Err fault)
   ended stands es after fault ends out lead device reads = record { ends = ends; fronts = fronts_of es after out lead; reports_first = first_of es after out lead; device = device; reads = reads }
 
-  -- a sink failed
   pub sink_end : (stands : List Entry → Type 0) (s : S) (es : List Entry) (text report : List ℕ) (now after : Devices) (fault : RunFault) → MadeOf s es text report now → Leads packing before.left es → after.failed_reads ≡ before.failed_reads → now.failed_writes ≡ before.failed_writes → now.failed_reports ≡ before.failed_reports
       → WritesPending {T = Unit {0}} text report now.written after.written now.reported after.reported (Err fault) → FailsPending {T = Unit {0}} now.failed_writes after.failed_writes now.failed_reports after.failed_reports (Err fault)
       → ReadsBytes 1 before.left after.left before.calls after.calls
@@ -247,7 +246,7 @@ module _ {S : Type 0} (m : Fold S) (packing : Packing) (s₀ : S) (before : Devi
   pub lead_of : (s : S) (held : Held) (text report : List ℕ) (now : Devices) (stands : BetweenLines m packing s₀ s held text report before now) → Leads packing before.left (entries packing stands.front)
   lead_of s held text report now stands = leads packing before.left now.left stands.front (unanswered held) held.has_ended stands.came stands.whole stands.end
 
-  -- the calls up to here, and with those for the next line
+  -- the calls up to here, including the calls for the next line
   pub calls_here : (s : S) (held : Held) (text report : List ℕ) (now : Devices) → BetweenLines m packing s₀ s held text report before now → ReadsBytes 1 before.left now.left before.calls now.calls
   calls_here s held text report now stands = ended_within_one held.has_ended before.left now.left before.calls now.calls stands.reads
 
@@ -296,7 +295,7 @@ module _ {S : Type 0} (m : Fold S) (packing : Packing) (s₀ : S) (before : Devi
       let after : Devices = record now { written = w'; failed_writes = fw'; reported = e'; failed_reports = fe' } in
       sink_end (λ es. s ≡ after_all m s₀ es) s (entries packing stands.front) text report now after fault stands.made (lead_of s held text report now stands) stands.none_failed.reads stands.none_failed.writes stands.none_failed.reports out fails (calls_here s held text report now stands)
 
-  -- a fault of the next line, where nothing moved
+  -- a fault of the next line that changed nothing
   pub still_made : (s s' : S) (held held' : Held) (text text' report report' : List ℕ) (now : Devices) (left : Option (List ℕ)) (calls failed : ℕ) (fault : RunFault) → BetweenLines m packing s₀ s held text report before now → TakesNext {T = Unit {0}} m packing s s' held held' now.left left text text' report report' (Err fault) → (fault ≡ Memory → ⊥)
       → (es : List Entry) → MadeOf s es text report now → MadeOf s' es text' report' (read_on now left calls failed)
   still_made s s' held held' text text' report report' now left calls failed Read stands next not_memory es made = made_still s s' es text text' report report' now made next.1

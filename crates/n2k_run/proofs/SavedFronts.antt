@@ -1,4 +1,4 @@
--- What is saved after the front of a log reads back.
+-- The state saved after a prefix of a log reads back.
 use Rattle.std.proofs.Common.{arith, ◌≡◌, ℕ, ◌≤◌, List, [], ◌∷◌, map, length, Some, Ok, All, Option}
 use Rattle.std.proofs.lemmas.List.Elements.{All-nil}
 use Rattle.n2k_wire.specs.declared.entry.Entry.{Entry}

@@ -19,7 +19,7 @@ use Rattle.n2k_run.specs.declared.frames.Outcome.TheVariants.{Written, Bad}
 use Rattle.n2k_run.specs.FramesOut.{fault_cause, frame_text, frame_texts, interface_cause}
 use Rattle.n2k_run.specs.Inner.Sending.{SentMessage, frame_line}
 
--- what candump writes in front of a frame's data is what it writes for the message, and the frame has at most 8 bytes
+-- candump writes the same before the data of a frame as for its message, and the frame has at most 8 bytes
 pub record IsFrameOf (m p : PacketParts) : Type 0 where
   pub parts_are : candump_parts p ≡ candump_parts m
   pub short : length p.payload ≤ frame_payload
@@ -40,7 +40,7 @@ frames_are : (k : Option Kind) (m : PacketParts) (s : ℕ) → refusal k m ≡ N
 unfolding pieces_as
 frames_are k m s e = grind (arith, leb-true, pieces_are)
 
--- one of them
+-- a property of all items holds of one
 at : {A : Type 0} (P : A → Type 0) (xs : List A) (n : ℕ) (d : A) → AllByRecursion P xs → n < length xs → P (get_or xs n d)
 at P [] n d all within = absurd (omega (arith, within))
 at P (x ∷ xs) zero d all within = all.0
@@ -65,7 +65,6 @@ pub no_line : (interface : Option (List ℕ)) (m p : PacketParts) (fault : WireF
     → interface_cause interface m ≡ fault_cause fault
 no_line interface m p fault made old new is outcome a = grind arith
 
--- one frame more
 pub one_more : (interface : Option (List ℕ)) (frames : List PacketParts) (n : ℕ) (p : PacketParts) (start now after : List ℕ) → slice_get frames n ≡ Some p → now ≡ start ++ frame_texts interface (take n frames) → after ≡ now ++ frame_text interface p
     → after ≡ start ++ frame_texts interface (take (n + 1) frames)
 one_more interface frames n p start now after is before grown = grind (arith, take-suc frames n p (slice_get_within frames n p is), get_or_from_slice_get frames n p p is, flat_map-append (frame_text interface) (take n frames) (p ∷ []), append-nil (frame_text interface p), append_assoc start (frame_texts interface (take n frames)) (frame_text interface p))
@@ -79,6 +78,6 @@ pub not_sent : (kind : ℕ → Option Kind) (interface : Option (List ℕ)) (m :
     → interface_cause interface m ≡ fault_cause fault → Some made ≡ option_map Bad (fault_cause fault) → SentMessage kind interface m held held' text text made
 not_sent kind interface m held held' fault made text split after seen outcome = grind (arith, append-nil)
 
--- what was appended is cut off
+-- the appended bytes are cut off
 pub cut_back : (start more now after cut : List ℕ) (n : ℕ) → now ≡ start ++ more → after ≡ now → n ≡ length start → cut ≡ take n after → cut ≡ start
 cut_back start more now after cut n is same len back = back ∙ ap (λ k. take k after) len ∙ ap (take (length start)) (same ∙ is) ∙ take-append_seam start more

@@ -1,4 +1,4 @@
--- What a run that sends messages makes of its lines is what the whole log says.
+-- A run that sends messages has the output of the whole log.
 use Rattle.std.proofs.Common.{◌≡◌, ◌+◌, ◌<◌, ℕ, false, cond, List, [], ◌∷◌, ◌++◌, length, refl, sym, ap, ◌∙◌, append_assoc, arith, Option, Some, None, count_by, if◌then◌else◌}
 use Rattle.std.specs.List.{cons_option, flat_map}
 use Rattle.std.specs.Option.{is_none, option_or}
@@ -26,7 +26,7 @@ use Rattle.n2k_run.specs.Runs.{output_from}
 use Rattle.n2k_run.specs.Inner.Engine.{MovesOn}
 use Rattle.n2k_run.specs.Inner.Sending.{Sent, frame_counts_after, held_after, line_text, outcome, sending_fold}
 
--- a refusal is never for want of memory
+-- a refusal by PGN or length is not about memory
 refusal_by : (k : Option Kind) (m : PacketParts) → refusal k m ≡ Some unsplit.Memory → ⊥
 refusal_by k m e = grind arith
 
@@ -73,7 +73,7 @@ module _ (kind : ℕ → Option Kind) (interface : Option (List ℕ)) where
   sendings-push earlier (e ∷ ms) m = grind (arith, sendings-push (earlier ++ e ∷ []) ms m, append_assoc)
 
   module _ (law : (ms : List PacketParts) → split_all kind ms ≡ written kind ms) where
-    -- a message's frames are those under the number of earlier messages of its stream
+    -- a message's frames have the number of earlier messages of its stream
     pieces_same : (ms : List PacketParts) (m : PacketParts) → pieces_by kind m (held_by first_sequences ms (stream_of m.id)) ≡ pieces_by kind m (sequence_after ms m)
     pieces_same ms m = grind (arith, sendings-push [] ms m, flat_map-append (frames_of_sending kind) (sendings ms) (sendings_after ms (m ∷ [])), split-push first_sequences ms m, append-nil (pieces_by kind m (held_by first_sequences ms (stream_of m.id))), append-nil (pieces_by kind m (sequence_after ms m)), append_cancel_left)
 
@@ -118,7 +118,7 @@ module _ (kind : ℕ → Option Kind) (interface : Option (List ℕ)) where
   pub counts_are_those : (held : Sequences) (es : List Entry) → (after_all (sending_fold kind interface) (record { held = held; counts = record { lines = 0; messages = 0; bad = 0; unknown = 0; broken = 0; held = 0 } }) es).counts ≡ frame_counts_of kind interface es
   counts_are_those held es = grind (arith, counts_after)
 
--- what a run makes from the start is what the whole log says
+-- the output of a run from the start is that of the whole log
 pub output_is : (t : TableParts) (interface : Option (List ℕ)) (held : Sequences) → held ≡ first_sequences → ((ms : List PacketParts) → split_all (kind t) ms ≡ written (kind t) ms)
     → output_from (sending_fold (kind t) interface) Whole (record { held = held; counts = record { lines = 0; messages = 0; bad = 0; unknown = 0; broken = 0; held = 0 } }) ≡ frames_output t interface
 output_is t interface held is law = grind (arith, texts_are, reports_are)

@@ -1,4 +1,4 @@
--- The lines of bytes, from the first line on and from a front that ends in a line feed on.
+-- The lines of bytes, after the first line and after a prefix that ends in a line feed.
 use Rattle.std.proofs.Common.{◌≡◌, ◌<◌, ◌≤◌, ◌-◌, ℕ, Bool, true, false, cond, List, [], ◌∷◌, ◌++◌, length, get_or, take, map, refl, ap, append_assoc, arith}
 use Rattle.std.specs.List.{slice_split, onto_first}
 use Rattle.std.specs.Io.{IsEmptyOrEndsWith}
@@ -33,7 +33,7 @@ slice_split-feed : (front rest : List ℕ) → slice_split is_line_feed (front +
 slice_split-feed [] rest = refl
 slice_split-feed (byte ∷ front) rest = grind (arith, slice_split-feed front rest, first_piece front)
 
--- the lines of bytes are those up to a line feed and those after it
+-- the lines of bytes: the lines up to a line feed, then the lines after it
 pub lines_feed : (front rest : List ℕ) → lines (front ++ (10 ∷ rest)) ≡ map without_return (slice_split is_line_feed front) ++ lines rest
 lines_feed front rest = grind (arith, slice_split-feed front rest, without_last_empty-append (slice_split is_line_feed front) (first_piece rest).0 (first_piece rest).1.0, map-append without_return (slice_split is_line_feed front) (without_last_empty (slice_split is_line_feed rest)))
 
@@ -41,7 +41,7 @@ lines_feed front rest = grind (arith, slice_split-feed front rest, without_last_
 ends_in_feed : (bytes : List ℕ) → 0 < length bytes → get_or bytes (length bytes - 1) 0 ≡ 10 → bytes ≡ take (length bytes - 1) bytes ++ (10 ∷ [])
 ends_in_feed bytes some last = grind (arith, drop-cons, drop_of_length-le, take-append-drop)
 
--- all but what stands after the last line feed
+-- all bytes up to the last line feed
 pub whole_lines-is : (bytes : List ℕ) (end : ℕ) → end ≤ length bytes → ((k : ℕ) → end ≤ k → k < length bytes → is_line_feed (get_or bytes k 0) ≡ false) → (0 < end → get_or bytes (end - 1) 0 ≡ 10) → take end bytes ≡ whole_lines bytes
 whole_lines-is bytes end within none last = grind (arith, suffix_len_is)
 

@@ -1,4 +1,4 @@
--- What `decode` writes and reports of a log: the JSON lines of its messages, its broken groups and its bad lines,
+-- The output and reports of `decode` for a log: the JSON lines of its messages, its broken groups and its bad lines,
 -- each at the line that gives it.
 use Rattle.std.specs.Prelude.{ℕ, ◌+◌, Bool, List, [], ◌++◌, length, Option, Some, None, option_and_then}
 use Rattle.std.specs.List.{flat_map, range_with_len}
@@ -15,12 +15,12 @@ use Rattle.n2k_run.specs.Fold.{Fold}
 use Rattle.n2k_run.specs.Reports.{line_report}
 use Rattle.n2k_run.specs.Runs.{Output}
 
--- the JSON line of a message, where there is one
+-- the JSON line of a message, if there is one
 abbrev pub message_line : TableParts → Bool → Option PacketParts → List ℕ
 message_line t empty None = []
 message_line t empty (Some packet) = json t packet empty
 
--- what is written of a line of the log
+-- the text of a line of the log
 abbrev pub text_of_line : TableParts → Options → List Entry → ℕ → List ℕ
 text_of_line t o es i = message_line t o.empty (message o.window (kind t) es i)
 
@@ -28,7 +28,7 @@ text_of_line t o es i = message_line t o.empty (message o.window (kind t) es i)
 abbrev pub cause_at : TableParts → List Entry → ℕ → Option BadCause
 cause_at t es i = option_and_then (cause_in (kind t)) (entry_at es i)
 
--- what is reported of it: the groups that it breaks, then its cause
+-- the reports of a line: the groups that it breaks, then its cause
 abbrev pub report_at : TableParts → Options → List Entry → ℕ → List ℕ
 report_at t o es i = line_report i (broken o.window (kind t) es i) (cause_at t es i)
 
@@ -51,7 +51,8 @@ reports t o log = reports_of t o (entries o.packing log)
 abbrev pub numbers_after : List Entry → List Entry → List ℕ
 numbers_after front es = range_with_len (length front + 1) (length es)
 
--- What a run makes of the entries of its log, where these came before: of each line of both, what the whole log says.
+-- The output of a run over the entries of its log, after the entries `front`: for each line, the output that the whole
+-- log gives.
 abbrev pub output_after : TableParts → Options → List Entry → Output
 output_after t o front = record {
   packing = o.packing;
@@ -60,7 +61,7 @@ output_after t o front = record {
   reports = λ es. flat_map (report_at t o (front ++ es)) (numbers_after front es);
 }
 
--- what a run makes of an entry at a time, on a join of any state
+-- a run's output, entry by entry, from any state of a join
 abbrev pub join_fold : TableParts → Bool → Fold State
 join_fold t empty = record {
   text = λ s e. message_line t empty (step_given (kind t) s e).message;

@@ -1,4 +1,4 @@
--- The entries of a log, one a line, and what they count for.
+-- The entries of a log, one a line, and their kinds.
 use Rattle.std.specs.Prelude.{ℕ, Bool, true, false, List, map}
 use Rattle.n2k_wire.specs.declared.entry.Entry.{Entry}
 use Rattle.n2k_wire.specs.declared.entry.Entry.TheVariants.{Bad, Frame, Whole}

@@ -1,4 +1,4 @@
--- What `frames` writes, reports and counts of a log: each whole message as the lines of the frames in which it is sent.
+-- The output, reports and counts of `frames` for a log: each whole message as the lines of its frames.
 use Rattle.std.specs.Prelude.{ℕ, Bool, false, if◌then◌else◌, List, [], length, count_by, Option, Some, None, Result, Ok}
 use Rattle.std.specs.Prelude.{Err, IfSome, IsTrue}
 use Rattle.std.specs.Borrow.{Bor}
@@ -26,7 +26,7 @@ use Rattle.n2k_run.specs.Entries.{entries}
 use Rattle.n2k_run.specs.Reports.{cause_report}
 use Rattle.n2k_run.specs.Runs.{Output}
 
--- the name of the interface at which the frames are seen, where one is handed in
+-- the name of the interface at which the frames are seen, if one is given
 abbrev pub interface_of : Option (Bor (List ℕ)) → Option (List ℕ)
 interface_of handed = option_map (λ (name : Bor (List ℕ)). name.now) handed
 
@@ -34,7 +34,7 @@ interface_of handed = option_map (λ (name : Bor (List ℕ)). name.now) handed
 abbrev pub IsInterface : Option (List ℕ) → Type 0
 IsInterface interface = IfSome interface (λ name. IsTrue (is_interface name))
 
--- why a message isn't split; want of memory is no cause of a line
+-- why a message isn't split; refused memory is not the cause of a bad line
 abbrev pub split_cause : Option SplitFault → Option BadCause
 split_cause None = None
 split_cause (Some unsplit.Unknown) = Some causes.Unknown
@@ -61,14 +61,14 @@ interface_cause (Some interface) m = candump_cause (candump_parts m)
 abbrev pub message_cause : (ℕ → Option Kind) → Option (List ℕ) → PacketParts → Option BadCause
 message_cause kind interface m = option_or (split_cause (refusal (kind m.id.pgn) m)) (interface_cause interface m)
 
--- why a line is bad; a frame comes where a message is wanted
+-- why a line is bad; a frame is bad because a message is required
 abbrev pub line_cause : (ℕ → Option Kind) → Option (List ℕ) → Entry → Option BadCause
 line_cause kind interface lines.Skip = None
 line_cause kind interface (lines.Bad cause) = Some cause
 line_cause kind interface (lines.Frame packet) = Some causes.Frame
 line_cause kind interface (lines.Whole packet) = message_cause kind interface packet
 
--- the message of a line, where it is split: one of a fast PGN takes a sequence then
+-- the message of a line, if it is split: a message of a fast PGN then takes a sequence
 abbrev pub split_message : (ℕ → Option Kind) → Entry → Option PacketParts
 split_message kind lines.Skip = None
 split_message kind (lines.Bad cause) = None
@@ -86,8 +86,8 @@ frame_text (Some interface) frame = unwrap_or (result_ok (candump_text interface
 abbrev pub frame_texts : Option (List ℕ) → List PacketParts → List ℕ
 frame_texts interface frames = flat_map (frame_text interface) frames
 
--- What is written of a message under its sequence: the lines of all its frames; or of none, where it isn't seen at the
--- interface. It has used its sequence all the same.
+-- The text of a message under its sequence: the lines of all its frames, or none if it isn't seen at the interface. It
+-- uses its sequence in either case.
 abbrev pub sending_text : (ℕ → Option Kind) → Option (List ℕ) → Sending → List ℕ
 sending_text kind interface x =
     if is_none (interface_cause interface x.message) then frame_texts interface (frames_of_sending kind x) else []
@@ -112,7 +112,7 @@ is_written kind interface (lines.Whole packet) = is_none (message_cause kind int
 abbrev pub is_refused : (ℕ → Option Kind) → Option (List ℕ) → Entry → Bool
 is_refused kind interface e = is_some (line_cause kind interface e)
 
--- Lines, messages that are written, and bad lines. An unknown PGN makes a bad line, and there are no groups.
+-- Lines, written messages, and bad lines. An unknown PGN makes a bad line, and there are no groups.
 abbrev pub frame_counts_of : (ℕ → Option Kind) → Option (List ℕ) → List Entry → Counts
 frame_counts_of kind interface es = record {
   lines = length es;
@@ -131,7 +131,7 @@ frames_output t interface = record {
   reports = frame_reports_from 1 (kind t) interface;
 }
 
--- what `frames` writes of a log's bytes, reports and counts
+-- the output, reports and counts of `frames` for a log's bytes
 abbrev pub frames_out : TableParts → Option (List ℕ) → List ℕ → List ℕ
 frames_out t interface log = frame_lines (kind t) interface (entries packings.Whole log)
 

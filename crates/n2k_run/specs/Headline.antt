@@ -1,5 +1,5 @@
--- The headline of this crate, as `run_parts` has it: a log that was cut after lines prints in parts what one run over
--- it prints, and leaves the state and the counts of one run.
+-- The headline of this crate, a clause of `run_parts`: a log that was cut after lines prints in parts exactly what one
+-- run over it prints, and leaves the state and the counts of one run.
 use Rattle.std.specs.Prelude.{◌≡◌, ℕ, List, [], ◌∷◌}
 use Rattle.std.specs.Io.{IsEmptyOrEndsWith}
 use Rattle.std.specs.Io.KnownBytes.{Appends}
@@ -24,12 +24,12 @@ AreCutAtLines (part ∷ next ∷ parts) = IsEmptyOrEndsWith part line_feed × Ar
 abbrev pub state_after : TableParts → Options → List ℕ → State
 state_after t o log = state t.id o.window (kind t) (entries o.packing log)
 
--- what is saved after a log
+-- the saved state after a log
 unfoldable pub save : TableParts → Options → List ℕ → List ℕ
 save t o log = state_text (state_after t o log)
 
--- the whole log was printed: the sinks gained its output and its reports, and the Part is what is saved and counted
--- after it
+-- the whole log was printed: the sinks gained its output and its reports, and the Part has the saved state and the
+-- counts after it
 pub record PrintsLog (t : TableParts) (o : Options) (log : List ℕ) (before after : Devices) (part : Part) : Type 0 where
   pub printed : Appends before.written after.written (out t o log)
   pub reported : Appends before.reported after.reported (reports t o log)

@@ -1,5 +1,5 @@
--- What is printed in order, the rule for a log that was taken at the bus: each line is of a message that is one by
--- itself, or one of frames that the log has by rising number, with none of their key between.
+-- The output in order, for a log recorded on the bus: each line is of a message that is alone in its line, or of a
+-- message whose frames the log has by rising number, without others of their key between.
 use Rattle.std.specs.Prelude.{◌≡◌, ◌⊎◌, ℕ, true, List, [], ◌∷◌, ◌++◌, All, Some}
 use Rattle.std.specs.Io.KnownBytes.{Appends}
 use Rattle.n2k_wire.specs.declared.entry.Entry.{Entry}
@@ -21,9 +21,9 @@ pub record ComesAlone (t : TableParts) (es : List Entry) (m : PacketParts) : Typ
   pub stands : entry_at es line ≡ Some entry
   pub is : alone (kind t) entry ≡ Some m
 
--- The message is made of these frames: the log has them by rising number, from 0 to the last, with no other frame of
--- their key between them; they are those that its length needs; and it has their data, with the stamp, the
--- priority and the identifier of the last.
+-- The message is made of these frames: the log has them by rising number, from 0 to the last that its length needs,
+-- with no other frame of their key between them; it has their data, with the stamp, the priority and the identifier of
+-- the last.
 pub record ComesInOrder (t : TableParts) (es : List Entry) (m : PacketParts) : Type 0 where
   pub key : Key
   pub before_last : List Frame
@@ -32,17 +32,17 @@ pub record ComesInOrder (t : TableParts) (es : List Entry) (m : PacketParts) : T
   pub whole : complete (before_last ++ last ∷ []) ≡ true
   pub is : m ≡ message_of last (before_last ++ last ∷ [])
 
--- a line of the output, with its line feed, is the JSON line of such a message
+-- a line of the output, with its line feed, is the JSON line of a message that comes alone or in order
 pub record TellsOne (t : TableParts) (o : Options) (es : List Entry) (line : List ℕ) : Type 0 where
   pub message : PacketParts
   pub printed : line ++ line_feed ∷ [] ≡ json t message o.empty
   pub comes : ComesAlone t es message ⊎ ComesInOrder t es message
 
--- each line of a text is such
+-- each line of a text is the JSON line of a message that comes alone or in order
 abbrev pub EachTellsOne : TableParts → Options → List Entry → List ℕ → Type 0
 EachTellsOne t o es text = All (TellsOne t o es) (lines text)
 
--- the sink of the texts gained such a text
+-- the sink of the texts gained a text in order
 pub record PrintsInOrder (t : TableParts) (o : Options) (es : List Entry) (before after : Devices) : Type 0 where
   pub text : List ℕ
   pub gained : Appends before.written after.written text

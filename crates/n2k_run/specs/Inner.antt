@@ -1,4 +1,4 @@
--- Words of private clauses, invariants and proofs of this crate, and `held_of`, the view of `Blocks`.
+-- Definitions for private clauses, invariants and proofs of this crate, and `held_of`, the view of `Blocks`.
 pub mod Block
 pub mod Counting
 pub mod Engine

@@ -14,7 +14,7 @@ carriage_return = 13
 abbrev pub is_line_feed : ℕ → Bool
 is_line_feed byte = byte == line_feed
 
--- the pieces, without the last where it is empty
+-- the pieces, without the last if it is empty
 abbrev pub without_last_empty : List (List ℕ) → List (List ℕ)
 without_last_empty [] = []
 without_last_empty ([] ∷ []) = []
@@ -29,6 +29,6 @@ without_return piece =
 abbrev pub lines : List ℕ → List (List ℕ)
 lines bytes = map without_return (without_last_empty (slice_split is_line_feed bytes))
 
--- the bytes up to and with the last line feed: all but those that come after it, none where there is no line feed
+-- the bytes up to and including the last line feed, none without a line feed
 abbrev pub whole_lines : List ℕ → List ℕ
 whole_lines bytes = take (length bytes - suffix_len (λ byte. not (is_line_feed byte)) bytes) bytes

@@ -4,26 +4,26 @@ use Rattle.n2k_run.specs.Device.{one_more}
 
 -- a source in memory
 pub record Supply : Type 0 where
-  -- the bytes that it has left
+  -- the remaining bytes
   pub left : List ℕ
-  -- how many bytes a call moves at most
+  -- the most bytes of a call
   pub chunk : ℕ
-  -- which call from here on fails, counted from 1; 0 where none does
+  -- which call from here on fails, counted from 1; 0 if none does
   pub fails_at : ℕ
-  -- how many calls were made
+  -- the number of calls
   pub calls : ℕ
-  -- how many calls have failed
+  -- the number of failed calls
   pub failed_calls : ℕ
 
 -- a sink in memory
 pub record Store : Type 0 where
-  -- the bytes that it holds
+  -- the bytes that the sink contains
   pub held : List ℕ
-  -- how many bytes a call moves at most
+  -- the most bytes of a call
   pub chunk : ℕ
-  -- which call from here on fails, counted from 1; 0 where none does
+  -- which call from here on fails, counted from 1; 0 if none does
   pub fails_at : ℕ
-  -- how many calls have failed
+  -- the number of failed calls
   pub failed_calls : ℕ
 
 -- the source after a call that gave its first n bytes

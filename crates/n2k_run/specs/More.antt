@@ -1,4 +1,4 @@
--- More of a log, which lies in memory, behind a front that a join has taken.
+-- More of a log, in memory, after a prefix that a join has taken.
 use Rattle.std.specs.Prelude.{◌≡◌, ◌<◌, ◌≤◌, ◌+◌, ℕ, List, ◌++◌, length, Result, Ok, Err}
 use Rattle.std.specs.Io.KnownBytes.{Appends}
 use Rattle.n2k_table.specs.Table.{TableParts}
@@ -14,8 +14,8 @@ use Rattle.n2k_run.specs.Headline.{state_after}
 use Rattle.n2k_run.specs.Reading.{most_reads}
 use Rattle.n2k_run.specs.Runs.{Devices}
 
--- The sinks gained exactly what the output and the reports of both have after those of the front, and the join is in
--- the state that both lead to.
+-- The sinks gained exactly the output and the reports of both after those of `front`, and the join is in the state that
+-- both lead to.
 pub record TakesMore (t : TableParts) (o : Options) (front more : List ℕ) (before after : Devices)
     (join : State) : Type 0 where
   pub text : List ℕ
@@ -26,8 +26,8 @@ pub record TakesMore (t : TableParts) (o : Options) (front more : List ℕ) (bef
   pub all_reports : reports t o (front ++ more) ≡ reports t o front ++ report
   pub leads_to : join ≡ state_after t o (front ++ more)
 
--- How it ends. A fault says why: so many bytes that 10^12 reads may find no end, the failure of a sink, or more lines
--- than are counted.
+-- How it ends. The reason of a fault: so many bytes that 10^12 reads may find no end, the failure of a sink, or lines
+-- over the limit.
 abbrev pub EndsMore : TableParts → Options → List ℕ → List ℕ → Devices → Devices → State
     → Result (Unit {0}) RunFault → Type 0
 EndsMore t o front more before after join (Ok x) = TakesMore t o front more before after join

@@ -1,5 +1,5 @@
--- A log in parts: each part goes on from the state that was saved after the one before it, and together they print what
--- one run over the whole log prints.
+-- A log in parts: each part continues from the state that was saved after the part before it, and together they print
+-- exactly what one run over the whole log prints.
 use Rattle.std.specs.Prelude.{◌≡◌, ◌⊎◌, ◌<◌, ◌+◌, ℕ, List, [], ◌∷◌, ◌++◌, length, Option, Some, None, Result, Ok, Err}
 use Rattle.std.specs.Prelude.{IfSome, IsOk, IsSome}
 use Rattle.std.specs.List.{All, flat_map}
@@ -29,23 +29,23 @@ use Rattle.n2k_run.specs.Reading.{most_reads}
 use Rattle.n2k_run.specs.Runs.{Devices, Output, Runs, output_from}
 use Rattle.n2k_run.specs.Writing.{AppendsFront}
 
--- ---- where a part begins
+-- ---- the beginning of a part
 
--- The state that a part begins with: without one handed in that before the first line, else the one that the bytes
--- spell under the table and the window, or the reason why they are refused.
+-- The state that a part begins with: without a given state, the state before the first line; otherwise the state that
+-- the bytes spell under the table and the window, or the reason why they are refused.
 abbrev pub begun : TableParts → Options → Option (List ℕ) → Result State StateFault
 begun t o None = Ok (state t.id o.window (kind t) [])
 begun t o (Some bytes) = resumed (kind t) t.id o.window bytes
 
--- ---- what a part answers
+-- ---- the result of a part
 
--- The part that leads to this state: its text is saved, its counts are given, and the next part can go on from it.
+-- The Part of this state: its saved text and its counts; the next part can continue from it.
 pub record IsPartOf (t : TableParts) (o : Options) (s : State) (part : Part) : Type 0 where
   pub saved : part.state.items ≡ state_text s
   pub counted : part.counts ≡ s.counts
   pub reads_back : begun t o (Some part.state.items) ≡ Ok s
 
--- the Part of an answer, where it has one, leads to this state
+-- the Part of a result, if it has one, leads to this state
 abbrev pub HasPart : TableParts → Options → Result Part PartFault → State → Type 0
 HasPart t o (Ok part) s = IsPartOf t o s part
 HasPart t o (Err (Stopped fault part)) s = IsPartOf t o s part
@@ -53,15 +53,15 @@ HasPart t o (Err (Refused fault)) s = Unit {0}
 HasPart t o (Err (Run fault)) s = Unit {0}
 HasPart t o (Err Memory) s = Unit {0}
 
--- after such a run the join is at a line, and can be saved
+-- after these results of a run the join is at a line, and can be saved
 abbrev pub EndsAtLine : Result (Unit {0}) RunFault → Type 0
 EndsAtLine (Ok x) = Unit {0}
 EndsAtLine (Err run_faults.Read) = Unit {0}
 EndsAtLine (Err run_faults.TooManyLines) = Unit {0}
 EndsAtLine _ = ⊥
 
--- How the run of an answer ended: as the answer says, or at a line where its state could not be saved.
--- Where the state that was handed in is refused, nothing was run, and this is as after want of memory.
+-- How the run of a result ended: with that result, or at a line whose state could not be saved. If the given state is
+-- refused, nothing was run, and this is as after refused memory.
 abbrev pub Ran : Result Part PartFault → Result (Unit {0}) RunFault → Type 0
 Ran (Ok part) ran = ran ≡ Ok tt
 Ran (Err (Stopped fault part)) ran = ran ≡ Err fault
@@ -69,14 +69,15 @@ Ran (Err (Run fault)) ran = ran ≡ Err fault
 Ran (Err (Refused fault)) ran = ran ≡ Err run_faults.Memory
 Ran (Err Memory) ran = EndsAtLine ran
 
--- what every run promises holds of the run of an answer
+-- the promise of every run holds of the run of a result
 pub record TellsRun (o : Output) (also : List Entry → Type 0) (before after : Devices)
     (result : Result Part PartFault) : Type 0 where
   pub ran : Result (Unit {0}) RunFault
   pub ended : Ran result ran
   pub runs : Runs o also before after ran
 
--- Each kind of refusal has its faults: a Part is answered where the run is at a line, and none where it is spent.
+-- Each kind of refusal has its faults: a Part is returned if the run is at a line, and none if the join can't be used
+-- further.
 abbrev pub IsOfKind : Result Part PartFault → Type 0
 IsOfKind (Err (Stopped fault part)) = (fault ≡ run_faults.Read) ⊎ (fault ≡ run_faults.TooManyLines)
 IsOfKind (Err (Run fault)) = (fault ≡ run_faults.Write) ⊎ ((fault ≡ run_faults.Report) ⊎ (fault ≡ run_faults.Memory))
@@ -84,32 +85,32 @@ IsOfKind (Err (Refused fault)) = Unit {0}
 IsOfKind (Err Memory) = Unit {0}
 IsOfKind (Ok part) = Unit {0}
 
--- A state that was handed in is refused, by the first fault that is in it or for want of memory; else it is the
--- one that the part begins with.
+-- A given state is refused, by its first fault or because memory was refused; otherwise the part begins with that
+-- state.
 abbrev pub BeginsBy : TableParts → Options → Option (List ℕ) → Result Part PartFault → Type 0
 BeginsBy t o handed (Err (Refused fault)) =
     IsSome handed × ((fault ≡ state_faults.Memory) ⊎ (begun t o handed ≡ Err fault))
 BeginsBy t o handed _ = IsOk (begun t o handed)
 
--- where a state is refused, it is for want of memory alone
+-- a state is refused only because memory was refused
 abbrev pub RefusedByMemory : Result Part PartFault → Type 0
 RefusedByMemory (Err (Refused fault)) = fault ≡ state_faults.Memory
 RefusedByMemory _ = Unit {0}
 
--- this holds where the state was refused
+-- a property that holds if the state was refused
 abbrev pub OnRefusal : Result Part PartFault → Type 0 → Type 0
 OnRefusal (Err (Refused fault)) P = P
 OnRefusal _ P = Unit {0}
 
 -- ---- the headline
 
--- A log was cut after this front: it is empty or ends with a line, and the state handed in is what it leads to.
+-- A log was cut after this prefix: it is empty or ends with a line, and the given state is the state after it.
 pub record IsFront (t : TableParts) (o : Options) (front : List ℕ) (handed : Option (List ℕ)) : Type 0 where
   pub whole_lines : IsEmptyOrEndsWith front line_feed
   pub leads_to : begun t o handed ≡ Ok (state_after t o front)
 
--- After the front and `more` both are printed: the sinks gained exactly what the output and the reports of both have
--- after those of the front, and the Part is what is saved, and what is counted, after both.
+-- The prefix and `more` are both printed: the sinks gained exactly the output and the reports of both after those of
+-- the prefix, and the Part has the saved state and the counts after both.
 pub record GoesOn (t : TableParts) (o : Options) (front more : List ℕ) (before after : Devices)
     (part : Part) : Type 0 where
   pub text : List ℕ
@@ -120,10 +121,10 @@ pub record GoesOn (t : TableParts) (o : Options) (front more : List ℕ) (before
   pub all_reports : reports t o (front ++ more) ≡ reports t o front ++ report
   pub saved : part.state.items ≡ save t o (front ++ more)
   pub counted : part.counts ≡ counts o.window (kind t) (entries o.packing (front ++ more))
-  -- where both are empty or end with a line, the log can be cut here too
+  -- if both are empty or end with a line, the log can be cut here too
   pub reads_back : begun t o (Some part.state.items) ≡ Ok (state_after t o (front ++ more))
 
--- the sinks gained fronts of what the output and the reports of both have after those of the front
+-- the sinks gained prefixes of the output and the reports of both after those of `front`
 pub record GoesOnPartly (t : TableParts) (o : Options) (front more : List ℕ) (before after : Devices) : Type 0 where
   pub text : List ℕ
   pub printed : AppendsFront before.written after.written text
@@ -132,8 +133,8 @@ pub record GoesOnPartly (t : TableParts) (o : Options) (front more : List ℕ) (
   pub reported : AppendsFront before.reported after.reported report
   pub all_reports : reports t o (front ++ more) ≡ reports t o front ++ report
 
--- After TooManyLines: the front and the lines that were taken of the log are as many as are counted, the log has
--- more, and what is printed is whole up to the last of them.
+-- After TooManyLines: the lines of the prefix and the taken lines of the log are together the most lines, the log has
+-- more, and the output is whole up to the last of them.
 pub record GoesOnToLimit (t : TableParts) (o : Options) (front log : List ℕ) (before after : Devices)
     (part : Part) : Type 0 where
   pub taken : List ℕ
@@ -144,8 +145,8 @@ pub record GoesOnToLimit (t : TableParts) (o : Options) (front log : List ℕ) (
   pub full : length (entries o.packing (front ++ taken)) ≡ most_lines
   pub goes_on : GoesOn t o front taken before after part
 
--- What a part answers after this front of a log. With Ok all is printed; after Read what is printed is whole up to the
--- last line that came, and after TooManyLines up to the last that is counted.
+-- The result of a part after this prefix of a log. After Ok everything is printed; after Read the output is whole up to
+-- the last line that came, and after TooManyLines up to the last number.
 abbrev pub Continues : TableParts → Options → List ℕ → Devices → Devices → Result Part PartFault → Type 0
 Continues t o front before after (Ok part) =
     IsAtEnd after.left × IfSome before.left (λ log. GoesOn t o front log before after part)
@@ -157,30 +158,30 @@ Continues t o front before after (Err (Stopped _ part)) = ⊥
 Continues t o front before after (Err (Refused fault)) = fault ≡ state_faults.Memory
 Continues t o front before after _ = IfSome before.left (λ log. GoesOnPartly t o front log before after)
 
--- ---- what the run of a part promises
+-- ---- the promise of a part's run
 
--- From a state that is handed in, or, where there is none, from a log's beginning.
+-- From a given state, or without one from the beginning of a log.
 pub record RunsFrom (t : TableParts) (o : Options) (handed : Option (List ℕ)) (before after : Devices)
     (result : Result Part PartFault) : Type 0 where
-  -- Each kind of refusal has its faults. A state is refused for what is in it, or for want of memory, and then no
-  -- device is touched.
+  -- Each kind of refusal has its faults. A state is refused because of its content or because memory was refused, and
+  -- then no device is touched.
   pub fault_kinds : IsOfKind result
   pub begins : BeginsBy t o handed result
   pub untouched : OnRefusal result (after ≡ before)
-  -- From any state that reads, whether or not a log leads to it: the texts and reports of the steps of the part's
+  -- From any state that can be read, even if no log leads to it: the texts and reports of the steps of the part's
   -- entries.
   pub steps : (s : State) → begun t o handed ≡ Ok s
       → TellsRun (output_from (join_fold t o.empty) o.packing s)
       (λ es. HasPart t o result (after_all (join_fold t o.empty) s es)) before after result
-  -- From the state that these entries lead to: what the whole log says of the lines after them.
+  -- From the state that these entries lead to: the output that the whole log gives for the lines after them.
   pub log : (front : List Entry) → begun t o handed ≡ Ok (state t.id o.window (kind t) front)
       → TellsRun (output_after t o front) (λ es. HasPart t o result (state t.id o.window (kind t) (front ++ es)))
       before after result
-  -- The headline: after this front of a log, whose saved state was handed in, exactly the rest of the whole log's
-  -- output is printed, and its state is saved.
+  -- The headline: after this prefix of a log, whose saved state was given, exactly the rest of the whole log's output
+  -- is printed, and its state is saved.
   pub headline : (front : List ℕ) → IsFront t o front handed → Continues t o front before after result
 
--- ---- parts that lie in memory
+-- ---- parts in memory
 
 -- the entries of the lines of parts, in their order
 abbrev pub entries_of_parts : Options → List (List ℕ) → List Entry
@@ -190,21 +191,21 @@ entries_of_parts o parts = flat_map (entries o.packing) parts
 abbrev pub with_source : Devices → Option (List ℕ) → ℕ → ℕ → Devices
 with_source devices left calls failed_reads = record devices { left = left; calls = calls; failed_reads = failed_reads }
 
--- these parts were taken whole: the sinks gained what their entries make, and no call of them failed
+-- these parts were taken whole: the sinks gained the output of their entries, and no call of them failed
 pub record TakesParts (t : TableParts) (o : Options) (parts : List (List ℕ)) (before after : Devices) : Type 0 where
   pub printed : Appends before.written after.written (out_of t o (entries_of_parts o parts))
   pub reported : Appends before.reported after.reported (reports_of t o (entries_of_parts o parts))
   pub writes : after.failed_writes ≡ before.failed_writes
   pub report_writes : after.failed_reports ≡ before.failed_reports
 
--- these parts were taken whole, and the Part is what they lead to
+-- these parts were taken whole, and the Part is the result after them
 pub record TakesAll (t : TableParts) (o : Options) (parts : List (List ℕ)) (before after : Devices)
     (part : Part) : Type 0 where
   pub taken : TakesParts t o parts before after
   pub leads_to : IsPartOf t o (state t.id o.window (kind t) (entries_of_parts o parts)) part
 
--- The run of a part that lies in memory, after these entries: no call of its source failed. Where the state can't be
--- read for want of memory, nothing of the part was written.
+-- The run of a part in memory, after these entries: no call of its source failed. If the state can't be read because
+-- memory was refused, nothing of the part was written.
 pub record RunsPart (t : TableParts) (o : Options) (front : List Entry) (met : List ℕ) (before after : Devices)
     (result : Result Part PartFault) : Type 0 where
   pub left : Option (List ℕ)
@@ -213,7 +214,7 @@ pub record RunsPart (t : TableParts) (o : Options) (front : List Entry) (met : L
       (with_source before (Some met) 0 0) (with_source after left calls 0) result
   pub untouched : OnRefusal result (after ≡ before)
 
--- The parts before one of them were taken whole, and at this one the run ended so, as that of a part does.
+-- The parts before this one were taken whole, and at this one the run ended with this result of a part.
 pub record EndsAtPart (t : TableParts) (o : Options) (parts : List (List ℕ)) (before after : Devices)
     (result : Result Part PartFault) : Type 0 where
   pub done : List (List ℕ)
@@ -230,7 +231,7 @@ EndsParts t o parts before after (Ok part) = TakesAll t o parts before after par
 EndsParts t o parts before after (Err fault) =
     ((fault ≡ Memory) × (after ≡ before)) ⊎ EndsAtPart t o parts before after (Err fault)
 
--- each part has fewer bytes than a run makes reads, so that its end is found however few of them a read gives
+-- each part has fewer bytes than a run makes reads, so that its end is found even if each read gives one byte
 abbrev pub AreWithinReads : List (List ℕ) → Type 0
 AreWithinReads parts = All (λ part. length part + 1 < most_reads) parts
 

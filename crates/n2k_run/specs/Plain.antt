@@ -1,4 +1,4 @@
--- What `plain` writes, reports and counts of a log.
+-- The output, reports and counts of `plain` for a log.
 use Rattle.std.specs.Prelude.{ℕ, List, [], length, count_by}
 use Rattle.std.specs.List.{flat_map}
 use Rattle.n2k_wire.specs.declared.entry.Entry.{Entry}
@@ -24,7 +24,7 @@ plain_lines es = flat_map entry_line es
 abbrev pub plain_reports_of : List Entry → List ℕ
 plain_reports_of es = bad_reports_from 1 es
 
--- Lines, those that are printed, and bad ones. Skipped lines count as lines; there are no unknown PGNs and no groups.
+-- Lines, printed lines, and bad lines. Skipped lines count as lines; there are no unknown PGNs and no groups.
 abbrev pub plain_counts_of : List Entry → Counts
 plain_counts_of es = record {
   lines = length es;
@@ -38,7 +38,7 @@ plain_counts_of es = record {
 abbrev pub plain_output : Output
 plain_output = record { packing = Frames; counted = 0; texts = plain_lines; reports = plain_reports_of }
 
--- what `plain` prints of a log's bytes, reports and counts
+-- the output, reports and counts of `plain` for a log's bytes
 abbrev pub plain_out : List ℕ → List ℕ
 plain_out log = plain_lines (entries Frames log)
 

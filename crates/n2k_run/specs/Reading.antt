@@ -6,17 +6,17 @@ use Rattle.std.specs.Io.KnownBytes.{Consumes}
 abbrev pub most_reads : ℕ
 most_reads = 1_000_000_000_000
 
--- as many calls were made of a source as a run makes at most, or their number is at its greatest
+-- a source was called as often as a run may read, or the number of calls is at its greatest
 abbrev pub OutlastsReads : ℕ → ℕ → Type 0
 OutlastsReads calls₀ calls = (calls₀ + most_reads ≤ calls) ⊎ (2 ^ 64 - 1 ≤ calls)
 
--- These bytes came of a source, and each call gave at least one of them, but for so many calls that gave none.
+-- These bytes came of a source, each call giving at least one of them, except for so many calls that gave none.
 pub record ReadsBytes (idle : ℕ) (left₀ left : Option (List ℕ)) (calls₀ calls : ℕ) : Type 0 where
   pub came : List ℕ
   pub given : Consumes left₀ left came
   pub few : calls ≤ calls₀ + length came + idle
 
--- the calls for an answer that give no byte: one that finds the end, or one that fails
+-- the calls that give no byte: one that finds the end, or one that fails
 abbrev pub idle_calls : {T E : Type 0} → Bool → Result T E → ℕ
 idle_calls has_ended (Ok x) = if has_ended then 1 else 0
 idle_calls has_ended (Err fault) = 1

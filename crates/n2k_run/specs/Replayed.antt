@@ -1,4 +1,4 @@
--- What a log prints over which messages are scattered.
+-- The output of a log over which messages are scattered.
 use Rattle.std.specs.Prelude.{◌≡◌, ℕ, List, [], ◌∷◌, ◌++◌, map, length}
 use Rattle.n2k_wire.specs.Packet.{PacketParts}
 use Rattle.n2k_table.specs.Json.{json}
@@ -19,9 +19,9 @@ json_lines t o ms = map (λ m. json t m o.empty) ms
 abbrev pub with_line_feeds : List (List ℕ) → List (List ℕ)
 with_line_feeds texts = map (λ text. text ++ 10 ∷ []) texts
 
--- The messages are printed back: the output has as many lines as there are messages; these are the JSON lines of the
--- messages that the log's groups give, in the order of the log's lines; and those of each key are the JSON lines of
--- that key's messages, in their order.
+-- The messages are printed back: the output has one line a message, the JSON lines of the messages that the log's
+-- groups give, in the order of the log's lines; the lines of each key are the JSON lines of that key's messages, in
+-- their order.
 pub record PrintsBack (t : TableParts) (ms : List PacketParts) (o : Options) (log : List ℕ) : Type 0 where
   pub as_many : length (lines (out t o log)) ≡ length ms
   pub gathered : with_line_feeds (lines (out t o log)) ≡ json_lines t o

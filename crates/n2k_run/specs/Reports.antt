@@ -34,7 +34,7 @@ broken_text number group =
     ++ codes " dst " ++ decimal group.dst ++ codes " seq " ++ decimal group.seq ++ codes " first "
     ++ decimal group.first ++ codes "\n"
 
--- what is reported of a line: first the groups that it breaks, then its cause
+-- the reports of a line: first the groups that it breaks, then its cause
 abbrev pub cause_report : ℕ → Option BadCause → List ℕ
 cause_report number None = []
 cause_report number (Some cause) = bad_text number cause
@@ -49,11 +49,11 @@ summary_text counts =
     ++ decimal counts.bad ++ codes " unknown " ++ decimal counts.unknown ++ codes " broken "
     ++ decimal counts.broken ++ codes " open " ++ decimal counts.held ++ codes "\n"
 
--- what is reported of the entry of that line by itself
+-- the report of the entry of that line by itself
 abbrev pub bad_report : ℕ → Entry → List ℕ
 bad_report number (Bad cause) = bad_text number cause
 bad_report number _ = []
 
--- the reports of bad lines among these entries, whose first is that of line `first`
+-- the reports of bad lines among these entries; the first entry is line `first`
 abbrev pub bad_reports_from : ℕ → List Entry → List ℕ
 bad_reports_from first entries = flat_map (λ numbered. bad_report numbered.0 numbered.1) (enumerate_from first entries)

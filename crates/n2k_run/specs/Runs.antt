@@ -1,4 +1,4 @@
--- What every run promises, by the texts and the reports that it makes of the entries of its log.
+-- The promise of every run, by the texts and the reports of the entries of its log.
 use Rattle.std.specs.Prelude.{◌≡◌, ◌⊎◌, ◌<◌, ◌≤◌, ◌+◌, ℕ, List, ◌∷◌, ◌++◌, length, Option, None, Result, Ok, Err, OnErr}
 use Rattle.std.specs.Prelude.{IfSome}
 use Rattle.std.specs.Io.KnownBytes.{Appends, Consumes, IsAtEnd}
@@ -16,7 +16,7 @@ use Rattle.n2k_run.specs.Fold.{Fold, texts_from, reports_from}
 use Rattle.n2k_run.specs.Reading.{OutlastsReads, ReadsBytes}
 use Rattle.n2k_run.specs.Writing.{AppendsFront}
 
--- what a run makes of the entries of its log
+-- the output of a run for the entries of its log
 pub record Output : Type 0 where
   -- how the data of its lines are packed
   pub packing : Packing
@@ -25,7 +25,7 @@ pub record Output : Type 0 where
   pub texts : List Entry → List ℕ
   pub reports : List Entry → List ℕ
 
--- what a run makes from a state on
+-- the output of a run from a state on
 abbrev pub output_from : {S : Type 0} → Fold S → Packing → S → Output
 output_from m packing s = record {
   packing = packing;
@@ -36,15 +36,15 @@ output_from m packing s = record {
 
 -- the three devices of a run, as contracts see them before it or after it
 pub record Devices : Type 0 where
-  -- the bytes that the source has left, where they are known
+  -- the source's remaining bytes, if known
   pub left : Option (List ℕ)
-  -- the calls that were made of it
+  -- the calls that were made of the source
   pub calls : ℕ
   pub failed_reads : ℕ
-  -- the bytes that the sink of the texts holds, where they are known
+  -- the bytes that the sink of the texts contains, if known
   pub written : Option (List ℕ)
   pub failed_writes : ℕ
-  -- the bytes that the sink of the reports holds, where they are known
+  -- the bytes that the sink of the reports contains, if known
   pub reported : Option (List ℕ)
   pub failed_reports : ℕ
 
@@ -60,14 +60,14 @@ devices left calls failed_reads written failed_writes reported failed_reports = 
   failed_reports = failed_reports;
 }
 
--- The devices of a run, by what contracts know of a source and of a sink: in a clause `R.Source` and `W.Sink` say it of
--- the types that a run is made for.
+-- The devices of a run, as contracts see a source and a sink: in a clause, `R.Source` and `W.Sink` name the types of
+-- the run's devices.
 abbrev pub seen : {R W E : Type 0} → OfSource R → OfSink W → OfSink E → R → W → E → Devices
 seen r w e reader writer reporter =
     devices (r.remaining reader) (r.calls reader) (r.failed_calls reader) (w.contents writer) (w.failed_calls writer)
     (e.contents reporter) (e.failed_calls reporter)
 
--- the devices of runs over parts in memory, of which each has a source of its own: the sinks alone
+-- the devices of runs over parts in memory: only the sinks, since each part has its own source
 abbrev pub sinks_seen : {W E : Type 0} → OfSink W → OfSink E → W → E → Devices
 sinks_seen w e writer reporter =
     devices None 0 0 (w.contents writer) (w.failed_calls writer) (e.contents reporter) (e.failed_calls reporter)
@@ -77,13 +77,12 @@ pub record Gained (o : Output) (before after : Devices) (es : List Entry) : Type
   pub printed : Appends before.written after.written (o.texts es)
   pub reported : Appends before.reported after.reported (o.reports es)
 
--- each of these entries, the first of which is that of line `counted + 1`, has a number that is counted
+-- each of these entries, which begin with line `counted + 1`, has a number within the limit
 abbrev pub AreNumbered : ℕ → List Entry → Type 0
 AreNumbered counted es = 0 < length es → counted + length es ≤ most_lines
 
--- The run came to its end: bytes came until the source had no more, and of all their entries the texts and reports were
--- written. Where the source's bytes are known, these are all that it had. `also` says what else holds where a run has
--- taken these entries.
+-- The run came to its end: bytes came until the source had no more, and the texts and reports of all their entries were
+-- written. If the source's bytes are known, these are all of them. `also` holds after a run has taken these entries.
 pub record IsWhole (o : Output) (also : List Entry → Type 0) (before after : Devices) : Type 0 where
   pub came : List ℕ
   pub given : Consumes before.left after.left came
@@ -92,7 +91,7 @@ pub record IsWhole (o : Output) (also : List Entry → Type 0) (before after : D
   pub gained : Gained o before after (entries o.packing came)
   pub holds : also (entries o.packing came)
 
--- After Read the run is after the last line whose LF came: it has taken the lines up to there, and no more.
+-- After Read the run is after the last line whose LF came: it has taken exactly the lines up to there.
 pub record IsCut (o : Output) (also : List Entry → Type 0) (before after : Devices) : Type 0 where
   pub came : List ℕ
   pub given : Consumes before.left after.left came
@@ -100,8 +99,8 @@ pub record IsCut (o : Output) (also : List Entry → Type 0) (before after : Dev
   pub gained : Gained o before after (entries o.packing (whole_lines came))
   pub holds : also (entries o.packing (whole_lines came))
 
--- After TooManyLines the run is at the last number: it has taken as many lines as are counted, and the bytes, where
--- they are known, have one more.
+-- After TooManyLines the run is at the last number: it has taken the most lines, and the bytes, if they are known, have
+-- one more.
 pub record IsAtLastNumber (o : Output) (also : List Entry → Type 0) (before after : Devices) : Type 0 where
   pub taken : List Entry
   pub full : o.counted + length taken ≡ most_lines
@@ -119,14 +118,13 @@ RunEnds o also before after (Err Write) = Unit {0}
 RunEnds o also before after (Err Report) = Unit {0}
 RunEnds o also before after (Err Memory) = Unit {0}
 
--- the sinks gained a front of the texts and a front of the reports of the whole log
+-- the sinks gained a prefix of the texts and a prefix of the reports of the whole log
 pub record HasFronts (o : Output) (before after : Devices) (log : List ℕ) : Type 0 where
   pub printed : AppendsFront before.written after.written (o.texts (entries o.packing log))
   pub reported : AppendsFront before.reported after.reported (o.reports (entries o.packing log))
 
--- Reports go before texts: the reports of the lines up to some line are all written, and what is written of texts is a
--- front of those of the same lines. So no text is written where the report of its own line or of an earlier one is
--- missing.
+-- Reports go before texts: the reports of the lines up to some line are all written, and the written texts are a prefix
+-- of the texts of the same lines. So no text is written if the report of its own line or of an earlier one is missing.
 pub record ReportsFirst (o : Output) (before after : Devices) (log : List ℕ) : Type 0 where
   pub taken : List Entry
   pub left : List Entry
@@ -167,12 +165,12 @@ IsOfDevice before after (Err Write) = WriteFails before after
 IsOfDevice before after (Err Report) = ReportFails before after
 IsOfDevice before after _ = NoneFailed before after
 
--- what every run promises
+-- the promise of every run
 pub record Runs {T : Type 0} (o : Output) (also : List Entry → Type 0) (before after : Devices)
     (result : Result T RunFault) : Type 0 where
   pub ends : RunEnds o also before after result
   pub fronts : OnErr result (IfSome before.left (λ log. HasFronts o before after log))
   pub reports_first : IfSome before.left (λ log. ReportsFirst o before after log)
   pub device : IsOfDevice before after result
-  -- no more calls were made of the source than bytes came of it, and one
+  -- at most one more call was made of the source than bytes came of it
   pub reads : ReadsBytes 1 before.left after.left before.calls after.calls

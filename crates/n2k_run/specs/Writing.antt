@@ -1,13 +1,13 @@
--- What a sink has been given of a text, and what is still to come.
+-- The part of a text that a sink has got, and the part that is still to come.
 use Rattle.std.specs.Prelude.{◌≡◌, ℕ, List, ◌++◌, Option}
 use Rattle.std.specs.Io.KnownBytes.{Appends}
 
--- some front of the text has been appended to what the sink held, and this is still to come
+-- some prefix of the text was appended to the sink's content, and this is still to come
 pub record Owes (old new : Option (List ℕ)) (text rest : List ℕ) : Type 0 where
   pub front : List ℕ
   pub appended : Appends old new front
   pub still : text ≡ front ++ rest
 
--- a front of the text has been appended to what the sink held
+-- a prefix of the text was appended to the sink's content
 abbrev pub AppendsFront : Option (List ℕ) → Option (List ℕ) → List ℕ → Type 0
 AppendsFront old new text = (rest : List ℕ) × Owes old new text rest

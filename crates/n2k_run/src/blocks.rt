@@ -1,4 +1,4 @@
-//! A log's bytes in blocks of a fixed size, and its lines, which are lent from them.
+//! A log's bytes in blocks of a fixed size, and its lines, borrowed from the block.
 ghost use Rattle.std.specs.Prelude.{◌≡◌, ◌⊎◌, ◌<◌, ◌≤◌, ◌+◌, ℕ, List, Option, [], true, false, length, take, drop, IfOk, IfSome, IfNone, OnOk, OnErr};
 ghost use Rattle.n2k_run.specs.Inner.Block.{FindsEnd};
 ghost use Rattle.n2k_run.specs.Lines.{without_return};
@@ -18,22 +18,22 @@ const RETURN: u8 = b'\r';
 /// The next line of a log.
 #[derive(Drop)]
 pub enum Next<'a> {
-    /// A line of at most 2,048 bytes, without its LF and without one CR at its end. It is lent from the block.
+    /// A line of at most 2,048 bytes, without its LF and without one CR at its end. It borrows from the block.
     Line(&'a [u8]),
-    /// A line that is longer. It has been read past.
+    /// A longer line. Its bytes have been skipped.
     Long,
-    /// There is no more line.
+    /// No further line.
     End,
 }
 
-/// What was found at the front of the unanswered bytes. A line is then lent by `line`.
+/// What the bytes not yet returned start with. `line` then returns a found line.
 enum Found {
     Line,
     Long,
     End,
 }
 
-/// The bytes of a log, of which 4,096 are held at once.
+/// The bytes of a log, at most 4,096 of them at once.
 #[derive(Drop)]
 pub struct Blocks {
     block: [u8; BLOCK],
@@ -41,7 +41,7 @@ pub struct Blocks {
     line_end: usize,
     start: usize,
     end: usize,
-    /// The place of the first LF of what is kept, counted from `start`.
+    /// The place of the first LF of the kept bytes, counted from `start`.
     feed: Option<usize>,
     is_passing: bool,
     has_ended: bool,
@@ -88,7 +88,7 @@ impl Blocks {
     ghost use Rattle.n2k_run.specs.Reading.{most_reads};
     ghost use Rattle.n2k_run.specs.Inner.Reading.{Gains};
 
-    /// Before the first read.
+    /// A block before the first read.
     ///
     /// ```rust
     /// let mut source = StdSource::new("one\r\ntwo".as_bytes());
@@ -119,14 +119,35 @@ impl Blocks {
         }
     }
 
-    /// Whether the last answer was given at the end of the source, so that another read can find nothing.
+    /// As before the first read. The block keeps its bytes, and none of them is returned.
+    pub(crate) fn restart(&mut self)
+        ensures { self.new ≡ record {
+          kept = [];
+          is_passing = false;
+          has_ended = false;
+          reads = 0;
+          line = [];
+          room = BLOCK;
+        } }
+    {
+        self.line_start = 0;
+        self.line_end = 0;
+        self.start = 0;
+        self.end = 0;
+        self.feed = None;
+        self.is_passing = false;
+        self.has_ended = false;
+        self.reads = 0;
+    }
+
+    /// Whether the last result was given at the end of the source, so that another read can find nothing.
     pub(crate) fn has_ended(&self) -> bool
         ensures { result ≡ self.now.has_ended }
     {
         self.has_ended
     }
 
-    /// Whether the next line can be answered without a read.
+    /// Whether the next line can be returned without a read.
     pub(crate) fn has_line(&self) -> bool
         ensures line { result ≡ true → HasFeed self.now.kept }
         ensures none { result ≡ false → HasNoFeed self.now.kept }
@@ -134,10 +155,10 @@ impl Blocks {
         self.feed.is_some()
     }
 
-    /// The next line of the bytes that are unanswered, and then of those that the source has. It is read where no
-    /// line's end is held, by calls that each have room for as much as the block takes: at most 10^12 over all answers.
-    /// `Failed` where the source failed in this call, or where these reads are used up. No line is lost by it: a
-    /// later call goes on where this one stood. It takes no memory.
+    /// The next line of the bytes not yet returned and of the source's remaining bytes. If the block has no line's end,
+    /// it reads, each call with room for as much as the block takes: at most 10^12 reads in all. `Failed` if the source
+    /// failed in this call, or if these reads are used up. No line is lost: a later call continues from there. It needs
+    /// no memory.
     ///
     /// ```rust
     /// let mut source = StdSource::new("one\r\ntwo".as_bytes());
@@ -173,7 +194,7 @@ impl Blocks {
         &self.block[self.line_start..self.line_end]
     }
 
-    /// Finds the next line, which mostly is held, and reads where it isn't.
+    /// Finds the next line, which the block mostly has, and reads if it doesn't.
     #[inline(always)]
     fn find_line<R: Source>(&mut self, reader: &mut R) -> Result<Found, Failed>
         ensures found { AnswersFound self.old self.new (R.remaining reader.old) (R.remaining reader.new)
@@ -189,7 +210,7 @@ impl Blocks {
         }
     }
 
-    /// Reads until a line is found. It is a function of its own, since few lines come this way.
+    /// Reads until a line is found. A separate function, since few lines need it.
     #[inline(never)]
     fn read_line<R: Source>(&mut self, reader: &mut R) -> Result<Found, Failed>
         ensures found { AnswersFound self.old self.new (R.remaining reader.old) (R.remaining reader.new)
@@ -213,7 +234,7 @@ impl Blocks {
         }
     }
 
-    /// Takes the first line, where its end is held.
+    /// Takes the first line, if the block has its end.
     fn take_line(&mut self) -> Option<Found>
         ensures none { IfNone result ((self.new ≡ self.old) × HasNoFeed self.old.kept) }
         ensures found { IfSome result (λ found. (left : Option (List ℕ))
@@ -225,7 +246,7 @@ impl Blocks {
         Some(self.answer(size, 1))
     }
 
-    /// Takes all that is left at the end of the source, where no line ends in it.
+    /// Takes the remaining bytes at the end of the source, which have no line's end.
     fn take_rest(&mut self) -> Found
         requires { HasNoFeed self.old.kept }
         ensures found { (left : Option (List ℕ)) → IsAtEnd left → FindsLine (unanswered self.old) self.new left result }
@@ -240,7 +261,7 @@ impl Blocks {
         self.answer(size, 0)
     }
 
-    /// Answers the first `size` bytes that are kept, and lets go of `past` bytes after them.
+    /// Makes the first `size` kept bytes the line found, and discards `past` bytes after them.
     fn answer(&mut self, size: usize, past: usize) -> Found
         requires { size + past ≤ length self.old.kept }
         ensures found { Judges self.old.is_passing (without_return (take size self.old.kept)) self.new.line result }
@@ -259,7 +280,8 @@ impl Blocks {
         if is_long { Found::Long } else { Found::Line }
     }
 
-    /// Makes room for a read: what is kept goes to the front of the block, or is let go where a line can't be so long.
+    /// Makes room for a read: moves the kept bytes to the start of the block, or discards them if no line can be so
+    /// long.
     fn make_room(&mut self)
         requires { HasNoFeed self.old.kept }
         ensures stays { MakesRoom (unanswered self.old) (unanswered self.new) }
@@ -281,7 +303,7 @@ impl Blocks {
         }
     }
 
-    /// One read, behind what is kept: how many bytes came.
+    /// One read, after the kept bytes. Returns the number of bytes read.
     fn read_some<R: Source>(&mut self, reader: &mut R) -> Result<usize, Failed>
         requires room { 0 < self.old.room }
         requires few { self.old.reads < most_reads }

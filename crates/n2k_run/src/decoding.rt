@@ -12,7 +12,7 @@ ghost use Rattle.n2k_run.specs.Reports.{broken_text, cause_report};
 ghost use Rattle.n2k_run.specs.Runs.{Runs, output_from, seen};
 
 use crate::device::{Sink, Source};
-use crate::engine::{EntryHandler, run_entries};
+use crate::engine::{EntryHandler, RunRoom, run_entries};
 use crate::fault::RunFault;
 use crate::options::{Options, know_window};
 use crate::texts::{bad_text, broken_text};
@@ -20,7 +20,6 @@ use n2k_join::{Broken, Join, TableMessage, laws, message_of};
 use n2k_table::{LineBuffer, Table, json_line_of};
 use n2k_wire::{BadCause, Entry};
 use std::alloc::{AllocError, Global};
-use std::mem;
 
 /// Breaks the groups whose window ends at the next line, the oldest first, and reports them.
 fn break_overdue(alloc: Global, join: &mut Join, report: &mut Vec<u8>) -> Result<(), AllocError>
@@ -122,11 +121,11 @@ impl<'a> EntryHandler for JsonLines<'a> {
     }
 }
 
-/// Prints the JSON line of each message of a log to `writer`, in the order of the lines that give them, and to
-/// `reporter` for each line the groups that it breaks and why it is bad. The join goes on from where it is, and is
-/// after the log at the end; the window of the options has to be its own. Whole, or until a fault, as
-/// `run_plain`: after `Read` the join is after the last line whose LF was read, and after `TooManyLines` at the
-/// last number; after `Write`, `Report` and `Memory` it is spent.
+/// Prints to `writer` the JSON line of each message of a log, in the order of the lines that complete them, and to
+/// `reporter`, for each line, the groups that it breaks and why it is bad. The join continues from its state, and is in
+/// the state after the log at the end; the window of the options must be the join's. It ends at the end of the log or
+/// by a fault, as `run_plain`: after `Read` the join is after the last line whose LF was read, and after `TooManyLines`
+/// at the last number; after `Write`, `Report` and `Memory` the join can't be used further.
 ///
 /// ```rust
 /// let (table, options) = (sample_table(alloc)?, usual_options());
@@ -151,14 +150,51 @@ pub fn run<R: Source, W: Sink, E: Sink>(
 ) -> Result<(), RunFault>
     requires window { join.old.window ≡ options.window }
 
-    // From any join: the texts and reports of the steps of the log's entries, one after the other.
+    // From any join: the texts and reports of the steps of the log's entries, in order.
     ensures steps { let before = seen R.Source W.Sink E.Sink reader.old writer.old reporter.old in
         let after = seen R.Source W.Sink E.Sink reader.new writer.new reporter.new in
         let fold = join_fold table.now options.empty in
         Runs (output_from fold options.packing join.old)
         (λ es. join.new ≡ after_all fold join.old es) before after result }
 
-    // From a join that has taken these entries, with this table: what the whole log says of the lines after them.
+    // If the join has taken the entries `front` with this table: the output that the whole log gives for the lines
+    // after them.
+    ensures log { (front : List Entry) → join.old ≡ state table.now.id options.window (kind table.now) front →
+        let before = seen R.Source W.Sink E.Sink reader.old writer.old reporter.old in
+        let after = seen R.Source W.Sink E.Sink reader.new writer.new reporter.new in
+        Runs (output_after table.now options front)
+        (λ es. join.new ≡ state table.now.id options.window (kind table.now) (front ++ es)) before after result }
+{
+    run_in(
+        alloc,
+        table,
+        join,
+        options,
+        &mut RunRoom::new(alloc),
+        reader,
+        writer,
+        reporter,
+    )
+}
+
+/// `run`, in room that is kept.
+pub(crate) fn run_in<R: Source, W: Sink, E: Sink>(
+    alloc: Global,
+    table: &Table,
+    join: &mut Join,
+    options: Options,
+    room: &mut RunRoom,
+    reader: &mut R,
+    writer: &mut W,
+    reporter: &mut E,
+) -> Result<(), RunFault>
+    requires window { join.old.window ≡ options.window }
+
+    ensures steps { let before = seen R.Source W.Sink E.Sink reader.old writer.old reporter.old in
+        let after = seen R.Source W.Sink E.Sink reader.new writer.new reporter.new in
+        let fold = join_fold table.now options.empty in
+        Runs (output_from fold options.packing join.old)
+        (λ es. join.new ≡ after_all fold join.old es) before after result }
     ensures log { (front : List Entry) → join.old ≡ state table.now.id options.window (kind table.now) front →
         let before = seen R.Source W.Sink E.Sink reader.old writer.old reporter.old in
         let after = seen R.Source W.Sink E.Sink reader.new writer.new reporter.new in
@@ -168,22 +204,9 @@ pub fn run<R: Source, W: Sink, E: Sink>(
     laws::steps_agree();
     laws::lines_stay();
     know_window(&options);
-    let Options {
-        packing,
-        empty,
-        window,
-    } = options;
+    let Options { packing, empty, .. } = options;
     let handler = JsonLines { table, empty };
-    let mut running = mem::replace(join, Join::new(alloc, table, window));
-    let ran = run_entries(
-        alloc,
-        &handler,
-        packing,
-        &mut running,
-        reader,
-        writer,
-        reporter,
-    );
-    *join = running;
-    ran
+    run_entries(
+        alloc, &handler, packing, join, room, reader, writer, reporter,
+    )
 }

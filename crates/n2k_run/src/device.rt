@@ -1,4 +1,4 @@
-//! Devices: where a run's bytes come from, and where its texts go.
+//! Devices: the sources of a run's bytes, and the sinks of its texts.
 ghost use Rattle.std.specs.Prelude.{◌≡◌, ◌<◌, ◌≤◌, ℕ, List, None, Option, length, IfOk, IsOk};
 ghost use Rattle.std.specs.declared.io.Error.{Error};
 ghost use Rattle.std.specs.Io.KnownBytes.{ReadConsumes, WriteAppends};
@@ -10,21 +10,21 @@ pub struct Failed;
 
 /// A device that gives bytes.
 pub trait Source {
-    /// How many calls were made of it. At 2^64 - 1 the number stays.
+    /// The number of calls so far, at most 2^64 - 1.
     ghost calls: { Self → ℕ };
 
-    /// How many of its calls have failed. At 2^64 - 1 the number stays.
+    /// The number of failed calls so far, at most 2^64 - 1.
     ghost failed_calls: { Self → ℕ };
 
-    /// The error of the last call that failed, where it is known.
+    /// The error of the last call that failed, if known.
     ghost why: { Self → Option Error } = { λ _. None };
 
-    /// The bytes that it has left, where they are known.
+    /// The source's remaining bytes, if known.
     ghost remaining: { Self → Option (List ℕ) };
 
-    /// Puts the next bytes at the front of `buffer`, and answers how many there are: at most as many as
-    /// the buffer takes, 0 only at the end or where the buffer takes none. `Failed` where the device
-    /// failed; the bytes that it has left are then still those from before.
+    /// Reads the next bytes into the start of `buffer`, and returns their number: at most as many as the buffer takes,
+    /// 0 only at the end or if the buffer takes none. `Failed` if the device failed; its remaining bytes are then
+    /// unchanged.
     ///
     /// ```rust
     /// let mut source = MemorySource::new(b"abcde", 3, 2);
@@ -45,17 +45,17 @@ pub trait Source {
 
 /// A device that takes bytes.
 pub trait Sink {
-    /// How many of its calls have failed. At 2^64 - 1 the number stays.
+    /// The number of failed calls so far, at most 2^64 - 1.
     ghost failed_calls: { Self → ℕ };
 
-    /// The error of the last call that failed, where it is known.
+    /// The error of the last call that failed, if known.
     ghost why: { Self → Option Error } = { λ _. None };
 
-    /// The bytes that it holds, where they are known.
+    /// The bytes that the sink contains, if known.
     ghost contents: { Self → Option (List ℕ) };
 
-    /// Takes bytes from the front of `piece`, and answers how many: 1 or more, unless the piece is empty.
-    /// `Failed` where the device failed, and then it took none.
+    /// Takes bytes from the start of `piece`, and returns their number: 1 or more, unless the piece is empty. `Failed`
+    /// if the device failed, and then it took none.
     ///
     /// ```rust
     /// let mut sink = MemorySink::new(alloc, 3, 2);

@@ -1,4 +1,4 @@
-//! The engine of the runs: the lines of a log are lent from a block, and a handler takes their entries one by one.
+//! The engine of the runs: it takes the lines of a log from a block, and a handler takes their entries one by one.
 ghost use Rattle.std.specs.Prelude.{◌≡◌, ◌⊎◌, [], OnOk};
 ghost use Rattle.n2k_run.specs.Blocks.{CallsAre, HasFeed};
 ghost use Rattle.n2k_run.specs.Fold.{Fold, after_all};
@@ -17,25 +17,25 @@ use n2k_table::LineBuffer;
 use n2k_wire::{BadCause, Entry, LineReader, Packing};
 use std::alloc::Global;
 
-/// What takes the entries of a log one after the other, and makes texts and reports of them.
+/// Takes the entries of a log in order, and makes texts and reports of them.
 pub(crate) trait EntryHandler {
-    /// What it knows of the entries that it took.
+    /// The state after the entries so far.
     type State;
 
-    /// What definitions know of a state.
+    /// The state as definitions see it.
     ghost Known: { Type 0 };
 
     /// A state, as definitions know it.
     ghost known: { Self.State → Known };
 
-    /// What is made of each entry, by the state that it is taken in.
+    /// The text and the report of each entry, by the state before it.
     ghost fold: { Self → Fold Known };
 
     /// A state in which it can take an entry.
     ghost is_ready: { Self → Self.State → Type 0 };
 
-    /// Takes the entry of the next line, and appends its text and its report. `TooManyLines` where no more lines
-    /// are counted, and then nothing has changed; `Memory` where an allocation was refused. The entry may be changed.
+    /// Takes the entry of the next line, and appends its text and its report. `TooManyLines` if the line limit is
+    /// reached, and then nothing has changed; `Memory` if an allocation was refused. The entry may be changed.
     fn take(
         &self,
         alloc: Global,
@@ -70,7 +70,17 @@ impl Pending {
         }
     }
 
-    /// Writes what is pending, the reports first. Where a device fails, a front of its text has been written.
+    /// Drops the pending texts, and keeps their room.
+    fn clear(&mut self)
+        ensures text { self.new.text.items ≡ [] }
+        ensures report { self.new.report.items ≡ [] }
+    {
+        let Pending { text, report } = self;
+        text.clear();
+        report.clear();
+    }
+
+    /// Writes the pending texts, the reports first. If a device fails, a prefix of its text has been written.
     pub(crate) fn write<W: Sink, E: Sink>(
         &mut self,
         writer: &mut W,
@@ -91,7 +101,39 @@ impl Pending {
     }
 }
 
-/// What stays the same over a run.
+/// The room of a run: a block of its log, and its texts. New room is zeroed, 36 KiB, so a caller with many runs keeps one.
+#[derive(Drop)]
+pub struct RunRoom {
+    blocks: Blocks,
+    pending: Pending,
+    lines: LineReader,
+}
+
+impl RunRoom {
+    /// Room for any run.
+    ///
+    /// ```rust
+    /// let (table, options) = (sample_table(alloc)?, usual_options());
+    /// let mut join = Join::new(alloc, &table, options.window);
+    /// let mut out = MemorySink::new(alloc, 4096, 0);
+    /// let mut err = MemorySink::new(alloc, 4096, 0);
+    /// let log = "(11.0) can0 1DFF0405#4120202020202020\n".as_bytes();
+    /// let mut room = RunRoom::new(alloc);
+    /// run_more(
+    ///     alloc, &table, &mut join, options, log, &mut room, &mut out, &mut err,
+    /// )?;
+    /// assert_eq!(rt; join.counts().lines, 1);
+    /// ```
+    pub fn new(alloc: Global) -> RunRoom {
+        RunRoom {
+            blocks: Blocks::new(),
+            pending: Pending::new(alloc),
+            lines: LineReader::new(),
+        }
+    }
+}
+
+/// The parts that stay the same over a run.
 #[derive(Drop)]
 struct Engine<'a, H> {
     alloc: Global,
@@ -99,7 +141,7 @@ struct Engine<'a, H> {
     packing: Packing,
 }
 
-/// Takes a line that is too long. An entry is large, so that the few of these have a place of their own.
+/// Takes a line that is too long. A separate function, since an entry is large and such lines are rare.
 fn take_long<H: EntryHandler>(
     engine: &Engine<'_, H>,
     state: &mut H::State,
@@ -117,8 +159,8 @@ fn take_long<H: EntryHandler>(
         .take(engine.alloc, state, &mut entry, text, report)
 }
 
-/// Takes the next line of the log. Where the block holds no line's end it is read, and that may have to wait: so
-/// nothing may be pending then.
+/// Takes the next line of the log. If the block has no line's end, it reads, which may wait: so then nothing may be
+/// pending.
 fn take_next<H: EntryHandler, R: Source>(
     engine: &Engine<'_, H>,
     state: &mut H::State,
@@ -152,12 +194,13 @@ fn take_next<H: EntryHandler, R: Source>(
     }
 }
 
-/// The run of a handler over a log, from a state on: what every run promises.
+/// The run of a handler over a log, from a given state: the promise of every run.
 pub(crate) fn run_entries<H: EntryHandler, R: Source, W: Sink, E: Sink>(
     alloc: Global,
     handler: &H,
     packing: Packing,
     state: &mut H::State,
+    room: &mut RunRoom,
     reader: &mut R,
     writer: &mut W,
     reporter: &mut E,
@@ -174,21 +217,18 @@ pub(crate) fn run_entries<H: EntryHandler, R: Source, W: Sink, E: Sink>(
         handler,
         packing,
     };
-    let mut blocks = Blocks::new();
-    let mut pending = Pending::new(alloc);
-    let mut lines = LineReader::new();
+    let RunRoom {
+        blocks,
+        pending,
+        lines,
+    } = room;
+    blocks.restart();
+    pending.clear();
     'lines: while !blocks.has_ended() {
         if !blocks.has_line() {
             pending.write(writer, reporter)?;
         }
-        match take_next(
-            &engine,
-            state,
-            &mut blocks,
-            reader,
-            &mut lines,
-            &mut pending,
-        ) {
+        match take_next(&engine, state, blocks, reader, lines, pending) {
             Ok(()) => {}
             Err(fault) => match fault {
                 RunFault::Memory => return Err(fault),

@@ -1,4 +1,4 @@
-//! Why a run, or the reading of a file, ends without its answer.
+//! Why a run, or reading a file, ends without its result.
 
 use n2k_join::JoinFault;
 use std::alloc::AllocError;
@@ -19,7 +19,7 @@ pub enum RunFault {
     /// An allocation was refused.
     #[error("out of memory")]
     Memory,
-    /// The log has more lines than are counted.
+    /// The log has more lines than the limit allows.
     #[error("too many lines")]
     TooManyLines,
 }
@@ -49,7 +49,7 @@ impl From<JoinFault> for RunFault {
     }
 }
 
-/// Why the bytes of a source can't be had.
+/// Why the bytes of a source can't be read.
 #[derive(Clone, Copy, Debug, PartialEq, Eq, Error)]
 pub enum BytesFault {
     /// The device failed, or 10^12 reads found no end.

@@ -11,7 +11,7 @@ ghost use Rattle.n2k_run.specs.Runs.{Runs, seen};
 ghost use Rattle.n2k_run.specs.Inner.Sending.{SentLine, SentMessage, frame_line};
 
 use crate::device::{Sink, Source};
-use crate::engine::{EntryHandler, run_entries};
+use crate::engine::{EntryHandler, RunRoom, run_entries};
 use crate::fault::RunFault;
 use crate::texts::bad_text;
 use n2k_join::{Counts, MOST_LINES, SplitFault, Splitter, laws};
@@ -19,18 +19,18 @@ use n2k_table::{LineBuffer, Table};
 use n2k_wire::{BadCause, CandumpLines, Entry, Id, Packet, Packing, WireFault, plain_text};
 use std::alloc::{AllocError, Global};
 
-/// What becomes of a line.
+/// The outcome of a line.
 #[derive(Clone, Copy)]
 enum Outcome {
-    /// It is no message, and not bad.
+    /// The line is not a message, and not bad.
     Skipped,
-    /// It is a message, and its frames are written.
+    /// The line is a message, and its frames are written.
     Written,
-    /// It is bad, for this cause.
+    /// The line is bad, for this cause.
     Bad(BadCause),
 }
 
-/// Appends the line of a frame: a plain one, or at an interface the one that candump writes.
+/// Appends the line of a frame: a plain line, or candump's at an interface.
 fn append_line(
     alloc: Global,
     lines: &mut Option<CandumpLines>,
@@ -48,24 +48,24 @@ fn append_line(
     }
 }
 
-/// What sends messages one after the other.
+/// Sends messages in order.
 #[derive(Drop)]
 struct Sender<'a> {
     splitter: Splitter,
-    /// The lines at the interface, where one is handed in.
+    /// The lines at the interface, if one is given.
     lines: Option<CandumpLines<'a>>,
     /// Room for a frame.
     frame: Packet,
 }
 
-/// What a run has sent so far.
+/// The state of a run that sends messages.
 #[derive(Drop)]
 struct Sending<'a> {
     sender: Sender<'a>,
     counts: Counts,
 }
 
-/// Makes the lines of the frames of messages, plain ones or those that candump writes at an interface.
+/// Makes the lines of the frames of messages: plain lines, or the lines of candump at an interface.
 #[derive(Drop)]
 struct FrameLines<'a> {
     table: &'a Table,
@@ -73,7 +73,7 @@ struct FrameLines<'a> {
 }
 
 impl<'a> FrameLines<'a> {
-    /// What sends the first message.
+    /// The sender before the first message.
     fn sender(&self, alloc: Global) -> Sender<'a>
         requires { IsInterface (interface_of self.now.interface) }
         ensures splitter { sequences result.splitter ≡ first_sequences }
@@ -95,7 +95,7 @@ impl<'a> FrameLines<'a> {
         }
     }
 
-    /// Sends a message: it is split, and the lines of its frames are written, all or none.
+    /// Sends a message: splits it, and writes the lines of its frames, all or none.
     fn send(
         &self,
         alloc: Global,
@@ -129,7 +129,7 @@ impl<'a> FrameLines<'a> {
         Ok(Outcome::Written)
     }
 
-    /// What becomes of the entry of a line.
+    /// The outcome of the entry of a line.
     fn outcome(
         &self,
         alloc: Global,
@@ -197,20 +197,19 @@ impl<'a> EntryHandler for FrameLines<'a> {
     }
 }
 
-/// Writes each whole message of a log, a plain line of 0 to 223 bytes, as the lines of the frames in which it is
-/// sent: plain lines, or with an interface those that `candump -L` writes at it. The messages of each stream, a
-/// sender's messages of one fast PGN to one receiver, are numbered in turn from 0 to 7. `reporter` gets the report of
-/// each bad line: besides those that can't be read these are, in this order,
+/// Writes each whole message of a log, a plain line of 0 to 223 bytes, as the lines of its frames: plain lines or, with
+/// an interface, the lines that `candump -L` writes at it. The messages of each stream, a sender's messages of one fast
+/// PGN to one receiver, are numbered in turn from 0 to 7. `reporter` gets the report of each bad line: each line that
+/// can't be read and, in this order,
 ///
-/// - `B10 frame`: a candump line, which is a frame and no message;
+/// - `B10 frame`: a candump line, which is a frame, not a message;
 /// - `B8 unknown`: a message of a PGN that the table doesn't have;
-/// - `B9 size`: one of over 8 bytes whose PGN is sent in single frames;
-/// - `B11 time` and `B12 address`, with an interface alone: its stamp isn't `YYYY-MM-DDTHH:MM:SS.mmmZ` of a day of
-///   the calendar from 1970 on, or the bus has no identifier for it. Such a message of a fast PGN has used its
+/// - `B9 size`: a message of over 8 bytes whose PGN is sent in single frames;
+/// - `B11 time` and `B12 address`, only with an interface: the stamp isn't `YYYY-MM-DDTHH:MM:SS.mmmZ` of a day of the
+///   calendar from 1970 on, or `join_id` has no identifier for the message. Such a message of a fast PGN still uses its
 ///   number.
 ///
-/// A bad line is written in no part. The counts are those of lines, of messages written, and of bad lines. Faults as
-/// for `run_plain`.
+/// No part of a bad line is written. The counts are lines, written messages, and bad lines. Faults as for `run_plain`.
 ///
 /// ```rust
 /// let table = sample_table(alloc)?;
@@ -239,7 +238,7 @@ pub fn run_frames<R: Source, W: Sink, E: Sink>(
         (λ es. IfOk result (λ counts. counts ≡ frame_counts_of (kind table.now) (interface_of interface.entry) es))
         before after result }
 
-    // Ok, where the bytes of the log are known: what `frames` makes of them.
+    // After Ok, if the bytes of the log are known: the output of `frames` for these bytes.
     ensures out { IfOk result (λ counts. IfSome (R.remaining reader.old) (λ log.
         Appends (W.contents writer.old) (W.contents writer.new)
         (frames_out table.now (interface_of interface.entry) log)
@@ -260,8 +259,8 @@ pub fn run_frames<R: Source, W: Sink, E: Sink>(
     Ok(counts)
 }
 
-/// What `run_frames` does, with the counts at hand after a fault too: `counts` gets what the log counts, after `Read` and
-/// `TooManyLines` what the lines do that are written and reported.
+/// As `run_frames`, but a fault gives the counts, too: `counts` gets the counts of the log, or after `Read` and
+/// `TooManyLines` those of the lines that are written and reported.
 ///
 /// ```rust
 /// let table = sample_table(alloc)?;
@@ -299,7 +298,7 @@ pub fn run_frames_counted<R: Source, W: Sink, E: Sink>(
         Runs (frames_output table.now (interface_of interface.entry))
         (λ es. counts.new ≡ frame_counts_of (kind table.now) (interface_of interface.entry) es) before after result }
 
-    // Ok, where the bytes of the log are known: what `frames` makes of them.
+    // After Ok, if the bytes of the log are known: the output of `frames` for these bytes.
     ensures out { OnOk result (IfSome (R.remaining reader.old) (λ log.
         Appends (W.contents writer.old) (W.contents writer.new)
         (frames_out table.now (interface_of interface.entry) log)
@@ -318,6 +317,7 @@ pub fn run_frames_counted<R: Source, W: Sink, E: Sink>(
         &handler,
         Packing::Whole,
         &mut state,
+        &mut RunRoom::new(alloc),
         reader,
         writer,
         reporter,

@@ -1,4 +1,4 @@
-//! Laws that hold of the definitions: each is the contract of a function that does nothing.
+//! Theorems about the definitions: each is the contract of a function that does nothing.
 ghost use Rattle.std.specs.Prelude.{◌≡◌, ◌≤◌, ℕ, All, List, Ok, Some, flat_map, length, true};
 ghost use Rattle.n2k_wire.specs.Packet.{PacketParts, IsPacketParts};
 ghost use Rattle.n2k_wire.specs.Texts.{plain_text};
@@ -19,8 +19,8 @@ ghost use Rattle.n2k_run.specs.Replayed.{PrintsBack};
 
 use n2k_wire::Packing;
 
-/// A log over which messages are scattered, and which gives no message alone, prints these messages: as many lines as
-/// there are messages, and each key's in their order. None is lost, none invented.
+/// A log over which messages are scattered, and which gives no message alone, prints exactly these messages: one line a
+/// message, and each key's in their order.
 pub fn replayed()
     ensures { (t : TableParts) (ms : List PacketParts) (o : Options) (log : List ℕ) → IsWindow o.window.lines
         → IsScattered o.window (kind t) ms (entries o.packing log) → IsMute (kind t) (entries o.packing log)
@@ -30,7 +30,7 @@ pub fn replayed()
     n2k_join::laws::arrives_whole();
 }
 
-/// What is written is read back: fast packets of the table's PGNs, written as plain lines of frames in their order,
+/// Written messages are read back: fast packets of the table's PGNs, written as plain lines of frames in their order,
 /// are a log that prints these messages.
 pub fn written_then_read()
     ensures { (t : TableParts) (ms : List PacketParts) (o : Options) → IsWindow o.window.lines
@@ -45,10 +45,10 @@ pub fn written_then_read()
     n2k_join::laws::arrives_whole();
 }
 
-/// In order each line that a log prints is of one message: one that is a line of the log by itself, or one whose
-/// frames the log has by rising number with no other frame of their key between them, with the stamp, the priority
-/// and the identifier of the last. The log is the whole one, from its first line, whether it is run at once or in
-/// parts; parts need not be cut at lines.
+/// In order, each line that a log prints is of one message: a message that is a line of the log by itself, or a message
+/// whose frames the log has by rising number with no other frame of their key between them, with the stamp, the
+/// priority and the identifier of the last. The log is the whole log, from its first line, whether it is run at once or
+/// in parts; parts need not be cut at lines.
 pub fn printed_in_order()
     ensures log { (t : TableParts) (o : Options) (log : List ℕ) → o.window.in_order ≡ true
         → EachTellsOne t o (entries o.packing log) (out t o log) }
@@ -59,8 +59,8 @@ pub fn printed_in_order()
     n2k_join::laws::consecutive_frames();
 }
 
-/// What is saved after the front of a log reads back, under the same table: a part begins with the state that the
-/// front leads to, for every front with no more lines than are counted.
+/// The state saved after a prefix of a log reads back under the same table: the next part begins with the state that
+/// the prefix leads to, for every prefix within the line limit.
 pub fn saved_front_reads_back()
     ensures { (t : TableParts) (o : Options) (front : List ℕ) → IsWindow o.window.lines → IsId t.id
         → length (entries o.packing front) ≤ most_lines

@@ -1,4 +1,4 @@
-//! Devices in memory, for tests: they move so many bytes a call, and fail at the call that they are made for.
+//! Devices in memory, for tests: each call moves a given number of bytes, and a given call fails.
 
 use crate::device::{Failed, Sink, Source};
 use std::alloc::Global;
@@ -34,8 +34,8 @@ impl<'a> Model for MemorySource<'a> {
 impl<'a> MemorySource<'a> {
     ghost use Rattle.std.specs.Prelude.{◌≡◌, ◌<◌};
 
-    /// A source that gives these bytes. A call moves `chunk` bytes, or all that is wanted or left if that is
-    /// less; call number `fail_at`, counted from 1, fails (0: none does).
+    /// A source of these bytes. A call moves `chunk` bytes, or fewer if fewer are requested or left; call number
+    /// `fail_at`, counted from 1, fails (0: none).
     ///
     /// ```rust
     /// let mut source = MemorySource::new(b"abcde", 3, 2);
@@ -133,9 +133,8 @@ impl Model for MemorySink {
 impl MemorySink {
     ghost use Rattle.std.specs.Prelude.{◌≡◌, ◌<◌, []};
 
-    /// A sink that holds nothing yet. A call moves `chunk` bytes, or all that is handed in if that is less;
-    /// call number `fail_at`, counted from 1, fails (0: none does), and so does a call for which the
-    /// allocator has no memory.
+    /// An empty sink. A call moves `chunk` bytes, or fewer if fewer are given; call number `fail_at`, counted from 1,
+    /// fails (0: none), and so does a call if memory is refused.
     ///
     /// ```rust
     /// let mut sink = MemorySink::new(alloc, 3, 2);
@@ -169,7 +168,7 @@ impl MemorySink {
         &self.held
     }
 
-    /// Lets go of the bytes that were written, and keeps their room for those to come.
+    /// Discards the written bytes, and keeps their room for later ones.
     ///
     /// ```rust
     /// let mut sink = MemorySink::new(alloc, 4, 0);
@@ -202,7 +201,7 @@ impl Sink for MemorySink {
         ensures bytes { WriteAppends (Some self.old.held) (Some self.new.held) result piece.now }
         ensures counted { CountsFailure self.old.failed_calls self.new.failed_calls result }
 
-        // It also fails where memory is refused.
+        // A write also fails if memory is refused.
         ensures fails { self.old.fails_at ≡ 1 → IsErr result }
         ensures count { IfOk result (λ n. n ≡ min self.old.chunk (length piece.now)) }
         ensures device { IfOk result (λ n. self.new ≡ after_write self.old (take n piece.now)) }

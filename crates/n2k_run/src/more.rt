@@ -1,4 +1,4 @@
-//! More of a log, which lies in memory, behind a front that a join has taken.
+//! More of a log, in memory, after a prefix that a join has taken.
 ghost use Rattle.std.specs.Prelude.{◌≡◌, ℕ, List};
 ghost use Rattle.std.specs.Io.{IsEmptyOrEndsWith};
 ghost use Rattle.n2k_run.specs.Headline.{state_after};
@@ -6,8 +6,9 @@ ghost use Rattle.n2k_run.specs.Lines.{line_feed};
 ghost use Rattle.n2k_run.specs.More.{EndsMore};
 ghost use Rattle.n2k_run.specs.Runs.{sinks_seen};
 
-use crate::decoding::run;
+use crate::decoding::run_in;
 use crate::device::Sink;
+use crate::engine::RunRoom;
 use crate::fault::RunFault;
 use crate::options::{Options, know_window};
 use crate::part_source::PartSource;
@@ -15,22 +16,24 @@ use n2k_join::{Join, laws};
 use n2k_table::Table;
 use std::alloc::Global;
 
-/// Runs `run` over the lines of `more`, the bytes of a log behind those that a join has taken, where these ended with a
-/// line: exactly the rest of the whole log's output and reports is written, and the join is in the state that the whole
-/// leads to. So a decoder that is kept goes on without a saved state. After a fault the join is spent.
+/// Runs `run` over the lines of `more`, the bytes of a log after the lines that a join has taken, if these ended with a
+/// line: exactly the rest of the whole log's output and reports is written, and the join is in the state after the
+/// whole log. So a decoder that is kept needs no saved state; it keeps the
+/// room too, whose contents don't matter. After a fault the join can't be used further.
 ///
 /// ```rust
 /// let (table, options) = (sample_table(alloc)?, usual_options());
 /// let mut join = Join::new(alloc, &table, options.window);
 /// let mut out = MemorySink::new(alloc, 4096, 0);
 /// let mut err = MemorySink::new(alloc, 4096, 0);
+/// let mut room = RunRoom::new(alloc);
 /// let monday = "(11.0) can0 1DFF0405#4120202020202020\n".as_bytes();
 /// run_more(
-///     alloc, &table, &mut join, options, monday, &mut out, &mut err,
+///     alloc, &table, &mut join, options, monday, &mut room, &mut out, &mut err,
 /// )?;
 /// let tuesday = "(12.0) can0 1DFF0405#400DA39903444546\n".as_bytes();
 /// run_more(
-///     alloc, &table, &mut join, options, tuesday, &mut out, &mut err,
+///     alloc, &table, &mut join, options, tuesday, &mut room, &mut out, &mut err,
 /// )?;
 /// assert_eq!(rt; (join.counts().lines, join.counts().messages), (2, 1));
 /// ```
@@ -40,6 +43,7 @@ pub fn run_more<W: Sink, E: Sink>(
     join: &mut Join,
     options: Options,
     more: &[u8],
+    room: &mut RunRoom,
     writer: &mut W,
     reporter: &mut E,
 ) -> Result<(), RunFault>
@@ -54,5 +58,14 @@ pub fn run_more<W: Sink, E: Sink>(
     laws::lines_stay();
     know_window(&options);
     let mut reader = PartSource::new(more);
-    run(alloc, table, join, options, &mut reader, writer, reporter)
+    run_in(
+        alloc,
+        table,
+        join,
+        options,
+        room,
+        &mut reader,
+        writer,
+        reporter,
+    )
 }

@@ -4,19 +4,18 @@ ghost use Rattle.n2k_join.specs.Window.{IsWindow};
 use n2k_join::Window;
 use n2k_wire::Packing;
 
-/// How a log's lines are read, how long a group of them may wait for its frames, and how its messages are printed.
+/// How a log's lines are read, how long a group may wait for its frames, and how messages are printed.
 #[derive(Clone, Copy, Debug, PartialEq, Eq)]
 pub struct Options {
     /// How the data of its lines are packed.
     pub packing: Packing,
     /// Whether an absent field is printed, as `null`.
     pub empty: bool,
-    /// What ends a group that isn't complete: that so many lines have passed since its first, and, where the window
-    /// is in order, a frame whose number doesn't rise.
+    /// What ends an incomplete group: that many lines since its first and, in order, a frame whose number doesn't rise.
     pub window: Window,
 }
 
-/// What the type says of the window.
+/// The type guarantees a valid window.
 pub(crate) fn know_window(options: &Options)
     ensures { IsWindow options.now.window.lines }
 {

@@ -1,4 +1,4 @@
-//! Runs of a log in parts, each from the state that was saved after the one before.
+//! Runs of a log in parts, each from the state that was saved after the part before it.
 ghost use Rattle.std.specs.Prelude.{◌≡◌, ℕ, List, [], map, ◌++◌, IfOk, IsSome, OnErr, None, Ok, option_map, true};
 ghost use Rattle.std.specs.List.{concat};
 ghost use Rattle.n2k_wire.specs.declared.entry.Entry.{Entry};
@@ -23,27 +23,26 @@ use n2k_table::Table;
 use std::alloc::{AllocError, Global};
 use thiserror::Error;
 
-/// What is left of a log, or of a part of it: the text from which the next part goes on, and what all lines so
-/// far count.
+/// The result of a log, or of a part of it: the text to continue from, and the counts of all lines so far.
 #[derive(Debug, Drop)]
 pub struct Part {
     /// The saved state: one JSON text, without an LF (docs/PROFILE.md has its members).
     pub state: Vec<u8>,
-    /// The counts of all lines so far, those of earlier parts too.
+    /// The counts of all lines so far, including earlier parts.
     pub counts: Counts,
 }
 
 /// Why a part of a log was not run to its end.
 #[derive(Debug, Drop, Error)]
 pub enum PartFault {
-    /// The state handed in is refused. Nothing was read or written.
+    /// The given state is refused. Nothing was read or written.
     #[error("the state is refused: {0}")]
     State(StateFault),
-    /// The run stopped after a line, for `RunFault::Read` or `RunFault::TooManyLines`; the log can go on from its Part.
+    /// The run stopped after a line, for `RunFault::Read` or `RunFault::TooManyLines`; the log can continue from its
+    /// Part.
     #[error("{0}")]
     Stopped(RunFault, Part),
-    /// The run ended for `RunFault::Write`, `RunFault::Report` or `RunFault::Memory`, and there is no state to go on
-    /// from.
+    /// The run ended with `RunFault::Write`, `RunFault::Report` or `RunFault::Memory`, and no state to continue from.
     #[error("{0}")]
     Run(RunFault),
     /// An allocation was refused while the state was saved.
@@ -92,7 +91,7 @@ fn begin(
     }
 }
 
-/// What the type says of a table's id.
+/// The type guarantees a valid id of a table.
 fn know_id(table: &Table)
     ensures { IsId table.now.id }
 {
@@ -109,7 +108,7 @@ fn part_of(alloc: Global, join: &Join) -> Result<Part, AllocError>
     })
 }
 
-/// What is answered after a run that left the join so.
+/// The result after a run that left the join in this state.
 fn finish(alloc: Global, join: &Join, ran: Result<(), RunFault>) -> Result<Part, PartFault>
     ensures part { HasSaved result join.now }
     ensures ran { Finishes result ran }
@@ -125,14 +124,14 @@ fn finish(alloc: Global, join: &Join, ran: Result<(), RunFault>) -> Result<Part,
 }
 
 /// Runs a part of a log as `run` does, from the state that was saved after the part before it (`None`: from the first
-/// line), and answers the state and the counts after it. A log that is cut after any of its lines into parts so
-/// joined gives exactly the messages, the reports, the counts and the state of one run over the whole.
+/// line), and returns the state and the counts after it. If a log is cut after any of its lines, its parts run so give
+/// exactly the messages, the reports, the counts and the state of one run over the whole log.
 ///
-/// The state has to be of the same table and the same window, and the other options have to be those of the parts
-/// before. A state that can't be taken is refused before anything is read or written. After `Stopped` the log can go
-/// on from the Part, which is that of the last line that was taken: after `Read` the next part begins behind the
-/// last LF that was read, and a line that came in part is handed in again. After `Run` and `Memory` there is none,
-/// and a front of the part's texts and reports has been written.
+/// The state must have the same table and the same window, and the other options must be those of the parts before. If
+/// the state is refused, nothing has been read or written. After `Stopped` the log can continue from the Part, the
+/// state after the last line that was taken: after `Read`, begin the next part after the last LF that was read, and
+/// pass an incomplete line again. `Run` and `Memory` have no Part; a prefix of the part's texts and reports has been
+/// written.
 ///
 /// ```rust
 /// let (table, options) = (sample_table(alloc)?, usual_options());
@@ -181,7 +180,7 @@ fn empty_part(alloc: Global, table: &Table, options: &Options) -> Result<Part, A
     part_of(alloc, &Join::new(alloc, table, options.window))
 }
 
-/// Runs the next part, which lies in memory.
+/// Runs the next part, which is in memory.
 fn next_part<W: Sink, E: Sink>(
     alloc: Global,
     table: &Table,
@@ -204,13 +203,13 @@ fn next_part<W: Sink, E: Sink>(
     run_part(alloc, table, state, *options, &mut reader, writer, reporter)
 }
 
-/// Runs the parts of a log that lie in memory, one after the other, each from the bytes that were saved after the one
-/// before it: as one run over the log that they make, where each part but the last is empty or ends with a line. No
-/// part gives the state of the empty log.
+/// Runs the parts of a log that are in memory, in order, each from the bytes saved after the part before it: as one run
+/// over the joined log, if each part but the last is empty or ends with a line. Without parts it gives the state of the
+/// empty log.
 ///
-/// After a refusal the parts before the one that met it have been printed whole, and of that one what `run_part`
-/// says. `RunFault::Read` is no answer where each part has fewer than 10^12 - 1 bytes: a part in memory does not
-/// fail, and its end is found.
+/// After a fault, the parts before the failed part have been printed whole; for that part see `run_part`.
+/// `RunFault::Read` is impossible if each part has fewer than 10^12 - 1 bytes: a part in memory does not fail, and its
+/// end is found.
 ///
 /// ```rust
 /// let (table, options) = (sample_table(alloc)?, usual_options());
@@ -234,7 +233,7 @@ pub fn run_parts<W: Sink, E: Sink>(
     ensures memory_only { RefusedByMemory result }
     ensures never_read { AreWithinReads (map (λ part. part.now) parts.now) → IsNotRead result }
 
-    // What the entries of all parts make, one part after the other; or a part was met at which the run ended.
+    // The output of the entries of all parts, in order; or the part at which the run ended.
     ensures log { let before = sinks_seen W.Sink E.Sink writer.old reporter.old in
         let after = sinks_seen W.Sink E.Sink writer.new reporter.new in
         EndsParts table.now options (map (λ part. part.now) parts.now) before after result }

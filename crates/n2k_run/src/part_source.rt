@@ -1,4 +1,4 @@
-//! The source of a part that lies in memory.
+//! The source of a part in memory.
 
 use crate::device::{Failed, Source};
 use std::marker::Model;

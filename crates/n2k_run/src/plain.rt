@@ -5,7 +5,7 @@ ghost use Rattle.n2k_run.specs.Plain.{plain_counts, plain_counts_of, plain_out, 
 ghost use Rattle.n2k_run.specs.Runs.{Runs, seen};
 
 use crate::device::{Sink, Source};
-use crate::engine::{EntryHandler, run_entries};
+use crate::engine::{EntryHandler, RunRoom, run_entries};
 use crate::fault::RunFault;
 use crate::texts::bad_text;
 use n2k_join::{Counts, MOST_LINES};
@@ -13,7 +13,7 @@ use n2k_table::LineBuffer;
 use n2k_wire::{Entry, Packing};
 use std::alloc::Global;
 
-/// Makes plain lines, and counts what it took.
+/// Makes plain lines, and counts the lines.
 struct PlainLines;
 
 impl EntryHandler for PlainLines {
@@ -33,6 +33,7 @@ impl EntryHandler for PlainLines {
 
     ghost is_ready = { λ _ counts. AreLineCounts counts };
 
+    #[inline(always)]
     fn take(
         &self,
         alloc: Global,
@@ -60,12 +61,11 @@ impl EntryHandler for PlainLines {
     }
 }
 
-/// Prints each frame and each whole message of a log as its plain line, to `writer`, and the report of each bad line
-/// to `reporter`. Whole, or until a fault: `Read` where the source failed or 10^12 reads found no end, and then the
-/// lines whose LF was read are printed and reported; `Write` and `Report` where that sink failed, `Memory` where
-/// an allocation was refused, `TooManyLines` past 999,999,999,999,999 lines, and then those lines are printed and
-/// reported. After any fault a front of the texts and of the reports has been written. No device failed but the one
-/// that the fault names.
+/// Prints each frame and each whole message of a log as its plain line, to `writer`, and the report of each bad line to
+/// `reporter`. Faults: `Read` if the source failed or 10^12 reads found no end, and `TooManyLines` past
+/// 999,999,999,999,999 lines; the lines whose LF was read, or those up to the limit, are then printed and reported.
+/// `Write` or `Report` if that sink failed, `Memory` if an allocation was refused. After any fault a prefix of the
+/// texts and of the reports has been written. Only the device that the fault names has failed.
 ///
 /// ```rust
 /// let mut log = StdSource::new("(1.0) can0 18EAFF01#14F001\n".as_bytes());
@@ -86,7 +86,7 @@ pub fn run_plain<R: Source, W: Sink, E: Sink>(
         let after = seen R.Source W.Sink E.Sink reader.new writer.new reporter.new in
         Runs plain_output (λ es. IfOk result (λ counts. counts ≡ plain_counts_of es)) before after result }
 
-    // Ok, where the bytes of the log are known: what `plain` makes of them.
+    // After Ok, if the bytes of the log are known: the output of `plain` for these bytes.
     ensures out { IfOk result (λ counts. IfSome (R.remaining reader.old) (λ log.
         Appends (W.contents writer.old) (W.contents writer.new) (plain_out log)
         × Appends (E.contents reporter.old) (E.contents reporter.new) (plain_reports log)
@@ -97,8 +97,8 @@ pub fn run_plain<R: Source, W: Sink, E: Sink>(
     Ok(counts)
 }
 
-/// What `run_plain` does, with the counts at hand after a fault too: `counts` gets what the log counts, after `Read` and
-/// `TooManyLines` what the lines do that are printed and reported.
+/// As `run_plain`, but a fault gives the counts, too: `counts` gets the counts of the log, or after `Read` and
+/// `TooManyLines` those of the lines that are printed and reported.
 ///
 /// ```rust
 /// let mut log = StdSource::new("(1.0) can0 18EAFF01#14F001\n".as_bytes());
@@ -121,7 +121,7 @@ pub fn run_plain_counted<R: Source, W: Sink, E: Sink>(
         let after = seen R.Source W.Sink E.Sink reader.new writer.new reporter.new in
         Runs plain_output (λ es. counts.new ≡ plain_counts_of es) before after result }
 
-    // Ok, where the bytes of the log are known: what `plain` makes of them.
+    // After Ok, if the bytes of the log are known: the output of `plain` for these bytes.
     ensures out { OnOk result (IfSome (R.remaining reader.old) (λ log.
         Appends (W.contents writer.old) (W.contents writer.new) (plain_out log)
         × Appends (E.contents reporter.old) (E.contents reporter.new) (plain_reports log)
@@ -133,6 +133,7 @@ pub fn run_plain_counted<R: Source, W: Sink, E: Sink>(
         &PlainLines,
         Packing::Frames,
         counts,
+        &mut RunRoom::new(alloc),
         reader,
         writer,
         reporter,

@@ -13,8 +13,8 @@ use std::alloc::Global;
 /// The most reads of one call. A source that has not ended by then counts as one that can't be read.
 pub const MOST_READS: u64 = 1_000_000_000_000;
 
-/// One read into the block, whose bytes go to the end of the input: how many there are. Room is made
-/// first, so that a refused allocation loses no byte.
+/// One read into the block; its bytes are appended to the input. Returns their number. Room is made first, so that a
+/// refused allocation loses no byte.
 fn read_more<R: Source>(
     reader: &mut R,
     block: &mut [u8],
@@ -37,10 +37,9 @@ fn read_more<R: Source>(
     Ok(count)
 }
 
-/// All bytes of a source that has at most `limit` of them. `TooLong` where it has more; `Read` where the
-/// device failed or 10^12 reads found no end; `Memory` where an allocation was refused. A failed call is reported
-/// as `Read` alone. No more is read of the source than shows whether the limit is passed: one byte more than the
-/// limit.
+/// All bytes of a source, at most `limit`. `TooLong` if it has more; `Read` if the device failed or 10^12 reads found
+/// no end; `Memory` if an allocation was refused. Only `Read` reports a failed call. At most one byte more than the
+/// limit is read of the source.
 ///
 /// ```rust
 /// let mut source = MemorySource::new(b"abc", 1, 0);

@@ -8,10 +8,10 @@ use crate::device::{Failed, Sink, Source};
 use std::io;
 use std::io::{Error, ErrorKind, Read, Write};
 
-/// How often a call is made that signals interrupt, before it counts as failed.
+/// The most attempts at a call that signals interrupt, before it counts as failed.
 const MOST_TRIES: u32 = 1000;
 
-/// One read, made again where a signal interrupts it.
+/// One read, repeated if a signal interrupts it.
 fn read_retrying<R: Read>(reader: &mut R, buffer: &mut [u8]) -> io::Result<usize>
     ensures bound { IfOk result (λ n. n ≤ length buffer.new) }
     ensures bytes { ReadConsumes (R.remaining reader.old) (R.remaining reader.new) result buffer.new }
@@ -25,7 +25,7 @@ fn read_retrying<R: Read>(reader: &mut R, buffer: &mut [u8]) -> io::Result<usize
     Err(Error::from(ErrorKind::Interrupted))
 }
 
-/// One write, made again where a signal interrupts it. A writer that takes nothing of some bytes has failed.
+/// One write, repeated if a signal interrupts it. A writer that accepts none of some bytes has failed.
 fn write_retrying<W: Write>(writer: &mut W, piece: &[u8]) -> io::Result<usize>
     ensures bound { IfOk result (λ n. n ≤ length piece.now) }
     ensures moves { IfOk result (λ n. 0 < length piece.now → 0 < n) }
@@ -44,13 +44,13 @@ fn write_retrying<W: Write>(writer: &mut W, piece: &[u8]) -> io::Result<usize>
 /// The calls of a device that failed.
 #[derive(Clone, Copy, Debug)]
 struct Failures {
-    /// The error of the last one.
+    /// The error of the last failed call.
     last: Error,
-    /// How many failed before it. At 2^64 - 1 the number stays.
+    /// The number of failed calls before the last, at most 2^64 - 1.
     before: u64,
 }
 
-/// Counts a call, where it failed, and notes why.
+/// Counts a failed call, and keeps its error.
 fn note(answer: io::Result<usize>, failures: &mut Option<Failures>) -> Result<usize, Failed>
     ensures answered { MatchResult result (λ n. answer ≡ Ok n) (λ _. IsErr answer) }
     ensures noted { failures.new ≡ noted answer failures.old }
@@ -74,7 +74,7 @@ pub struct StdSource<R> {
 }
 
 impl<R: Read> StdSource<R> {
-    /// A source that gives what the reader gives.
+    /// A source of the reader's bytes.
     ///
     /// ```rust
     /// let mut source = StdSource::new("abc".as_bytes());
@@ -94,7 +94,7 @@ impl<R: Read> StdSource<R> {
         }
     }
 
-    /// The error of the last call that failed. None where no call has.
+    /// The error of the last call that failed. None if no call has.
     ///
     /// ```rust
     /// let mut source = StdSource::new("abc".as_bytes());
@@ -152,7 +152,7 @@ impl<W: Write> StdSink<W> {
         }
     }
 
-    /// The error of the last call that failed. None where no call has.
+    /// The error of the last call that failed. None if no call has.
     ///
     /// ```rust
     /// let mut sink = StdSink::new(Vec::new(alloc));

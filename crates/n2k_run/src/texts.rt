@@ -13,11 +13,10 @@ use n2k_join::{Broken, Counts};
 use n2k_wire::BadCause;
 use std::alloc::{AllocError, Global};
 
-/// Room for a report or the summary: the words of none have more than 45 bytes, and each of at most six numbers has at
-/// most 20 digits.
+/// Room for a report or the summary: at most 45 bytes of words, and at most six numbers of at most 20 digits.
 const ROOM: usize = 165;
 
-/// A report or the summary, put together before it is appended or written at once.
+/// A report or the summary, put together before it is appended or written.
 type Text = ArrayVec<u8, ROOM>;
 
 /// A cause's number and word.
@@ -61,8 +60,8 @@ fn push_count(text: &mut Text, name: &[u8], number: u64)
     let _ = text.try_extend_from_slice(buffer.format(number).as_bytes());
 }
 
-/// Appends the report of a bad line, `line 3 bad B6 data` with an LF: the line's number, counted from 1, and
-/// the cause's number and word. `out` is as it was where memory is refused.
+/// Appends the report of a bad line, `line 3 bad B6 data` with an LF: the line's number, counted from 1, and the
+/// cause's number and word. If memory is refused, `out` is unchanged.
 ///
 /// ```rust
 /// let mut text = Vec::new(alloc);
@@ -88,8 +87,8 @@ pub fn bad_text(
 }
 
 /// Appends the report of a broken group, `line 3 broken pgn 130820 src 5 dst 255 seq 3 first 1` with an LF: the number
-/// of the line that breaks it, what its frames have in common, and the line that opened it. `out` is as it was where
-/// memory is refused.
+/// of the line that breaks it, the key of its frames, and the line that opened it. If memory is refused, `out` is
+/// unchanged.
 ///
 /// ```rust
 /// let group = Broken {
@@ -125,7 +124,7 @@ pub fn broken_text(
     out.extend_from_slice(text.as_slice())
 }
 
-/// The summary of a run. It takes no memory.
+/// The summary of a run. It needs no memory.
 #[tactic(auto, using(std::proofs::Common::append_assoc), unfolding(crate::specs::Reports::summary_text))]
 fn summary(counts: &Counts) -> Text
     ensures { result.items ≡ summary_text counts.now }
@@ -141,8 +140,8 @@ fn summary(counts: &Counts) -> Text
     text
 }
 
-/// Appends the summary of a run, `lines 3 messages 1 bad 0 unknown 0 broken 0 open 0` with an LF. `out` is as
-/// it was where memory is refused.
+/// Appends the summary of a run, `lines 3 messages 1 bad 0 unknown 0 broken 0 open 0` with an LF. If memory is refused,
+/// `out` is unchanged.
 ///
 /// ```rust
 /// let mut text = Vec::new(alloc);
@@ -157,8 +156,8 @@ pub fn summary_text(_alloc: Global, counts: &Counts, out: &mut Vec<u8>) -> Resul
     out.extend_from_slice(summary(counts).as_slice())
 }
 
-/// Writes the summary of a run to a device. It takes no memory, so nothing but a failure of the device cuts it; then a
-/// front of it has been written.
+/// Writes the summary of a run to a device. It needs no memory. If the device fails, a prefix of the summary has been
+/// written.
 ///
 /// ```rust
 /// let mut err = MemorySink::new(alloc, 4096, 0);

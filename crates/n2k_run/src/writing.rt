@@ -6,8 +6,8 @@ ghost use Rattle.n2k_run.specs.Writing.{AppendsFront};
 
 use crate::device::{Failed, Sink};
 
-/// Writes the whole text, by as many calls as the device needs. Where the device fails, a front of the text has
-/// been written. It can fail only where there is something to write.
+/// Writes the whole text, by as many calls as the device needs. If the device fails, a prefix of the text has been
+/// written. Writing an empty text can't fail.
 ///
 /// ```rust
 /// let mut sink = MemorySink::new(alloc, 1, 0);
@@ -28,8 +28,8 @@ pub fn write_all<W: Sink>(writer: &mut W, text: &[u8]) -> Result<(), Failed>
     Ok(())
 }
 
-/// Writes a text that has two parts, as `write_all` does. So it is of the lines of a block that have over 32,768 bytes:
-/// the first part may end inside a line.
+/// Writes a text of two parts, as `write_all` does. The lines of a block with over 32,768 bytes are such a text: the
+/// first part may end inside a line.
 #[tactic(auto, using(crate::proofs::Owed::both_parts, crate::proofs::Owed::front_of_first, crate::proofs::Owed::first_and_front, crate::proofs::Owed::some_first, crate::proofs::Owed::some_rest))]
 pub(crate) fn write_parts<W: Sink>(writer: &mut W, front: &[u8], rest: &[u8]) -> Result<(), Failed>
     ensures written { OnOk result (Appends (W.contents writer.old) (W.contents writer.new) (front.now ++ rest.now)) }

@@ -1,4 +1,4 @@
--- Fields behind no string.
+-- Fields before which there is no string.
 use Rattle.std.proofs.Common.{◌≡◌, ℕ, true, List, [], ◌∷◌, refl, sym, ap}
 use Rattle.std.proofs.lemmas.Bool.{false≢true}
 use Rattle.n2k_table.specs.declared.string_place.Step.{Step}
@@ -11,10 +11,10 @@ by_strings : (ss : List Step) (f : FieldParts) (payload : List ℕ) → inside_b
 by_strings [] f payload is = (refl, is)
 by_strings (s ∷ ss) f payload is = absurd (false≢true is)
 
--- a field that stands in the data behind no string
+-- a field in the data that no string precedes
 pub fixed : (f : FieldParts) (payload : List ℕ) → stands_inside f payload ≡ true → (f.behind ≡ []) × (lies_inside f payload ≡ true)
 fixed f payload is = by_strings f.behind f payload is
 
--- behind no string all of the data count
+-- if no string precedes, all of the data count
 pub shows_at_once : (f : FieldParts) (payload : List ℕ) → f.behind ≡ [] → shown_from f payload ≡ shown f payload
 shows_at_once f payload none = sym (ap (λ (ss : List Step). shown_if_there f (data_behind ss payload)) none)

@@ -12,7 +12,7 @@ use Rattle.n2k_table.specs.Decimal.{sign_of, IsDecimal, padded_digits, dotted, d
 use Rattle.n2k_table.specs.Inner.Digits.{zero_filled}
 use Rattle.n2k_table.proofs.Digits.{digits_value_after-append}
 
--- digits of n, at least e + 1 of them, and where there are more none of them leads as a zero
+-- digits of n, at least e + 1 of them, and if there are more, the first is not a zero
 record IsPadded (e n : ℕ) (ds : List ℕ) : Type 0 where
   digits : AllDigits 10 ds
   long : e + 1 ≤ length ds
@@ -52,7 +52,7 @@ shifted_le n (d ∷ ds) =
     let rest = shifted_le (n * 10 + digit_value d) ds in
     rw power (omega (arith, grown, rest))
 
--- so many digits, the first of which is no zero, make at least that power of ten
+-- so many digits, the first of them not a zero, make at least that power of ten
 leading_le : (ds : List ℕ) → AllDigits 10 ds → get_or ds 0 0 ≢ 48 → 0 < length ds → 10 ^ (length ds - 1) ≤ digits_value 10 ds
 leading_le [] all lead some = absurd (omega arith)
 leading_le (d ∷ ds) all lead some =

@@ -1,4 +1,4 @@
--- What stands in a JSON text for a byte.
+-- How JSON writes a byte of a text.
 use Rattle.std.proofs.Common.{◌≡◌, ℕ, suc, ◌+◌, ◌/◌, ◌%◌, ◌<◌, ◌≤◌, Bool, true, false, ◌&&◌, eqb, List, [], ◌∷◌, ◌++◌, length, get_or, drop, refl, sym, ap, ◌∙◌, arith}
 use lib.Utf8.{encode}
 use Rattle.std.specs.List.{list_all, flat_map}
@@ -14,7 +14,7 @@ use Rattle.n2k_table.specs.Inner.Line.{is_plain, is_plain_character}
 is_not : (b : ℕ) → is_plain b ≡ true → (32 ≤ b) × (eqb b 34 ≡ false) × (eqb b 92 ≡ false)
 is_not b h = grind arith
 
--- a plain byte stands for itself
+-- a plain byte is written as it is
 pub escape_byte-plain : (b : ℕ) → is_plain b ≡ true → escape_byte b ≡ b ∷ []
 unfolding escape_byte
 escape_byte-plain b h = grind (arith, is_not)
@@ -24,7 +24,7 @@ pub escape-plain : (text : List ℕ) → list_all is_plain text ≡ true → fla
 escape-plain [] h = refl
 escape-plain (b ∷ bs) h = grind (arith, escape-plain bs (and_parts (is_plain b) (list_all is_plain bs) h).1, escape_byte-plain)
 
--- a plain byte of ASCII is a character that stands for itself
+-- a plain byte of ASCII is a character that is written as it is
 escape_character-plain : (b : ℕ) → is_plain_character b ≡ true → flat_map escape_byte (character b) ≡ b ∷ []
 unfolding encode
 escape_character-plain b h = grind (arith, escape_byte-plain)
@@ -38,7 +38,7 @@ pub escape-character : (b : ℕ) → 128 ≤ b → b < 256 → flat_map escape_b
 unfolding encode
 escape-character b low high = grind (arith, escape_byte-plain)
 
--- the pairs after the first, each behind a space
+-- the pairs after the first, each after a space
 abbrev pub later_pairs : List ℕ → List ℕ
 later_pairs bytes = flat_map (λ b. 32 ∷ hex_pair b) bytes
 

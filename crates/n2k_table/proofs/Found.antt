@@ -18,7 +18,7 @@ pub first_found : (t : TableParts) (pgn : ℕ) (cs : List Candidate) (c : Candid
     → d ≡ get_or t.definitions c.place d → find (is_of pgn) t.definitions ≡ Some d
 first_found t pgn cs c d same first at = grind (arith, one_kind, first_place, first_inside)
 
--- a PGN's first definition is chosen where it passes
+-- a PGN's first definition is chosen if it passes
 first_passes : (q : DefinitionParts → Bool) (pgn : ℕ) (ds : List DefinitionParts) (d : DefinitionParts) → find (is_of pgn) ds ≡ Some d → q d ≡ true → find (λ e. is_of pgn e && q e) ds ≡ Some d
 first_passes q pgn [] d first passes = absurd cc
 first_passes q pgn (e ∷ ds) d first passes =

@@ -1,4 +1,4 @@
--- What stands in a line before the members, as the code appends it.
+-- The text of a line before the members, as the code appends it.
 use Rattle.std.proofs.Common.{◌≡◌, ℕ, zero, suc, ◌+◌, ◌-◌, ◌/◌, ◌%◌, ◌<◌, ◌≤◌, Bool, true, ◌&&◌, List, [], ◌∷◌, ◌++◌, IfSome, slice_index_or, take, drop, nat_lt, if◌then◌else◌, refl, sym, ap, ◌∙◌, codes, append_assoc, eq-zero-or-pos, arith, inl, inr, decimal}
 use Rattle.std.specs.List.{list_all, find, join_with_byte}
 use Rattle.std.proofs.lemmas.Bool.{and_parts}
@@ -99,7 +99,7 @@ found_number pgn payload (d ∷ ds) = grind (arith, found_number pgn payload ds)
 pub choice_number : (t : TableParts) (pgn : ℕ) (payload : List ℕ) → IfSome (choice t pgn payload) (λ (d : DefinitionParts). d.pgn ≡ pgn)
 choice_number t pgn payload = found_number pgn payload t.definitions
 
--- a stamp that stands for itself, between its quotes
+-- a stamp that needs no escape, between its quotes
 pub plain_time : (line stamp l1 l2 l3 : List ℕ) → list_all is_plain stamp ≡ true → l1 ≡ line ++ codes "{\"timestamp\":\"" → l2 ≡ l1 ++ stamp → l3 ≡ l2 ++ 34 ∷ []
     → l3 ≡ line ++ (codes "{\"timestamp\":" ++ text_json stamp)
 plain_time line stamp l1 l2 l3 plain p1 p2 p3 = rw (p3, p2, p1, text_json-plain stamp plain) (simp append_assoc)
@@ -107,7 +107,7 @@ plain_time line stamp l1 l2 l3 plain p1 p2 p3 = rw (p3, p2, p1, text_json-plain 
 pub two_parts : (line a b l1 l2 : List ℕ) → l1 ≡ line ++ a → l2 ≡ l1 ++ b → l2 ≡ line ++ (a ++ b)
 two_parts line a b l1 l2 p1 p2 = rw (p2, p1) (append_assoc line a b)
 
--- what holds of the first k and more bytes, and of those behind the first k, holds of all
+-- what holds of the first k and more bytes, and of those after the first k, holds of all
 all_overlap : (p : ℕ → Bool) (k n : ℕ) (xs : List ℕ) → k ≤ n → list_all p (take n xs) ≡ true → list_all p (drop k xs) ≡ true → list_all p xs ≡ true
 all_overlap p zero n xs le first last = last
 all_overlap p (suc k) n [] le first last = refl
@@ -118,7 +118,7 @@ all_usual_plain : (xs : List ℕ) → list_all is_usual xs ≡ true → list_all
 all_usual_plain [] all = refl
 all_usual_plain (x ∷ xs) all = grind (arith, all_usual_plain xs)
 
--- a stamp of usual bytes stands for itself
+-- a stamp of usual bytes needs no escape
 pub usual_stamp : (stamp first last : List ℕ) (k : ℕ) → k ≤ 16 → first ≡ take 16 stamp → last ≡ drop k stamp
     → (list_all is_usual first && list_all is_usual last) ≡ true → list_all is_plain stamp ≡ true
 usual_stamp stamp first last k few is_first is_last all =

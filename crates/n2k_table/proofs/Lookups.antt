@@ -14,12 +14,12 @@ use Rattle.n2k_table.specs.Lookup.{LookupParts, is_same_lookup}
 use Rattle.n2k_table.specs.Inner.Entries.{AreNamed, apart}
 use Rattle.n2k_table.proofs.Names.{twice_here, once_more}
 
--- the lookups of a map, where it is given how a lookup is seen
+-- the lookups of a map, given how a lookup is seen
 abbrev pub lookups_in : {R : Type 0} → (R → LookupParts) → List (String Global × R) → List LookupParts
 lookups_in value entries = map (λ e. value e.1) entries
 
 module _ {R : Type 0} (value : R → LookupParts) where
-  -- what is found behind a reference
+  -- what a reference leads to
   copied : (r : Option (Bor R)) → option_map (λ x. value x.now) r ≡ option_map value (option_copied r)
   copied r = grind arith
 
@@ -29,12 +29,12 @@ module _ {R : Type 0} (value : R → LookupParts) where
   find-named q [] named = refl
   find-named q (e ∷ es) named = grind (arith, find-named q es named.1)
 
-  -- the same of what the map answers
+  -- the same of what the map returns
   pub found-named : (r : Option (Bor R)) (q : List ℕ) (es : List (String Global × R)) → option_copied r ≡ value_at (λ k. bytes_eq q (string_bytes k)) es → AreNamed value es
       → option_map (λ x. value x.now) r ≡ find (λ l. bytes_eq q l.name) (lookups_in value es)
   found-named r q es is named = copied r ∙ ap (option_map value) is ∙ find-named q es named
 
-  -- a name has a lookup where it is among the names
+  -- a name has a lookup if it is among the names
   pub is_some-named : (l : LookupParts) (name : String Global) (es : List (String Global × R)) → AreNamed value es → string_bytes name ≡ l.name
       → is_some (value_at (string_eq name) es) ≡ list_any (is_same_lookup l) (lookups_in value es)
   is_some-named l name [] named is = refl

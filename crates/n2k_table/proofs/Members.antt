@@ -9,7 +9,7 @@ use Rattle.n2k_table.specs.Text.{text_json}
 use Rattle.n2k_table.proofs.Escapes.{text_json-plain}
 use Rattle.n2k_table.specs.Inner.Line.{has_members, member_text}
 
--- members with a comma before each, but for the first where none stands before
+-- members with a comma before each, except the first if no member precedes
 abbrev pub members_from : Bool → List (List ℕ) → List ℕ
 members_from later [] = []
 members_from later (m ∷ ms) = member_text later (Some m) ++ members_from true ms
@@ -35,7 +35,7 @@ pub is_done : (empty later : Bool) (rest : List FieldParts) (payload line total 
 is_done empty later [] payload line total none so_far = sym (append-nil line) ∙ so_far
 is_done empty later (f ∷ fs) payload line total none so_far = absurd (omega arith)
 
--- one more member behind some
+-- one more member after some
 pub joined_more : (ms : List (List ℕ)) (m : List ℕ) → join_with_byte 44 (ms ++ m ∷ []) ≡ join_with_byte 44 ms ++ member_text (has_members ms) (Some m)
 joined_more [] m = refl
 joined_more (x ∷ []) m = refl
@@ -63,7 +63,7 @@ pub last_parts : (line sets l1 l2 l3 : List ℕ) (later : Bool) → l1 ≡ line 
     → l3 ≡ line ++ member_text later (Some (text_json list_name ++ colon ∷ (codes "[" ++ sets ++ codes "]")))
 last_parts line sets l1 l2 l3 later p1 p2 p3 = grind (arith, text_json-plain, append_assoc)
 
--- the fields of a message, and a last member behind them
+-- the fields of a message, and a last member after them
 pub with_last : (ms : List (List ℕ)) (m line l1 l2 : List ℕ) (later : Bool) → l1 ≡ line ++ join_with_byte 44 ms → later ≡ has_members ms → l2 ≡ l1 ++ member_text later (Some m)
     → l2 ≡ line ++ join_with_byte 44 (ms ++ m ∷ [])
 with_last ms m line l1 l2 later p1 flag p2 = rw (p2, flag, p1, joined_more ms m) (append_assoc line (join_with_byte 44 ms) (member_text (has_members ms) (Some m)))

@@ -21,7 +21,7 @@ name_of_value-entry_pair value (e ∷ es) =
       | inr other ↦ rw other (name_of_value-entry_pair value es)
     ]
 
--- a value that neither the entry at a place has, nor one behind it
+-- a value that no entry from a place on has
 pub none_from : {R : Type 0} (es : List (ℕ × R)) (at value : ℕ) (e : ℕ × R) → Some e ≡ slice_get es at → e.0 < value → value_at (nat_eq value) (drop (at + 1) es) ≡ None
     → value_at (nat_eq value) (drop at es) ≡ None
 none_from [] at value e here less none = grind arith
@@ -51,7 +51,7 @@ module _ (name : List ℕ) where
 abbrev pub values : List (ℕ × List ℕ) → List ℕ
 values entries = map (λ e. e.0) entries
 
--- a value has a name where it is among the values
+-- a value has a name if it is among the values
 pub is_some-among : (value : ℕ) (es : List (ℕ × List ℕ)) → is_some (value_at (nat_eq value) es) ≡ list_any (nat_eq value) (values (map entry_pair es))
 is_some-among value [] = refl
 is_some-among value (e ∷ es) =
@@ -72,7 +72,7 @@ module _ {X : Type 0} (same : X → X → Bool) (turned : (a b : X) → same a b
   any_later k v [] rest is = rw is refl
   any_later k v (x ∷ xs) rest is = rw (any_later k v xs rest is) (or_true (same k x))
 
-  -- one that is the same as one before it stands twice
+  -- one that is the same as an earlier one comes twice
   pub twice_here : (v : X) (ks rest : List X) → list_any (same v) ks ≡ true → has_duplicate same (ks ++ v ∷ rest) ≡ true
   twice_here v [] rest among = absurd (false≢true among)
   twice_here v (k ∷ ks) rest among =

@@ -1,4 +1,4 @@
--- All definitions of a PGN name the kind of the PGN, where none are mixed.
+-- All definitions of a PGN name the kind of the PGN if none are mixed.
 use Rattle.std.proofs.Common.{◌≡◌, ℕ, Bool, true, false, ◌<◌, List, [], ◌∷◌, length, get_or, drop, Option, Some, is_some, option_map, All, refl, sym, ap, ◌∙◌, inl, inr, arith}
 use Rattle.std.specs.List.{list_any, find, AllByRecursion}
 use Rattle.std.proofs.lemmas.Bool.{cases_Bool, or_parts}
@@ -33,7 +33,7 @@ kinds_agree (e ∷ ds) pure = grind (arith, each_one e ds ds (kinds_agree ds (or
 pub one_kind : (t : TableParts) → has_duplicate are_mixed t.definitions ≡ false → All (λ d. kind t d.pgn ≡ Some d.kind) t.definitions
 one_kind t pure = All-from_recursion (λ d. kind t d.pgn ≡ Some d.kind) t.definitions (kinds_agree t.definitions pure)
 
--- ---- the first of a PGN stands for all of it: a definition is mixed with another where one differs from the first
+-- ---- the first of a PGN decides for all of it: a definition is mixed with another if one differs from the first
 
 differs-none : (o : Option DefinitionParts) (d : DefinitionParts) → option_map (λ (e : DefinitionParts). e.kind) o ≡ Some d.kind → differs_from o d ≡ false
 differs-none o d known = grind arith
@@ -42,7 +42,7 @@ none_differ : (all ds : List DefinitionParts) → AllByRecursion (λ d. kind_in 
 none_differ all [] known = refl
 none_differ all (d ∷ ds) known = rw (differs-none (find (is_of d.pgn) all) d known.0, none_differ all ds known.1) refl
 
--- a definition stands among those that it is one of, so a first of its PGN does
+-- a definition is among those that it is one of, so a first of its PGN is
 found_more : (e : DefinitionParts) (rest ds : List DefinitionParts) → AllByRecursion (λ d. is_some (find (is_of d.pgn) rest) ≡ true) ds
     → AllByRecursion (λ d. is_some (find (is_of d.pgn) (e ∷ rest)) ≡ true) ds
 found_more e rest [] found = tt

@@ -1,4 +1,4 @@
--- A JSON line is one line: no byte below the space stands before the line feed at its end.
+-- A JSON line is one line: it contains no byte below the space before the line feed at its end.
 use Rattle.std.proofs.Common.{◌≡◌, ℕ, zero, suc, ◌+◌, ◌-◌, ◌/◌, ◌%◌, ◌≤◌, Bool, true, false, List, [], ◌∷◌, ◌++◌, length, take, drop, replicate, map, refl, sym, arith, append_assoc, Option, Some, None, option_to_list, ◌==◌, nat_le, codes, decimal, filter_map, if◌then◌else◌, ℤ}
 use Rattle.std.specs.List.{AllByRecursion, list_all, join_with_byte}
 use Rattle.std.specs.Fmt.{digit_glyph, digits_onto, digits}

@@ -21,7 +21,7 @@ length_padded n e = grind (arith, length-append, length-replicate)
 before_placed : (ds behind : List ℕ) (k : ℕ) → k ≤ length ds → k ≤ 24 → take k (take 24 (ds ++ behind)) ≡ take k ds
 before_placed ds behind k le few = take-take k 24 (ds ++ behind) few ∙ take-append-le k ds behind le
 
--- the dot and those behind it
+-- the dot and the digits after it
 behind_placed : (ds behind : List ℕ) (k e : ℕ) → k + e ≡ length ds → 0 < e → e + 1 ≤ 24 → take (e + 1) (take 24 (46 ∷ drop k (ds ++ behind))) ≡ after_dot (drop k ds)
 behind_placed ds behind k e len some few = grind (arith, length-drop k ds, take-take (e + 1) 24 (46 ∷ drop k (ds ++ behind)) few, drop-append-le k ds behind (omega arith), take_at)
 

@@ -89,7 +89,7 @@ pub got : {R : Type 0} (view : R → DefinitionParts) (r : Option R) (ds : List 
     → IfSome r (λ x. view x ≡ get_or ds i (view x)) → option_map view r ≡ slice_get ds i
 got view r ds i there at = grind (arith, slice_get_past, slice_get-get_or)
 
--- the first definition of a PGN stands at the first of its places
+-- the first definition of a PGN is at the first of its places
 pub first_is : (pgn : ℕ) (ds : List DefinitionParts) (is : List ℕ) (i : ℕ) → is ≡ places pgn (pgns ds) → slice_get is 0 ≡ Some i → slice_get ds i ≡ find (is_of pgn) ds
 first_is pgn ds is i same first = grind (arith, first_within is i (length ds) first (places_within is pgn ds same), slice_get_cases ds i, one_kind)
 
@@ -128,7 +128,7 @@ candidate_here q ds cs k c e d lt is within at = grind (arith, length-map, get_o
 passed : (q : DefinitionParts → Bool) (rest o : Option DefinitionParts) → ((d : DefinitionParts) → o ≡ Some d → q d ≡ false) → option_map_or (λ d. cond (q d) (Some d) rest) o rest ≡ rest
 passed q rest o fails = grind arith
 
--- a candidate whose definition doesn't pass is no answer
+-- a candidate whose definition doesn't pass is not chosen
 pub passed_over : (q : DefinitionParts → Bool) (ds : List DefinitionParts) (cs : List Candidate) (k : ℕ) (c e : Candidate) → k < length cs → c ≡ get_or cs k e
     → ((d : DefinitionParts) → slice_get ds c.place ≡ Some d → q d ≡ false) → first_at q ds (drop k (places_of cs)) ≡ first_at q ds (drop (k + 1) (places_of cs))
 passed_over q ds cs k c e lt is fails = grind (arith, get_or-map (λ (x : Candidate). x.place) cs k e 0 lt, drop_more (places_of cs) k 0 (omega (arith, lt, (length-map cs (λ (x : Candidate). x.place)))))

@@ -140,7 +140,7 @@ raw_four_bytes d four f small is =
     let none : raw d (8 * f + 8 * (3 + 1)) 0 ≡ 0 = refl in
     rw (at 0 (lit< tt), at 1 (lit< tt), at 2 (lit< tt), at 3 (lit< tt)) (omega (arith, ap (λ p. raw d p 32) start, next 0 24, next 1 16, next 2 8, next 3 0, none))
 
--- bits behind the first bytes
+-- bits after the first bytes
 pub raw_drop : (d : List ℕ) (f a n : ℕ) → raw (drop f d) a n ≡ raw d (8 * f + a) n
 unfolding raw
 raw_drop d f a zero = refl

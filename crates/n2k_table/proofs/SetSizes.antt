@@ -12,7 +12,7 @@ pub no_strings : (fs : List FieldParts) (set : List ℕ) → list_any (λ f. is_
 no_strings [] set none = refl
 no_strings (f ∷ fs) set none = grind (arith, no_strings fs set)
 
--- so where there are none, all that there is is left
+-- so if there are none, all bytes are left
 pub all_left : (fs : List FieldParts) (set : List ℕ) (room : ℕ) → list_any (λ f. is_string f.meaning) fs ≡ false → Some room ≡ left_beside room (strings_size fs set)
 all_left fs set room none = grind (arith, no_strings)
 
@@ -54,14 +54,14 @@ same_step : (r : RepeatParts) (a b : ℕ) (bytes : List ℕ) (o : Option ℕ) �
     → ((bs : List ℕ) → length bs ≤ a → length bs ≤ b → sets_from r a bs ≡ sets_from r b bs) → sets_from r (suc a) bytes ≡ sets_from r (suc b) bytes
 same_step r a b bytes o e some la lb rest = grind (arith, length-drop)
 
--- It does not matter how many there may be, where these are as many as bytes.
+-- It does not matter how many there may be, if these are as many as bytes.
 enough : (r : RepeatParts) → HasByte r → (a b : ℕ) (bytes : List ℕ) → length bytes ≤ a → length bytes ≤ b → sets_from r a bytes ≡ sets_from r b bytes
 enough r some zero zero bytes la lb = refl
 enough r some zero (suc b) bytes la lb = none_of_nothing r b bytes (set_size r bytes) refl some la
 enough r some (suc a) zero bytes la lb = sym (none_of_nothing r a bytes (set_size r bytes) refl some lb)
 enough r some (suc a) (suc b) bytes la lb = same_step r a b bytes (set_size r bytes) refl some la lb (λ bs. enough r some a b bs)
 
--- a set, and those behind it
+-- a set, and the sets after it
 pub one_set : (r : RepeatParts) (bytes : List ℕ) (n : ℕ) → HasByte r → set_size r bytes ≡ Some n → take n bytes ∷ sets_in r (drop n bytes) ≡ sets_in r bytes
 one_set r [] n some e = grind arith
 one_set r (b ∷ bs) n some e = grind (arith, length-drop, enough)

@@ -1,4 +1,4 @@
--- Places behind strings, as far as the table says them.
+-- Places after strings, as far as the table says them.
 use Rattle.std.proofs.Common.{◌≡◌, ℕ, ◌+◌, ◌≤◌, List, [], ◌∷◌, ◌++◌, refl, arith}
 use Rattle.n2k_table.specs.declared.string_place.Step.{Step}
 use Rattle.n2k_table.specs.Field.{fixed_place}
@@ -17,11 +17,11 @@ pub not_before : (ss : List Step) (at : ℕ) → at ≤ fixed_place ss at
 not_before [] at = omega arith
 not_before (s ∷ ss) at = omega (arith, not_before ss (s.at + at))
 
--- one more string behind the others
+-- one more string after the others
 pub one_more : (ss : List Step) (s : Step) (at : ℕ) → fixed_place (ss ++ s ∷ []) at ≡ s.at + fixed_place ss at
 one_more [] s at = refl
 one_more (t ∷ ss) s at = one_more ss s (t.at + at)
 
--- what stands behind a string begins no later than where that ends
+-- what follows a string begins no later than where the string ends
 pub behind_string : (steps ss : List Step) (s : Step) → steps ≡ ss ++ s ∷ [] → fixed_place steps 0 ≤ fixed_place ss s.at
 behind_string steps ss s is = grind (arith, one_more, from_beginning)

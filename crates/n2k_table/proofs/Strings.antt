@@ -87,7 +87,7 @@ pub paired : (u v : ℕ) (us : List ℕ) → (is_high_surrogate u && is_low_surr
 unfolding utf16_chars
 paired u v us is = rw is refl
 
--- a unit before one with which it is no pair, and the last unit
+-- a unit before one with which it does not pair, and the last unit
 pub alone : (u v : ℕ) (us : List ℕ) → (is_high_surrogate u && is_low_surrogate v) ≡ false → utf16_lossy_chars (u ∷ v ∷ us) ≡ unwrap_or (lone_unit_char u) 0xFFFD ∷ utf16_lossy_chars (v ∷ us)
 unfolding utf16_chars
 alone u v us isnt = rw isnt refl

@@ -10,7 +10,7 @@ use Rattle.n2k_table.specs.Decimal.{after_dot, padded_digits, dotted}
 use Rattle.n2k_table.specs.Inner.Digits.{values_word}
 use Rattle.n2k_table.proofs.Placed.{length_padded}
 
--- ---- the last k digits of a number, where z stands for `0`
+-- ---- the last k digits of a number, with z for `0`
 
 abbrev last_of : ℕ → ℕ → ℕ → List ℕ
 last_of z zero n = []
@@ -150,7 +150,7 @@ zeros_before n some small =
     ap (count_trailing_zeros 64) word ∙ ap (λ k. count_trailing_zeros k (word_of (replicate z 0 ++ d ∷ first.rest))) bits ∙ leading_zeros_of z (64 - 8 * z) (d ∷ first.rest) in
     omega (arith, all, few)
 
--- what is skipped stands before the digits, and what is left are as many zeros as the decimals ask for
+-- what is skipped precedes the digits, and what is left are as many zeros as the decimals ask for
 abbrev AreSkipped : ℕ → ℕ → ℕ → Type 0
 AreSkipped n e skipped = (skipped + length (decimal n) ≤ 8) × (8 - length (decimal n) - skipped ≡ e + 1 - length (decimal n))
 
@@ -165,7 +165,7 @@ are_skipped n e skipped small short least =
       | inr some ↦ (omega (arith, few, least, zeros_before n some small), omega (arith, few, short, least, zeros_before n some small))
     ]
 
--- what is stored of a word: the digits before the dot, and those behind it
+-- what is stored of a word: the digits before the dot, and the digits after it
 pub short_is : (n e skipped word : ℕ) (front back : List ℕ) → n < 10 ^ 8 → e < 8 → word ≡ values_word n
     → skipped ≡ min (trailing_zeros w64 word / 8) (7 - e)
     → front ≡ to_le_bytes w64 ((word + noughts) / 2 ^ (8 * skipped))

@@ -14,12 +14,12 @@ dot = 46
 abbrev pub nought : ℕ
 nought = 48
 
--- a minus sign where x is below zero
+-- a minus sign if x is below zero
 abbrev pub sign_of : ℤ → List ℕ
 sign_of (pos n) = []
 sign_of (negsuc n) = minus ∷ []
 
--- a dot and the decimals, and nothing where there are none
+-- a dot and the decimals, and nothing if there are none
 abbrev pub after_dot : List ℕ → List ℕ
 after_dot [] = []
 after_dot (d ∷ ds) = dot ∷ d ∷ ds
@@ -39,7 +39,7 @@ pub record IsDecimal (x : ℤ) (e : ℕ) (text : List ℕ) : Type 0 where
   -- the digits without the dot make the size of x
   pub size : digits_value 10 (whole ++ decimals) ≡ unsigned_abs x
 
--- the digits of n, with zeros before them where they are fewer than e + 1
+-- the digits of n, with zeros before them if they are fewer than e + 1
 abbrev pub padded_digits : ℕ → ℕ → List ℕ
 padded_digits n e = replicate (e + 1 - length (decimal n)) nought ++ decimal n
 

@@ -18,7 +18,7 @@ use Rattle.n2k_table.specs.Field.{FieldParts}
 use Rattle.n2k_table.specs.Fields.{has_name, fields}
 use Rattle.n2k_table.specs.Repeat.{RepeatParts, repeat}
 
--- a definition: the PGN that it describes, how that is sent, its own fields in printing order, and what repeats behind
+-- a definition: the PGN that it describes, how that is sent, its own fields in printing order, and what repeats after
 -- them, if something does
 pub record DefinitionParts : Type 0 where
   pub pgn : ℕ
@@ -41,7 +41,7 @@ kind_of m = do
 abbrev pub list_name : List ℕ
 list_name = codes "list"
 
--- What repeats behind these fields, if something does. None of them is named as its member.
+-- The sets that follow these fields, if there are sets. None of the fields is named as their member.
 abbrev pub repeat_if_there : TableFormat → List LookupParts → List FieldParts → Option Data
     → Result (Option RepeatParts) TableFault
 repeat_if_there format lookups own None = Ok None

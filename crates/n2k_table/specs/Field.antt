@@ -44,7 +44,7 @@ most_lookup_bits = 32
 abbrev pub greatest_offset : ℕ
 greatest_offset = 4294967295
 
--- What the bits of a field mean: a number, in two's complement where it is signed, times its resolution; a number to
+-- What the bits of a field mean: a number, in two's complement if it is signed, times its resolution; a number to
 -- which an offset is added, times its resolution; a value that some names are given for; bits that some names are given
 -- for, by their numbers; a text; bytes as they are; bytes that are two decimal digits each; or a string, which says
 -- itself how long it is.
@@ -59,8 +59,8 @@ pub data Meaning : Type 0 where
   string : Form → Meaning
 
 -- a field: its name, its first bit in the message or in its set, how many bits it has, whether it may be short, the
--- strings behind which it stands, from the first on, what its bits mean, and the raw value that a message must have
--- there for the definition to be chosen, if it asks for one. Where it stands behind strings, its first bit counts from
+-- strings before it, from the first on, what its bits mean, and the raw value that a message must have
+-- there for the definition to be chosen, if it asks for one. If strings precede it, its first bit counts from
 -- the end of the last. A string has no bits of its own.
 pub record FieldParts : Type 0 where
   pub name : List ℕ
@@ -138,16 +138,16 @@ is_string _ = false
 abbrev pub is_string_named : List ℕ → FieldParts → Bool
 is_string_named name f = is_string f.meaning && bytes_eq name f.name
 
--- a string as one that others stand behind; nothing of another field
+-- a string as one before other fields; nothing of another field
 abbrev pub own_step : Meaning → ℕ → List Step
 own_step (string form) at = record { at = at; form = form } ∷ []
 own_step _ at = []
 
--- the strings behind which a field stands that stands behind this one, from the first on
+-- the strings before a field that follows this one, from the first on
 abbrev pub steps_through : FieldParts → List Step
 steps_through f = f.behind ++ own_step f.meaning f.at
 
--- the strings behind which stands what names a string of these fields, the first of the name
+-- the strings before a field that names a string of these fields, the first of the name
 abbrev pub steps_named : List FieldParts → Data → Result (List Step) TableFault
 steps_named before d = do
   spelled ← ok_or (as_str d) Key
@@ -155,7 +155,7 @@ steps_named before d = do
   earlier ← ok_or (find (is_string_named name) before) Lookup
   Ok (steps_through earlier)
 
--- The strings behind which a field stands by what is at `match` and at `after`, if something is. It names a string of
+-- The strings before a field by what is at `match` and at `after`, if something is. It names a string of
 -- those that were read before it. A field that asks for a value has a place of its own.
 abbrev pub steps_to : List FieldParts → Option Data → Option Data → Result (List Step) TableFault
 steps_to before asked None = Ok []
@@ -165,12 +165,12 @@ steps_to before None (Some d) = steps_named before d
 abbrev pub steps_of : List FieldParts → Members → Result (List Step) TableFault
 steps_of before f = steps_to before (get_member (codes "match") f) (get_member (codes "after") f)
 
--- where a place behind these strings would be if they took no bytes
+-- the place of a field after these strings if they took no bytes
 abbrev pub fixed_place : List Step → ℕ → ℕ
 fixed_place [] at = at
 fixed_place (s ∷ ss) at = fixed_place ss (s.at + at)
 
--- bits at a place behind strings don't end past the end, as far as the table says it
+-- bits after strings don't end past the end, as far as the table says it
 abbrev pub check_end : List Step → ℕ → ℕ → ℕ → Result (Unit {0}) TableFault
 check_end behind at bits end = holds_or Range (nat_le (fixed_place behind at + bits) end)
 
@@ -178,7 +178,7 @@ abbrev pub offset_in_range : ℤ → Result ℤ TableFault
 offset_in_range (pos n) = if nat_le n greatest_offset then Ok (pos n) else Err Range
 offset_in_range (negsuc n) = if nat_le n greatest_offset then Ok (negsuc n) else Err Range
 
--- What a number of that resolution means, by what stands at `offset`, if something does. A signed number has no offset.
+-- What a number of that resolution means, by the value of `offset`, if there is one. A signed number has no offset.
 abbrev pub offset_number : Bool → Resolution → Option Data → Result Meaning TableFault
 offset_number signed resolution None = Ok (number signed resolution)
 offset_number true resolution (Some d) = Err Key
@@ -253,7 +253,7 @@ match_value_of kind holder bits f =
 abbrev pub short_of : FieldKind → Holder → Members → Result Bool TableFault
 short_of kind holder f = if can_be_short kind holder then bool_at (codes "short") f else Ok false
 
--- the field of that name and at that place, by what else stands there, in a table of these lookups
+-- the field of that name and at that place, by its other keys, in a table of these lookups
 unfoldable pub field_at : List LookupParts → FieldKind → Holder → List ℕ → ℕ → ℕ → List Step → Members → Result FieldParts TableFault
 field_at lookups kind holder name at bits behind f = do
   meaning ← meaning_of lookups kind bits f
@@ -269,7 +269,7 @@ field_at lookups kind holder name at bits behind f = do
     match_value = match_value;
   })
 
--- the field that a value spells behind these, in a table of that format and of these lookups
+-- the field that a value spells after these, in a table of that format and of these lookups
 unfoldable pub field : TableFormat → Holder → List LookupParts → List FieldParts → Data → Result FieldParts TableFault
 field format holder lookups before d = do
   f ← as_members d

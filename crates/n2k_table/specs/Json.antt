@@ -29,7 +29,7 @@ abbrev pub flag_json : FlagParts → List ℕ
 flag_json (flag_name n) = text_json n
 flag_json (flag_bit i) = decimal i
 
--- what a field shows as a value; none where it is absent and absent fields are left out
+-- what a field shows as a value; none if it is absent and absent fields are left out
 abbrev pub value_json : Bool → ShownParts → Option (List ℕ)
 value_json empty absent = if empty then Some (codes "null") else None
 value_json empty (number value decimals) = Some (dec value decimals)
@@ -61,7 +61,7 @@ object ms = codes "{" ++ join_with_byte comma ms ++ codes "}"
 abbrev pub set_json : Bool → List (List ℕ × ShownParts) → List ℕ
 set_json empty set = object (members empty set)
 
--- the sets as a member: an array of one object for each, also where there is none
+-- the sets as a member: an array of one object for each, also if there is none
 abbrev pub list_json : Bool → List (List (List ℕ × ShownParts)) → List ℕ
 list_json empty sets = text_json list_name ++ colon ∷ array (map (set_json empty) sets)
 
@@ -82,7 +82,7 @@ id_json id =
     ++ codes ",\"dst\":" ++ decimal id.dst
     ++ codes ",\"pgn\":" ++ decimal id.pgn
 
--- what stands before the fields, of a description as JSON
+-- the text before the fields, of a description as JSON
 unfoldable pub head_json : List ℕ → PacketParts → List ℕ
 head_json description_json m =
     codes "{\"timestamp\":" ++ text_json m.stamp

@@ -30,7 +30,7 @@ pub record LookupParts : Type 0 where
   pub name : List ℕ
   pub entries : List (ℕ × List ℕ)
 
--- the name of a value, where it has one
+-- the name of a value, if it has one
 abbrev pub name_of_value : List (ℕ × List ℕ) → ℕ → Option (List ℕ)
 name_of_value entries value = value_at (nat_eq value) entries
 
@@ -51,7 +51,7 @@ entry d = do
   name ← checked_text pair.1
   Ok (value, name)
 
--- No value stands twice.
+-- No value comes twice.
 abbrev pub once : List (ℕ × List ℕ) → Result (List (ℕ × List ℕ)) TableFault
 once entries = do
   differ ← holds_or Twice (not (has_duplicate nat_eq (map (λ e. e.0) entries)))
@@ -75,7 +75,7 @@ lookup d = do
 abbrev pub is_same_lookup : LookupParts → LookupParts → Bool
 is_same_lookup a b = bytes_eq a.name b.name
 
--- the lookups of the top level, none where it has no key `lookup`
+-- the lookups of the top level, none if it has no key `lookup`
 unfoldable pub lookups : Members → Result (List LookupParts) TableFault
 lookups top = do
   ds ← elements_or_none most_lookups (get_member (codes "lookup") top)

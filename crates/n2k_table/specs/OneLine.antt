@@ -1,7 +1,7 @@
 -- What it is to be one line.
 use Rattle.std.specs.Prelude.{◌≡◌, ◌≤◌, ℕ, All, List, [], ◌∷◌, ◌++◌}
 
--- The text is one line: it ends in a line feed, and before that stands no byte below the space.
+-- The text is one line: it ends in a line feed, and contains no other byte below the space.
 pub record IsOneLine (text : List ℕ) : Type 0 where
   pub front : List ℕ
   pub spelled : text ≡ front ++ 10 ∷ []

@@ -20,7 +20,7 @@ each_by_earlier read before (d ∷ ds) = do
   x ← read before d
   each_by_earlier read (before ++ x ∷ []) ds
 
--- What a reader answers, seen by view, is what reading gives, unless memory ran out.
+-- What a reader returns, seen by view, is what reading gives, unless memory ran out.
 abbrev pub ReaderGives : {X Y : Type 0} → (X → Y) → Result X TableFault → Result Y TableFault → Type 0
 ReaderGives view (Ok x) read = read ≡ Ok (view x)
 ReaderGives view (Err fault) read = fault ≢ Memory → read ≡ Err fault

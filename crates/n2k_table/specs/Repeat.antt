@@ -1,4 +1,4 @@
--- What repeats in a message: a set of fields that stands again and again, one behind the other, as often as it lies
+-- What repeats in a message: a set of fields, one after the other, as often as it lies
 -- wholly in the data.
 use Rattle.std.specs.Prelude.{ℕ, zero, suc, ◌+◌, ◌/◌, Bool, ◌||◌, nat_le, List, [], ◌∷◌, length, map, take, drop}
 use Rattle.std.specs.Prelude.{Option, Some, None, option_map, unwrap_or, Result, Ok, if◌then◌else◌, codes}
@@ -20,8 +20,8 @@ use Rattle.n2k_table.specs.Fields.{fields}
 use Rattle.n2k_table.specs.Shown.{ShownParts, all_shown}
 
 -- What repeats: the first bit of the first set, the bits of a set beside those of its strings, the strings of the
--- message behind which the sets stand, from the first on, and the fields of a set, whose places count from the set's
--- first bit. Where the sets stand behind strings, their first bit counts from the end of the last.
+-- message before the sets, from the first on, and the fields of a set, whose places count from the set's
+-- first bit. If strings precede the sets, their first bit counts from the end of the last.
 pub record RepeatParts : Type 0 where
   pub at : ℕ
   pub bits : ℕ
@@ -34,7 +34,7 @@ abbrev pub own_bytes : Meaning → ℕ → Option (List ℕ) → Option ℕ
 own_bytes (string form) at rest = option_and_then (λ bytes. taken form (drop (at / 8) bytes)) rest
 own_bytes _ at rest = Some 0
 
--- how many bytes the strings of a set have, if each is proper, where the set begins with the first of these bytes
+-- how many bytes the strings of a set have, if each is proper and the set begins with the first of these bytes
 abbrev pub strings_size : List FieldParts → List ℕ → Option ℕ
 strings_size [] bytes = Some 0
 strings_size (f ∷ fs) bytes =
@@ -49,7 +49,7 @@ if_inside n all = if nat_le n all then Some n else None
 abbrev pub set_size : RepeatParts → List ℕ → Option ℕ
 set_size r bytes = option_and_then (λ n. if_inside (r.bits / 8 + n) (length bytes)) (strings_size r.fields bytes)
 
--- the sets with which these bytes begin, so many at most: one behind the other, up to the first that does not lie
+-- the sets with which these bytes begin, so many at most: one after the other, up to the first that does not lie
 -- wholly in the bytes
 abbrev pub sets_from : RepeatParts → ℕ → List ℕ → List (List ℕ)
 sets_from r zero bytes = []
@@ -61,7 +61,7 @@ sets_from r (suc most) bytes =
 abbrev pub sets_in : RepeatParts → List ℕ → List (List ℕ)
 sets_in r bytes = sets_from r (length bytes) bytes
 
--- the data from the first set on: none where a string before them has no end
+-- the data from the first set on: none if a string before them has no end
 abbrev pub from_first : RepeatParts → List ℕ → List ℕ
 from_first r payload = drop (r.at / 8) (unwrap_or (data_behind r.behind payload) [])
 
@@ -81,7 +81,7 @@ least_set_bits format = if is_extended format then 0 else 1
 abbrev pub has_some : ℕ → List FieldParts → Bool
 has_some bits all = nat_le 1 bits || list_any (λ f. is_string f.meaning) all
 
--- The repeat that a value spells behind these fields of a message, in a table of that format and of these lookups. Its
+-- The repeat that a value spells after these fields of a message, in a table of that format and of these lookups. Its
 -- fields end within a set.
 unfoldable pub repeat : TableFormat → List LookupParts → List FieldParts → Data → Result RepeatParts TableFault
 repeat format lookups own d = do

@@ -19,7 +19,7 @@ use Rattle.n2k_table.specs.Field as means
 use Rattle.n2k_table.specs.Lookup.{name_of_value}
 use Rattle.n2k_table.specs.Strings.{data_behind, content, units, is_filling_unit}
 
--- a bit that is 1, by its name, or by its number where it has none
+-- a bit that is 1, by its name, or by its number if it has no name
 pub data FlagParts : Type 0 where
   flag_name : List ℕ → FlagParts
   flag_bit : ℕ → FlagParts
@@ -46,16 +46,16 @@ flag_of i (Some found) = flag_name found
 abbrev pub flag : List (ℕ × List ℕ) → ℕ → FlagParts
 flag entries i = flag_of i (name_of_value entries i)
 
--- what is left of the bits that the code answers one by one: those of a raw value from the next to the end
+-- what is left of the bits that the code returns one by one: those of a raw value from the next to the end
 abbrev pub flags_left : Flags → List FlagParts
 flags_left f = map (flag f.lookup.now.entries) (bits_set f.raw f.next (f.end - f.next))
 
--- a bit that the code answers, as such a part
+-- a bit that the code returns, as such a part
 abbrev pub flag_parts : Flag → FlagParts
 flag_parts (bit.Name n) = flag_name n.now
 flag_parts (bit.Bit i) = flag_bit i
 
--- what the code answers, as such parts
+-- what the code returns, as such parts
 abbrev pub shown_parts : Shown → ShownParts
 shown_parts code.Absent = absent
 shown_parts (code.Number value decimals) = number value decimals
@@ -109,12 +109,12 @@ shown_flags entries n r = if has_no_flags n r then absent else flags (map (flag 
 abbrev pub is_filling : ℕ → Bool
 is_filling b = b == 0 || b == 255 || b == 64 || b == 32
 
--- bytes up to the last that is no filling
+-- bytes up to the last that is not filler
 abbrev pub trimmed_of : (ℕ → Bool) → List ℕ → List ℕ
 trimmed_of fills [] = []
 trimmed_of fills (b ∷ bs) = if list_all fills (b ∷ bs) then [] else b ∷ trimmed_of fills bs
 
--- a text up to its last byte that is no filling
+-- a text up to its last byte that is not filler
 abbrev pub trimmed : List ℕ → List ℕ
 trimmed bs = trimmed_of is_filling bs
 
@@ -123,12 +123,12 @@ abbrev pub shown_text : List ℕ → ShownParts
 shown_text [] = absent
 shown_text (b ∷ bs) = text (b ∷ bs)
 
--- the characters of a string that is not all filling: of UTF-8 where they are that, and else each byte is one
+-- the characters of a string that is not all filler: of UTF-8 if they are valid UTF-8, else each byte is one
 abbrev pub shown_characters : List ℕ → ShownParts
 shown_characters [] = absent
 shown_characters (b ∷ bs) = if is_utf8 (b ∷ bs) then utf8 (b ∷ bs) else text (b ∷ bs)
 
--- the bytes of UTF-16 up to the last unit that is no filling
+-- the bytes of UTF-16 up to the last unit that is not filler
 abbrev pub trimmed_units : List ℕ → List ℕ
 trimmed_units bs = take (2 * length (trimmed_of is_filling_unit (units bs))) bs
 
@@ -137,24 +137,24 @@ abbrev pub shown_wide : List ℕ → ShownParts
 shown_wide [] = absent
 shown_wide (b ∷ bs) = wide (b ∷ bs)
 
--- characters behind a byte that names their encoding: 0 is UTF-16, 1 is bytes, and of another nothing is shown
+-- characters after a byte for their encoding: 0 is UTF-16, 1 is bytes, and of another nothing is shown
 abbrev pub shown_encoded : List ℕ → ShownParts
 shown_encoded [] = absent
 shown_encoded (e ∷ cs) =
     if e == 0 then shown_wide (trimmed_units cs) else if e == 1 then shown_characters (trimmed cs) else absent
 
--- what stands in a string behind its length
+-- the bytes of a string after its length
 abbrev pub shown_content : Form → Option (List ℕ) → ShownParts
 shown_content form None = absent
 shown_content Lau (Some bs) = shown_encoded bs
 shown_content Lz (Some bs) = shown_characters (trimmed bs)
 
--- A string, of the bytes from its length on. One that goes on behind them shows nothing, and a short one what is there.
+-- A string, of the bytes from its length on. If it goes on after them it shows nothing; a short one shows what is there.
 abbrev pub shown_string : Form → Bool → List ℕ → ShownParts
 shown_string form short [] = absent
 shown_string form short (l ∷ bs) = shown_content form (content form short l bs)
 
--- a byte that stands behind digits
+-- a byte that follows digits
 abbrev pub is_no_digit : ℕ → Bool
 is_no_digit b = b == 255
 
@@ -189,13 +189,13 @@ shown_inside (means.string form) f payload = shown_string form f.short (drop (f.
 abbrev pub begins_inside : FieldParts → List ℕ → Bool
 begins_inside f payload = nat_lt f.at (8 * length payload)
 
--- what these bytes show of a text or of bytes that go on behind them
+-- what these bytes show of a text or of bytes that go on after them
 abbrev pub shown_front : Meaning → List ℕ → ShownParts
 shown_front means.text front = shown_text (trimmed front)
 shown_front means.bytes front = bytes front
 shown_front _ front = absent
 
--- what a field shows that ends behind the data: a short one what is there of it
+-- what a field shows that ends after the data: a short field shows the part that is there
 abbrev pub shown_part : FieldParts → List ℕ → ShownParts
 shown_part f payload =
     if f.short && begins_inside f payload then shown_front f.meaning (drop (f.at / 8) payload) else absent
@@ -204,12 +204,12 @@ shown_part f payload =
 abbrev pub shown_from : FieldParts → List ℕ → ShownParts
 shown_from f rest = if lies_inside f rest then shown_inside f.meaning f rest else shown_part f rest
 
--- nothing where a string before it has no end
+-- nothing if a string before it has no end
 abbrev pub shown_if_there : FieldParts → Option (List ℕ) → ShownParts
 shown_if_there f None = absent
 shown_if_there f (Some rest) = shown_from f rest
 
--- what a field shows of the data, of which those count that stand behind the strings before it
+-- what a field shows of the data, which count from the end of the strings before it
 abbrev pub shown : FieldParts → List ℕ → ShownParts
 shown f payload = shown_if_there f (data_behind f.behind payload)
 

@@ -1,4 +1,4 @@
--- Strings, which say themselves how long they are: where they end, and the bytes of their characters.
+-- Strings, which contain their own length: where they end, and the bytes of their characters.
 use Rattle.std.specs.Prelude.{ℕ, ◌+◌, ◌*◌, ◌-◌, ◌/◌, ◌==◌, Bool, ◌&&◌, ◌||◌, nat_le, List, [], ◌∷◌, length, take, drop}
 use Rattle.std.specs.Prelude.{flat_map, Option, Some, None, option_map, if◌then◌else◌}
 use Rattle.std.specs.Char.Utf16.{utf16_lossy_chars}
@@ -8,7 +8,7 @@ use Rattle.n2k_table.specs.declared.string_place.Form.TheVariants.{Lau, Lz}
 use Rattle.n2k_table.specs.declared.string_place.Step.{Step}
 use Rattle.n2k_table.specs.Text.{character}
 
--- How many of the bytes are a string that begins with the first of them, its length; none where it is not proper. Of
+-- How many of the bytes are a string that begins with the first of them, its length; none if it is not proper. Of
 -- the form `lau` the length counts itself, a byte that names the encoding, and the characters; of `lz` the characters
 -- alone.
 abbrev pub taken : Form → List ℕ → Option ℕ
@@ -16,11 +16,11 @@ taken form [] = None
 taken Lau (l ∷ bs) = if nat_le 2 l && nat_le l (length (l ∷ bs)) then Some l else None
 taken Lz (l ∷ bs) = if nat_le (1 + l) (length (l ∷ bs)) then Some (1 + l) else None
 
--- the bytes behind a string that begins with the first of them, if it has an end
+-- the bytes after a string that begins with the first of them, if it has an end
 abbrev pub behind_string : Form → List ℕ → Option (List ℕ)
 behind_string form bytes = option_map (λ n. drop n bytes) (taken form bytes)
 
--- the data from where a field's place counts: those behind the strings before it, if each of these has an end
+-- the data from where a field's place counts: after the strings before it, if each of these has an end
 abbrev pub data_behind : List Step → List ℕ → Option (List ℕ)
 data_behind [] payload = Some payload
 data_behind (s ∷ ss) payload = option_and_then (data_behind ss) (behind_string s.form (drop (s.at / 8) payload))
@@ -29,7 +29,7 @@ data_behind (s ∷ ss) payload = option_and_then (data_behind ss) (behind_string
 abbrev pub first_bytes : Bool → ℕ → List ℕ → Option (List ℕ)
 first_bytes short n bs = if short || nat_le n (length bs) then Some (take n bs) else None
 
--- what stands in a string behind its length l, of the bytes behind that
+-- the bytes of a string after its length l, of the bytes after that
 abbrev pub content : Form → Bool → ℕ → List ℕ → Option (List ℕ)
 content Lau short l bs = if nat_le 2 l then first_bytes short (l - 1) bs else None
 content Lz short l bs = first_bytes short l bs

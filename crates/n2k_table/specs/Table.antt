@@ -1,4 +1,4 @@
--- The table that bytes spell, or the first fault that stands in them, and what is looked up in it.
+-- The table that bytes spell, or their first fault, and what is looked up in it.
 use Rattle.std.specs.Prelude.{ℕ, Bool, true, false, not, ◌&&◌, ◌==◌, codes, List, [], ◌∷◌, Option, Some, None}
 use Rattle.std.specs.Prelude.{option_map}
 use Rattle.std.specs.Prelude.{Result, Ok, Err, if◌then◌else◌}
@@ -41,7 +41,7 @@ document bytes = if is_utf8 bytes then parse_document bytes else None
 abbrev pub newest_format : ℕ
 newest_format = 3
 
--- the format of a number that is no fault; any other value at `format`, and none, is one fault
+-- the format of a valid number; any other value at `format`, and none, is one fault
 abbrev pub as_format : Result ℕ TableFault → Result TableFormat TableFault
 as_format (Ok n) = Ok (if n == 1 then One else if n == 2 then Two else Three)
 as_format (Err fault) = Err Format
@@ -60,7 +60,7 @@ is_same_kind Fast Single = false
 abbrev pub are_mixed : DefinitionParts → DefinitionParts → Bool
 are_mixed a b = (a.pgn == b.pgn) && not (is_same_kind a.kind b.kind)
 
--- the definitions of a top level of that format, in a table of these lookups; none where it has no key `pgn`
+-- the definitions of a top level of that format, in a table of these lookups; none if it has no key `pgn`
 unfoldable pub definitions : TableFormat → List LookupParts → Members → Result (List DefinitionParts) TableFault
 definitions format lookups top = do
   ds ← elements_or_none most_definitions (get_member (codes "pgn") top)
@@ -76,7 +76,7 @@ top_level top = do
   names ← lookups top
   definitions format names top
 
--- the table that the bytes spell, or the first fault that stands in them
+-- the table that the bytes spell, or their first fault
 unfoldable pub read_table : List ℕ → Result TableParts TableFault
 read_table bytes = do
   top ← or_cause NotToml (document bytes)
@@ -88,12 +88,12 @@ abbrev pub fault_in : Result TableParts TableFault → List TableFault
 fault_in (Ok t) = []
 fault_in (Err fault) = fault ∷ []
 
--- what is read, and a table of nothing where it has a fault
+-- what is read, and an empty table if it has a fault
 abbrev pub table_in : Result TableParts TableFault → TableParts
 table_in (Ok t) = t
 table_in (Err fault) = record { id = []; definitions = [] }
 
--- The same apart: the fault that stands first in the bytes, and none where they spell a table; and that table.
+-- The same apart: the first fault of the bytes, and none if they spell a table; and that table.
 abbrev pub faults : List ℕ → List TableFault
 faults bytes = fault_in (read_table bytes)
 
@@ -104,7 +104,7 @@ table bytes = table_in (read_table bytes)
 abbrev pub is_of : ℕ → DefinitionParts → Bool
 is_of pgn d = d.pgn == pgn
 
--- how a PGN is sent: as any of its definitions says, and nothing where there is none
+-- how a PGN is sent: as any of its definitions says, and nothing if there is none
 abbrev pub kind : TableParts → ℕ → Option Kind
 kind t pgn = option_map (λ d. d.kind) (find (is_of pgn) t.definitions)
 

@@ -72,7 +72,7 @@ abbrev pub has_bits : FieldKind → Bool
 has_bits kind.String = false
 has_bits _ = true
 
--- the keys that say where a field of the kind stands
+-- the keys that give the place of a field of the kind
 abbrev pub place_keys : FieldKind → List (List ℕ)
 place_keys kind = if has_bits kind then codes "at" ∷ codes "bits" ∷ [] else codes "at" ∷ []
 
@@ -154,7 +154,7 @@ text_at key ms = do
   text ← any_text_at key ms
   checked_text text
 
--- a truth value, false where the key is missing
+-- a truth value, false if the key is missing
 abbrev pub bool_or_false : Option Data → Result Bool TableFault
 bool_or_false None = Ok false
 bool_or_false (Some d) = ok_or (as_bool d) Key
@@ -182,7 +182,7 @@ elements_at key most ms = do
   ds ← as_elements d
   at_most most ds
 
--- no element where the key is missing
+-- no element if the key is missing
 abbrev pub elements_or_none : ℕ → Option Data → Result (List Data) TableFault
 elements_or_none most None = Ok []
 elements_or_none most (Some d) = do

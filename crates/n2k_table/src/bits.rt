@@ -31,7 +31,7 @@ fn short_word(data: &[u8]) -> u64
     }
 }
 
-/// The first eight bytes as one number, the first lowest, or all where there are fewer.
+/// The first eight bytes as one number, the first lowest, or all if there are fewer.
 #[inline(always)]
 pub(crate) fn first_word(data: &[u8]) -> u64
     ensures all { length «data».now < 8 → result ≡ raw «data».now 0 (8 * length «data».now) }
@@ -72,7 +72,7 @@ fn raw_of_two(data: &[u8], at: usize, bits: u32) -> u64
     (high << HALF) + low
 }
 
-/// The raw value of some bits, where the greatest of so many is known: out of the first eight bytes, of those up to its
+/// The raw value of some bits, if the greatest of so many is known: from the first eight bytes, from those up to its
 /// last bit, or of two halves.
 #[tactic(auto, using(crate::proofs::RawBits::raw_lt))]
 #[inline(always)]

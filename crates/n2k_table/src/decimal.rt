@@ -31,7 +31,7 @@ fn push_dotted<const SIZE: usize>(
     Ok(())
 }
 
-/// Appends digits that all stand after the dot, behind a zero before it and zeros to fill the decimals.
+/// Appends `0.`, zeros to fill the decimals, and the digits.
 fn push_filled<const SIZE: usize>(
     digits: &[u8],
     decimals: usize,
@@ -48,7 +48,7 @@ fn push_filled<const SIZE: usize>(
     Ok(())
 }
 
-/// Appends the sign of a number of that size, or nothing, where there is room for a byte. Zero has none.
+/// Appends the sign of a number of that size, or nothing. There is room for a byte. Zero has no sign.
 #[inline(always)]
 fn write_sign<const SIZE: usize>(negative: bool, size: u128, line: &mut TextBuffer<SIZE>)
     requires { line.old.held + 1 ≤ SIZE }
@@ -79,7 +79,7 @@ fn push_long<const SIZE: usize>(
     }
 }
 
-/// Appends the decimal text of `size / 10^decimals`, where there is room for 48 bytes.
+/// Appends the decimal text of `size / 10^decimals`. There is room for 48 bytes.
 #[inline(always)]
 fn push_size<const SIZE: usize>(
     size: u128,
@@ -98,7 +98,7 @@ fn push_size<const SIZE: usize>(
     }
 }
 
-/// Appends the decimal text of a number, where there is room for 64 bytes.
+/// Appends the decimal text of a number. There is room for 64 bytes.
 #[inline(always)]
 pub(crate) fn push_number<const SIZE: usize>(
     number: Number,
@@ -127,7 +127,7 @@ pub(crate) fn push_decimal<const SIZE: usize>(
 }
 
 /// Appends the decimal text of `value / 10^decimals`, with exactly that many digits after the dot: a minus
-/// sign where the value is below zero, at least one digit before the dot and no leading zero beside
+/// sign if the value is below zero, at least one digit before the dot and no leading zero beside
 /// another, and no dot without decimals. Nothing is rounded, and zero has no sign. A refused growth leaves
 /// `out` as it was.
 ///

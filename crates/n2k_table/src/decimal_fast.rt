@@ -18,7 +18,7 @@ const WIDE: usize = 24;
 /// Where the digits end.
 const END: usize = 40;
 
-/// Room for the digits, and for as many bytes behind them as are copied at once.
+/// Room for the digits, and after them for as many bytes as are copied at once.
 const ROOM: usize = END + WIDE;
 
 /// How many digits are put together in a word.
@@ -30,7 +30,7 @@ const LEAST_LONG: u64 = 100_000_000;
 /// Eight bytes `0`.
 const NOUGHTS: u64 = 0x3030_3030_3030_3030;
 
-/// Appends bytes that stand in an array of digits, where there is room for 24.
+/// Appends bytes of an array of digits. There is room for 24.
 #[inline(always)]
 fn write_digits_of<const SIZE: usize>(
     digits: &[u8; ROOM],
@@ -50,7 +50,7 @@ fn write_digits_of<const SIZE: usize>(
     }
 }
 
-/// Appends the decimal text of `size / 10^decimals` by an array of its digits, where there is room for 48 bytes.
+/// Appends the decimal text of `size / 10^decimals` by an array of its digits. There is room for 48 bytes.
 #[inline(never)]
 fn write_long<const SIZE: usize>(size: u64, decimals: usize, line: &mut TextBuffer<SIZE>)
     requires decimals { decimals ≤ 18 }
@@ -111,7 +111,7 @@ fn write_parts<const SIZE: usize>(
     line.write(&back, decimals);
 }
 
-/// Appends the decimal text of `size / 10^decimals`, where there is room for 48 bytes. A byte is looked up. To store the
+/// Appends the decimal text of `size / 10^decimals`. There is room for 48 bytes. A byte is looked up. To store the
 /// digits of a short number from a word costs less than to write them to an array and to copy more bytes of it at once,
 /// which waits for those that were just written.
 #[inline(always)]

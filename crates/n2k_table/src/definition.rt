@@ -23,7 +23,7 @@ pub(crate) struct StoredDefinition {
     pub(crate) pgn: u32,
     pub(crate) kind: Kind,
     pub(crate) description: String,
-    /// What stands in a line between who sent the message and the members, kept since each line needs it.
+    /// The text of a line between the sender and the members, kept since each line needs it.
     pub(crate) label: Vec<u8>,
     /// Whether a field asks for a value; most messages of most PGNs have none that does.
     pub(crate) has_match: bool,
@@ -83,7 +83,7 @@ impl StoredDefinition {
         self.description.as_str()
     }
 
-    /// What stands in a line between who sent the message and the members.
+    /// The text of a line between the sender and the members.
     pub(crate) fn label(&self) -> &[u8]
         ensures { result.now ≡ label_json self.now.pgn self.now.description }
     {
@@ -97,7 +97,7 @@ impl StoredDefinition {
         self.fields.as_slice()
     }
 
-    /// What repeats behind them, if something does.
+    /// The sets that follow the fields, if there are sets.
     pub(crate) fn repeat(&self) -> Option<&Repeat>
         ensures { option_map (λ r. r.now) result ≡ self.now.repeat }
     {
@@ -228,7 +228,7 @@ impl<'a> Definition<'a> {
         Fields::new(self.stored.fields(), data)
     }
 
-    /// What each set shows of the data of a message, where the definition says that sets repeat in it; `None` where
+    /// What each set shows of the data of a message, if the definition says that it has sets; `None` if
     /// it doesn't. They end before the first that does not lie wholly in the data, and may be none. It takes no memory.
     ///
     /// ```rust

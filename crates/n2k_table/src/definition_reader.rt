@@ -26,7 +26,7 @@ use toml::{Table, Value};
 /// The name of the member that holds the sets of a message.
 const LIST: &str = "list";
 
-/// The bytes that a label has around a plain description, where its PGN has six digits.
+/// The bytes that a label has around a plain description if its PGN has six digits.
 const AROUND: usize = 41;
 
 /// Whether a field asks for a value.
@@ -67,7 +67,7 @@ fn label_of(alloc: Global, pgn: u32, description: &str) -> Result<Vec<u8>, Alloc
     Ok(label)
 }
 
-/// Reads what repeats behind these fields, if something does.
+/// Reads the sets that follow these fields, if there are sets.
 fn repeat_if_there(
     alloc: Global,
     lookups: &Lookups,

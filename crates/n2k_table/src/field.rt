@@ -15,23 +15,23 @@ use crate::string_place::{Form, Step, data_behind, taken_at};
 use crate::string_value::string_value;
 use std::alloc::AllocError;
 use std::marker::Model;
-use std::rc::Rc;
+use std::sync::Arc;
 
 /// What the bits of a field mean.
 #[derive(Drop)]
 pub(crate) enum Meaning {
-    /// A number, in two's complement where it is signed, times its resolution.
+    /// A number, in two's complement if it is signed, times its resolution.
     Number(Scale),
     /// A number to which an offset is added, times its resolution.
     Shifted(Shift),
     /// A value that a lookup gives names for. The fields of a table share its lookups.
-    Lookup(Rc<Lookup>),
+    Lookup(Arc<Lookup>),
     /// A text, each byte the character of its number.
     Text,
     /// Bytes as they are.
     Bytes,
     /// Bits that a lookup gives names for.
-    Flags(Rc<Lookup>),
+    Flags(Arc<Lookup>),
     /// Bytes of two decimal digits.
     Digits,
     /// A string, which says itself how long it is.
@@ -39,19 +39,19 @@ pub(crate) enum Meaning {
 }
 
 /// A field: its name, its first bit in the message or in its set, how many bits it has, whether it may be short, the
-/// strings behind which it stands, what its bits mean, and the raw value that it asks for, if it asks for one.
+/// strings before it, what its bits mean, and the raw value that it asks for, if it asks for one.
 #[derive(Drop)]
 pub struct Field {
     pub(crate) name: String,
-    /// What stands before the value in a line, with a comma, kept since each line needs it.
+    /// The text before the value in a line, with a comma, kept since each line needs it.
     pub(crate) key: PaddedText,
     pub(crate) at: u32,
     pub(crate) bits: u32,
-    /// How many bytes the data must have for it to lie inside them. Where it stands behind a string, more than any have.
+    /// How many bytes the data must have for it to lie inside them. If a string precedes it, more than any data have.
     pub(crate) end: usize,
-    /// Whether it shows what is there of it, where the data end before it does.
+    /// Whether it shows the part that is there if the data end before it does.
     pub(crate) short: bool,
-    /// The strings behind which it stands, from the first on. Its first bit counts from the end of the last.
+    /// The strings before it, from the first on. Its first bit counts from the end of the last.
     pub(crate) behind: Vec<Step>,
     pub(crate) meaning: Meaning,
     pub(crate) match_value: Option<u64>,
@@ -105,7 +105,7 @@ impl Field {
         self.name.as_str()
     }
 
-    /// Appends what stands before the value in a line, with a comma where a member stands before. Behind it there is room
+    /// Appends the text before the value in a line, with a comma if a member precedes. After it there is room
     /// for `VALUE_ROOM` bytes.
     #[inline(always)]
     #[tactic(auto, using(crate::proofs::Begins::begins_steps))]
@@ -130,7 +130,7 @@ impl Field {
     }
 
     /// The bytes that the set that begins with the first of these has for the field beside its bits: those of a string, and
-    /// nothing where it is not proper.
+    /// nothing if it is not proper.
     pub(crate) fn own_bytes(&self, set: &[u8]) -> Option<usize>
         ensures { result ≡ own_bytes self.now.meaning self.now.at (data_behind self.now.behind set.now) }
     {
@@ -269,7 +269,7 @@ impl Field {
         &data[self.at as usize / 8..]
     }
 
-    /// What a field shows that ends behind the data: a short one what is there of it.
+    /// What a field shows that ends after the data: a short field shows the part that is there.
     fn part<'a>(&self, data: &'a [u8]) -> Shown<'a>
         ensures { shown_parts result ≡ shown_part self.now «data».now }
     {
@@ -283,7 +283,7 @@ impl Field {
         }
     }
 
-    /// Whether it stands behind no string, and lies wholly inside the data.
+    /// Whether no string precedes it, and it lies wholly inside the data.
     #[inline(always)]
     fn stands_inside(&self, data: &[u8]) -> bool
         ensures { result ≡ stands_inside self.now «data».now }
@@ -291,8 +291,8 @@ impl Field {
         self.end <= data.len()
     }
 
-    /// What the field shows of the data of a message or of a set, where many fields show such; else `shown` says it. Each
-    /// answer is returned where it is made, so that none is put together in memory.
+    /// What the field shows of the data of a message or of a set, if its kind is frequent; else `shown` says it. Each
+    /// result is returned where it is made, so that none is built in memory.
     #[inline(always)]
     pub(crate) fn value<'a>(&'a self, data: &'a [u8]) -> FieldValue<'a>
         ensures { IfSome (value_parts result) (λ parts. parts ≡ shown self.now «data».now) }
@@ -351,8 +351,8 @@ impl Field {
         }
     }
 
-    /// What the field shows of the data of a message or of a set: nothing where a string before it has no end. It takes no
-    /// memory. It is not inlined: a line asks for it where few fields show such.
+    /// What the field shows of the data of a message or of a set: nothing if a string before it has no end. It takes no
+    /// memory. It is not inlined: few kinds of fields need it.
     ///
     /// ```rust
     /// assert!(rt; matches!(sid.shown(&[5]), Shown::Number { value: 5, .. }));

@@ -28,7 +28,7 @@ use crate::tree::{
     check_keys, checked_text, get, int_at, text_at,
 };
 use std::alloc::{AllocError, Global};
-use std::rc::Rc;
+use std::sync::Arc;
 use toml::{Table, Value};
 
 /// The last bit at which a field may begin.
@@ -166,7 +166,7 @@ fn string_named<'a>(before: &'a [Field], name: &str) -> Option<&'a Field>
     before.iter().find(|field| is_string_named(field, name))
 }
 
-/// The strings behind which a field stands that stands behind this one, from the first on.
+/// The strings before a field that follows this one, from the first on.
 fn steps_through(alloc: Global, earlier: &Field) -> Result<Vec<Step>, AllocError>
     ensures value { IfOk result (λ steps. steps.items ≡ steps_through earlier.now) }
     ensures room { IfOk result (λ steps. fixed_place steps.items 0 ≤ message_bits) }
@@ -182,7 +182,7 @@ fn steps_through(alloc: Global, earlier: &Field) -> Result<Vec<Step>, AllocError
     Ok(steps)
 }
 
-/// The strings behind which stands what names a string of these fields.
+/// The strings before a field that names a string of these fields.
 fn steps_named(alloc: Global, before: &[Field], value: &Value) -> Result<Vec<Step>, TableFault>
     ensures value { ReaderGives (λ steps. steps.items) result (steps_named before.now (view value.now)) }
     ensures room { IfOk result (λ steps. fixed_place steps.items 0 ≤ message_bits) }
@@ -192,7 +192,7 @@ fn steps_named(alloc: Global, before: &[Field], value: &Value) -> Result<Vec<Ste
     Ok(steps_through(alloc, earlier)?)
 }
 
-/// The strings behind which sets stand, which may name one of the message's own.
+/// The strings before sets, which may name one of the message's own.
 pub(crate) fn steps_of_sets(
     alloc: Global,
     own: &[Field],
@@ -208,7 +208,7 @@ pub(crate) fn steps_of_sets(
     }
 }
 
-/// The strings behind which a field stands that names one of those read before it. A field that asks for a value names
+/// The strings before a field that names a string read before it. A field that asks for a value names
 /// none.
 fn steps_of(alloc: Global, before: &[Field], table: &Table) -> Result<Vec<Step>, TableFault>
     ensures value { ReaderGives (λ steps. steps.items) result (steps_of before.now (table_view table.now)) }
@@ -223,7 +223,7 @@ fn steps_of(alloc: Global, before: &[Field], table: &Table) -> Result<Vec<Step>,
     steps_named(alloc, before, value)
 }
 
-/// Where a place behind these strings would be if they took no bytes.
+/// The place of a field after these strings if they took no bytes.
 fn fixed_place(behind: &[Step], at: u32) -> u32
     requires { at + fixed_place behind.now 0 ≤ message_bits + last_bit }
     ensures value { result ≡ fixed_place behind.now at }
@@ -236,7 +236,7 @@ fn fixed_place(behind: &[Step], at: u32) -> u32
     place
 }
 
-/// Refuses bits at a place behind strings that end past the end, as far as the table says it.
+/// Refuses bits after strings if they end past the end, as far as the table says it.
 pub(crate) fn check_end(behind: &[Step], at: u32, bits: u32, end: u32) -> Result<(), TableFault>
     requires before { fixed_place behind.now 0 ≤ message_bits }
     requires at { at ≤ last_bit }
@@ -260,7 +260,7 @@ fn offset_in_range(integer: i64) -> Result<i64, TableFault>
     Ok(integer)
 }
 
-/// What a number of that resolution means, by what stands at `offset`, if something does.
+/// What a number of that resolution means, by the value of `offset`, if there is one.
 fn offset_number(
     signed: bool,
     bits: u32,
@@ -283,7 +283,7 @@ fn offset_number(
     Ok(Meaning::Shifted(Shift::new(offset, bits, resolution)))
 }
 
-/// Refuses a unit that is no text of 1 to 255 bytes.
+/// Refuses a unit that is not a text of 1 to 255 bytes.
 fn check_unit(table: &Table) -> Result<(), TableFault>
     ensures { Gives (λ done. done) result (check_unit (get_member (codes "unit") (table_view table.now))) }
 {
@@ -313,7 +313,7 @@ fn number_of_bits(bits: u32, table: &Table) -> Result<Meaning, TableFault>
 
 /// The lookup that a field names.
 #[tactic(auto, unfolding(crate::specs::Field::lookup_named))]
-fn lookup_named(lookups: &Lookups, table: &Table) -> Result<Rc<Lookup>, TableFault>
+fn lookup_named(lookups: &Lookups, table: &Table) -> Result<Arc<Lookup>, TableFault>
     ensures { ReaderGives (λ lookup. lookup.value) result (lookup_named lookups.now (table_view table.now)) }
 {
     let name = text_at(table, "lookup")?;
@@ -403,7 +403,7 @@ fn short_of(kind: FieldKind, holder: Holder, table: &Table) -> Result<bool, Tabl
     bool_at(table, "short")
 }
 
-/// What stands before the value of a field in a line, behind a comma. It is put together in a room that serves many.
+/// The text before a field's value in a line, after a comma. It is built in a buffer that serves many fields.
 fn key_of(alloc: Global, name: &str, room: &mut Vec<u8>) -> Result<PaddedText, AllocError>
     ensures { IfOk result (λ key. key ≡ key_json true name.now) }
 {
@@ -451,7 +451,7 @@ fn field_at(
     })
 }
 
-/// Reads a field of a message or of a set behind these, in a table of this format and of these lookups. In the room its
+/// Reads a field of a message or of a set after these, in a table of this format and of these lookups. In the buffer its
 /// key is put together.
 #[tactic(auto, unfolding(crate::specs::Field::field))]
 pub(crate) fn read_field(

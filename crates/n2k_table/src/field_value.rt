@@ -29,7 +29,7 @@ pub(crate) enum FieldValue<'a> {
 }
 
 impl<'a> FieldValue<'a> {
-    /// What it is to a caller of this crate, where it says that.
+    /// The value for a caller of this crate, if this crate shows it.
     pub(crate) fn shown(self) -> Shown<'a>
         ensures { IfSome (value_parts self.entry) (λ parts. shown_parts result ≡ parts) }
     {
@@ -90,7 +90,7 @@ pub(crate) fn trimmed(text: &[u8]) -> &[u8]
     kept
 }
 
-/// What the bytes of a text show: nothing where all of them fill it up.
+/// What the bytes of a text show: nothing if all of them are filler.
 #[inline(always)]
 pub(crate) fn text_value(text: &[u8]) -> FieldValue<'_>
     ensures { value_parts result ≡ Some (shown_text (trimmed text.now)) }
@@ -131,7 +131,7 @@ fn are_digits(bytes: &[u8]) -> bool
     bytes.iter().all(|byte| *byte <= 99)
 }
 
-/// What bytes of two digits show: nothing where one of them is none, or none is left.
+/// What bytes of two digits show: nothing if a digit is above 9, or no byte is left.
 pub(crate) fn digits_value(bytes: &[u8]) -> Shown<'_>
     ensures { shown_parts result ≡ shown_digits (trimmed_of is_no_digit bytes.now) }
 {

@@ -41,7 +41,7 @@ pub(crate) fn is_named(fields: &[Field], name: &str) -> bool
     fields.iter().any(|field| name == field.name())
 }
 
-/// Each of these values as a field, behind those before it.
+/// Each of these values as a field, after the fields before it.
 fn each_field(
     alloc: Global,
     lookups: &Lookups,

@@ -16,7 +16,7 @@ use std::fmt;
 pub enum Flag<'a> {
     /// Its name, as the table has it.
     Name(&'a str),
-    /// Its number, where the table has no name for it. 0 is the least significant.
+    /// Its number, if the table has no name for it. 0 is the least significant.
     Bit(u8),
 }
 
@@ -28,7 +28,7 @@ pub(crate) enum NamedBit<'a> {
 }
 
 /// The bits of a field that are 1, by their names, from the least significant on, and then `None` for good. It borrows
-/// the table and takes no memory. Two are equal where the raw value, the next bit and the end are, and the name of the
+/// the table and takes no memory. Two are equal if the raw value, the next bit and the end are, and the name of the
 /// lookup; what names stand in that is not compared.
 #[derive(Clone, Copy)]
 pub struct Flags<'a> {

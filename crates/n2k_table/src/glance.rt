@@ -31,7 +31,7 @@ impl Glance {
         }
     }
 
-    /// Asks for what a field asks for too, where that lies in the first eight bytes.
+    /// Also asks for what a field asks for, if it lies in the first eight bytes.
     fn with_field(self, field: &Field) -> Glance
         ensures { (payload : List ℕ) → field_matches payload field.now ≡ true
             → bit_and (raw payload 0 64) self.mask ≡ self.wanted

@@ -1,4 +1,4 @@
-//! What stands in a line before the PGN: when a message was seen, and who sent it to whom.
+//! The text of a line before the PGN: when a message was seen, its sender and its receiver.
 #![tactic(auto, using(crate::proofs::Begins::begins_steps))]
 
 ghost use Rattle.std.specs.Prelude.{◌≡◌, ◌++◌, ◌+◌, ◌≤◌, true, codes, decimal, take, OnOk};
@@ -12,13 +12,13 @@ use crate::text::push_text;
 use n2k_wire::{Id, Packet, UTC_LEN};
 use std::alloc::AllocError;
 
-/// Room for what stands before the PGN, with the stamp of a candump line.
+/// Room for the text before the PGN, with the stamp of a candump line.
 const HEAD_ROOM: usize = 69;
 
 /// How many bytes of a stamp are tested at once.
 const AT_ONCE: usize = 16;
 
-/// The decimal text of each byte, filled up, and behind it how many of its bytes count. To look a source or a
+/// The decimal text of each byte, filled up, and after it how many of its bytes count. To look a source or a
 /// destination up costs a third of working its digits out.
 static NUMBERS: [[u8; 4]; 256] = [
     *b"0--1", *b"1--1", *b"2--1", *b"3--1", *b"4--1", *b"5--1", *b"6--1", *b"7--1", *b"8--1",
@@ -62,7 +62,7 @@ pub(crate) fn number_text(number: u8) -> ([u8; 4], usize)
     (text, (text[3] % 4) as usize)
 }
 
-/// Appends a label, and the decimal text of a byte behind it.
+/// Appends a label, and after it the decimal text of a byte.
 #[inline(always)]
 fn write_part<const SIZE: usize, const N: usize>(
     label: &[u8; N],
@@ -78,7 +78,7 @@ fn write_part<const SIZE: usize, const N: usize>(
     line.write(&text, count);
 }
 
-/// Appends who sent what to whom, up to the PGN, where there is room for 30 bytes. A priority has one digit.
+/// Appends priority, source and destination, up to the PGN. There is room for 30 bytes. A priority has one digit.
 #[inline(always)]
 fn write_sender<const SIZE: usize>(id: Id, line: &mut TextBuffer<SIZE>)
     requires prio { id.prio ≤ 7 }
@@ -97,7 +97,7 @@ fn write_sender<const SIZE: usize>(id: Id, line: &mut TextBuffer<SIZE>)
     write_part(b",\"dst\":", id.dst, line);
 }
 
-/// Appends a stamp as a text, where each byte of it stands for itself; that of a candump line at once. Behind it there
+/// Appends a stamp as a text, if no byte needs an escape; the stamp of a candump line at once. After it there
 /// is room for who sent the message.
 #[inline(always)]
 fn push_usual_stamp<const SIZE: usize>(
@@ -121,7 +121,7 @@ fn push_usual_stamp<const SIZE: usize>(
     Ok(())
 }
 
-/// A digit, an upper letter or one of few other bytes. Each stands for itself, and one range is tested faster than all
+/// A digit, an upper letter or one of few other bytes. None needs an escape, and one range is tested faster than all
 /// that do.
 fn is_usual_byte(byte: u8) -> bool
     ensures { result ≡ is_usual byte }
@@ -184,7 +184,7 @@ fn push_time<const SIZE: usize>(stamp: &[u8], line: &mut TextBuffer<SIZE>) -> Re
     }
 }
 
-/// Appends what stands before the PGN. It is inlined: a call takes more.
+/// Appends the text before the PGN. It is inlined: a call takes more.
 #[inline(always)]
 #[tactic(auto, using(std::proofs::Common::append_assoc, crate::proofs::Begins::begins_steps), unfolding(crate::specs::Inner::Line::before_pgn_json))]
 pub(crate) fn push_head<const SIZE: usize>(

@@ -11,7 +11,7 @@ use indexmap::IndexMap;
 use std::alloc::{AllocError, Global};
 use std::marker::Model;
 
-/// How many PGNs are told apart without a hash.
+/// How many PGNs are distinguished without a hash.
 const QUICK: usize = 8192;
 
 /// The place of a definition, and what it asks of the first eight bytes, so that most of those that don't describe a
@@ -29,7 +29,7 @@ type CandidatesByPgn = IndexMap<u32, Vec<Candidate>>;
 #[derive(Drop)]
 pub(crate) struct Index {
     candidates: CandidatesByPgn,
-    /// For the mixed bits of a PGN where it may stand in the map. Whoever goes by it compares the PGN; that costs less
+    /// For the mixed bits of a PGN, its possible place in the map. The caller compares the PGN; that costs less
     /// than a hash.
     quick: Vec<u16>,
 }
@@ -46,7 +46,7 @@ impl Model for Index {
     ghost invariant = { λ i. length i.quick.items ≡ 8192 };
 }
 
-/// Notes one more candidate of a PGN, behind those before it.
+/// Notes one more candidate of a PGN, after its earlier candidates.
 fn note(
     alloc: Global,
     candidates: &mut CandidatesByPgn,
@@ -83,7 +83,7 @@ fn all_candidates(
     Ok(candidates)
 }
 
-/// The bits of a PGN by which it is told apart: its lowest 13, changed by those above them. By the lowest alone PGNs
+/// The bits that distinguish a PGN: its lowest 13, changed by the higher bits. By the lowest bits alone PGNs
 /// whose lower 16 bits are the same would be one.
 #[inline(always)]
 fn slot_of(pgn: u32) -> usize
@@ -92,7 +92,7 @@ fn slot_of(pgn: u32) -> usize
     (pgn ^ (pgn >> 13)) as usize % QUICK
 }
 
-/// Where each PGN stands in the map, by its mixed bits; the last of those that have the same.
+/// The place of each PGN in the map, by its mixed bits; if several PGNs share them, of the last.
 fn quick_of(alloc: Global, candidates: &CandidatesByPgn) -> Result<Vec<u16>, AllocError>
     ensures { IfOk result (λ quick. length quick.items ≡ 8192) }
 {
@@ -125,7 +125,7 @@ fn candidates_by_hash(candidates: &CandidatesByPgn, pgn: u32) -> &[Candidate]
     }
 }
 
-/// The candidates of a PGN, none where the table doesn't have it.
+/// The candidates of a PGN, none if the table doesn't have it.
 pub(crate) fn candidates_at(index: &Index, pgn: u32) -> &[Candidate]
     ensures { result.now ≡ candidates_in index.now pgn }
 {

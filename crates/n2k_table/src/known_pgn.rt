@@ -51,7 +51,7 @@ impl<'a> KnownPgn<'a> {
         self.first.kind()
     }
 
-    /// Its first definition, where that asks for nothing: then it describes each message.
+    /// Its first definition, if that asks for nothing: then it describes each message.
     #[inline(always)]
     fn usual(&self) -> Option<&'a StoredDefinition>
         ensures { IfSome result (λ d. (payload : List ℕ) → choice self.now.table self.now.pgn payload ≡ Some d.now) }

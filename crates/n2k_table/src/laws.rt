@@ -6,7 +6,7 @@ ghost use Rattle.n2k_table.specs.Json.{json};
 ghost use Rattle.n2k_table.specs.OneLine.{IsOneLine};
 
 /// The JSON line of a message is one line, whatever the table's names and texts and the message's data are: it ends
-/// in a line feed, and no byte below the space stands before that.
+/// in a line feed, and contains no other byte below the space.
 pub fn json_is_one_line()
     ensures { (t : TableParts) (m : PacketParts) (empty : Bool) → IsOneLine (json t m empty) }
 {}

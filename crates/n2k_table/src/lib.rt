@@ -10,20 +10,20 @@
 //! assert!(rt; text.ends_with(end.as_bytes()));
 //! ```
 //!
-//! - `Table::read` reads a table, or says which fault stands in it (`TableFault`). `Table::id` is the
+//! - `Table::read` reads a table, or returns its fault (`TableFault`). `Table::id` is the
 //!   SHA-256 of what was read.
 //! - `Table::kind` says how a PGN is sent, and `Table::choose` gives the `Definition` of a message: the first
 //!   of its PGN in the file that its data match.
 //! - `Definition::fields` gives each field's name and what it shows of the data (`Shown`): a number, the name
 //!   of a value, a text (of bytes, UTF-8 or UTF-16), bytes, bits by their names (`Flags`), digits, or nothing.
-//!   `Definition::repeat` gives the same of each set of fields that repeats behind them (`Sets`), where the table says
+//!   `Definition::repeat` gives the same of each set of fields that follows them (`Sets`), if the table says
 //!   that something does.
 //! - `decimal_text` appends a number with its decimals, and `json_line` the line of a message. For the lines of a log,
 //!   one after the other, use `json_line_of`, which puts them together in a buffer that is kept (`LineBuffer`).
 //!
 //! A table that reads has no fault, and a fault that is answered is the first in it. What a number field shows is its raw
-//! value, the sum of its bits times powers of two, taken as two's complement where it is signed, with its offset added
-//! where it has one, times a resolution that is kept as whole numbers. So each decimal that is printed is exact: nothing
+//! value, the sum of its bits times powers of two, taken as two's complement if it is signed, with its offset added
+//! if it has one, times a resolution that is kept as whole numbers. So each decimal that is printed is exact: nothing
 //! is rounded, and there is no floating-point number. A message that no definition matches is printed with its data as
 //! they are.
 //!

@@ -42,7 +42,7 @@ enum AbsentFields {
 }
 
 impl AbsentFields {
-    /// `null` where the callers of `json_line` ask for empty fields.
+    /// `null` if the caller of `json_line` asks for empty fields.
     fn new(empty: bool) -> AbsentFields
         ensures { are_null result ≡ empty }
     {
@@ -104,7 +104,7 @@ fn push_bytes<const SIZE: usize>(
     push_pairs(bytes, line)
 }
 
-/// Writes a comma where a member stands before, where there is room for a byte.
+/// Writes a comma if a member precedes. There is room for a byte.
 fn write_comma<const SIZE: usize>(later: bool, line: &mut TextBuffer<SIZE>)
     requires { line.old.held + 1 ≤ SIZE }
     ensures items { line.new.items ≡ line.old.items ++ (if later then comma ∷ [] else []) }
@@ -115,7 +115,7 @@ fn write_comma<const SIZE: usize>(later: bool, line: &mut TextBuffer<SIZE>)
     }
 }
 
-/// Appends a bit by its name or its number, after a comma where one stands before.
+/// Appends a bit by its name or its number, after a comma if another bit precedes.
 fn push_bit<const SIZE: usize>(
     bit: NamedBit<'_>,
     later: bool,
@@ -162,7 +162,7 @@ fn push_flags<const SIZE: usize>(
     line.push(b']')
 }
 
-/// Appends what a field of any kind shows as a value, which is `null` where that is nothing.
+/// Appends what a field of any kind shows as a value: `null` if it shows nothing.
 fn push_shown<const SIZE: usize>(
     shown: Shown<'_>,
     line: &mut TextBuffer<SIZE>,
@@ -183,7 +183,7 @@ fn push_shown<const SIZE: usize>(
     }
 }
 
-/// Appends a field of any kind as a member, and answers whether one stands before the next. Few fields come here.
+/// Appends a field of any kind as a member, and returns whether a member precedes the next. Few fields come here.
 #[cold]
 #[inline(never)]
 fn push_seldom<const SIZE: usize>(
@@ -209,7 +209,7 @@ fn push_seldom<const SIZE: usize>(
     }
 }
 
-/// Appends a field as a member of an object, after a comma where a member stands before, and notes whether one stands
+/// Appends a field as a member of an object, after a comma if a member precedes, and notes whether one precedes
 /// before the next. What it shows goes from branch to branch, and is never put together in memory.
 #[inline(always)]
 fn push_member<const SIZE: usize>(
@@ -248,7 +248,7 @@ fn push_member<const SIZE: usize>(
     Ok(())
 }
 
-/// Appends the fields as the members of an object, of a message or of a set, and answers whether one stands
+/// Appends the fields as the members of an object, of a message or of a set, and returns whether a member precedes
 /// before the next. It is inlined for the message and for sets, since a call for each line costs more.
 #[inline(always)]
 fn push_members<const SIZE: usize>(
@@ -270,7 +270,7 @@ fn push_members<const SIZE: usize>(
     Ok(later)
 }
 
-/// Appends a set as an object, after a comma where a set stands before.
+/// Appends a set as an object, after a comma if another set precedes.
 fn push_set<const SIZE: usize>(
     fields: &[Field],
     set: &[u8],
@@ -308,14 +308,14 @@ fn push_sets<const SIZE: usize>(
     Ok(())
 }
 
-/// What stands before the sets, with a comma where a member stands before.
+/// The text before the sets, with a comma if a member precedes.
 fn list_key(later: bool) -> &'static [u8]
     ensures { result.now ≡ (if later then codes ",\"list\":[" else codes "\"list\":[") }
 {
     if later { b",\"list\":[" } else { b"\"list\":[" }
 }
 
-/// Appends the sets as a member, after a comma where a member stands before. Most messages have none.
+/// Appends the sets as a member, after a comma if a member precedes. Most messages have no sets.
 #[inline(never)]
 fn push_list<const SIZE: usize>(
     repeat: &Repeat,
@@ -332,7 +332,7 @@ fn push_list<const SIZE: usize>(
     line.push(b']')
 }
 
-/// Appends the members of a message: the fields, and last what repeats behind them.
+/// Appends the members of a message: the fields, and last the sets that follow them.
 fn push_fields<const SIZE: usize>(
     definition: &StoredDefinition,
     data: &[u8],
@@ -397,7 +397,7 @@ fn push_line<const SIZE: usize>(
 
 /// Appends the JSON line of a packet, with its LF: when it was seen, its priority, source, destination and
 /// PGN, and the fields of its definition in their order, without spaces. A field that shows nothing is left
-/// out, and with `empty` it is `null`. Where sets repeat behind the fields, the last member is `list`, an array of one
+/// out, and with `empty` it is `null`. If sets follow the fields, the last member is `list`, an array of one
 /// object for each set, up to the first that does not lie wholly in the data. A packet of an unknown PGN, and one that no
 /// definition of its PGN matches, is `Unmatched` and has its data as they are. A refused growth leaves `out` as it was.
 ///

@@ -1,4 +1,4 @@
-//! The text that lines are put together in, one after the other, where they stay until they are written. A run keeps it,
+//! The buffer in which lines are built, one after the other, and kept until they are written. A run keeps it,
 //! since new room is zeroed each time.
 #![tactic(auto, using(crate::proofs::Begins::begins_steps))]
 
@@ -17,7 +17,7 @@ const RUN_ROOM: usize = 32768;
 /// The least room, which is that of a line that is written alone.
 pub(crate) const LINE_ALONE: usize = 1024;
 
-/// Room for a value: for a number of 64 bits and its sign, or for the front of a name.
+/// Room for a value: for a number of 64 bits and its sign, or for the beginning of a name.
 pub(crate) const VALUE_ROOM: usize = 64;
 
 /// The lines of a run, one after the other: 32 KiB of room lie in the value itself.
@@ -31,7 +31,7 @@ pub struct TextBuffer<const SIZE: usize> {
     /// The first bytes of lines that are longer than the room. Mostly there are none.
     front: Vec<u8>,
     room: [u8; SIZE],
-    /// How many bytes of the room count. They come after the front.
+    /// How many bytes of the room are used. They follow the front.
     at: usize,
 }
 
@@ -46,7 +46,7 @@ impl<const SIZE: usize> Model for TextBuffer<SIZE> {
     ghost invariant = { λ l. (l.at ≤ SIZE) × (1024 ≤ SIZE) };
 }
 
-/// Appends bytes to the front. It is not inlined: few lines do so.
+/// Appends bytes to the front. It is not inlined: few lines need it.
 #[inline(never)]
 fn append(front: &mut Vec<u8>, bytes: &[u8]) -> Result<(), AllocError>
     ensures ok { OnOk result (front.new.items ≡ front.old.items ++ bytes.now) }
@@ -102,7 +102,7 @@ impl<const SIZE: usize> TextBuffer<SIZE> {
         self.at = 0;
     }
 
-    /// The lines in two parts, one behind the other.
+    /// The lines in two parts, the second after the first.
     ///
     /// ```rust
     /// let mut lines = LineBuffer::new(alloc);
@@ -183,7 +183,7 @@ impl<const SIZE: usize> TextBuffer<SIZE> {
         self.at = 0;
     }
 
-    /// Appends the lines to a vector, which is as it was where that is refused.
+    /// Appends the lines to a vector. If memory is refused, the vector is unchanged.
     pub(crate) fn append_to(&mut self, out: &mut Vec<u8>) -> Result<(), AllocError>
         ensures ok { OnOk result (out.new.items ≡ out.old.items ++ self.old.items) }
         ensures err { OnErr result (out.new.items ≡ out.old.items) }
@@ -206,7 +206,7 @@ impl<const SIZE: usize> TextBuffer<SIZE> {
         Ok(())
     }
 
-    /// Appends the first bytes of some, where there is room for all. It copies all of them, which costs less than so many.
+    /// Appends the first bytes of an array. There is room for the whole array: copying it whole costs less.
     #[inline(always)]
     pub(crate) fn write<const N: usize>(&mut self, bytes: &[u8; N], count: usize)
         requires few { count ≤ N }
@@ -214,7 +214,7 @@ impl<const SIZE: usize> TextBuffer<SIZE> {
         ensures items { self.new.items ≡ self.old.items ++ take count bytes.now }
         ensures held { self.new.held ≡ self.old.held + count }
     {
-        // Read once: behind the bytes it would be loaded again.
+        // Read once: after the bytes it would be loaded again.
         let at = self.at;
         write_at(&mut self.room, at, *bytes);
         self.at = at + count;
@@ -286,7 +286,7 @@ impl<const SIZE: usize> TextBuffer<SIZE> {
         Ok(())
     }
 
-    /// Appends the plain line of a packet, where there is room for any.
+    /// Appends the plain line of a packet. There is room for any.
     #[inline(always)]
     fn write_plain(&mut self, packet: &Packet)
         requires { self.old.held + 736 ≤ SIZE }

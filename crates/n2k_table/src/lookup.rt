@@ -10,7 +10,7 @@ use crate::text::push_json;
 use indexmap::IndexMap;
 use std::alloc::{AllocError, Global};
 use std::marker::Model;
-use std::rc::Rc;
+use std::sync::Arc;
 
 /// The name of a value.
 #[derive(Drop)]
@@ -54,7 +54,7 @@ impl Name {
         self.text.as_str()
     }
 
-    /// Appends the text as JSON, where there is room for 32 bytes.
+    /// Appends the text as JSON. There is room for 32 bytes.
     #[inline(always)]
     pub(crate) fn push_json<const SIZE: usize>(
         &self,
@@ -95,7 +95,7 @@ impl Model for Lookup {
 /// The lookups of a table, in file order, each by its name. It is shared by the fields that name it.
 #[derive(Drop)]
 pub(crate) struct Lookups {
-    pub(crate) by_name: IndexMap<String, Rc<Lookup>>,
+    pub(crate) by_name: IndexMap<String, Arc<Lookup>>,
 }
 
 impl Model for Lookups {
@@ -172,7 +172,7 @@ impl Lookup {
 }
 
 /// The name of a value, found by its hash. It is not inlined: most lookups name the values from 0 on in their order,
-/// and then a name stands at the place of its value.
+/// and then a name is at the place of its value.
 #[inline(never)]
 fn name_by_hash(names: &IndexMap<u64, Name>, value: u64) -> Option<&Name>
     ensures { option_map (λ name. name.now) result ≡ value_at (nat_eq value) names.now.entries }
@@ -182,7 +182,7 @@ fn name_by_hash(names: &IndexMap<u64, Name>, value: u64) -> Option<&Name>
 
 impl Lookups {
     /// The lookup of that name, if there is one.
-    pub(crate) fn find(&self, name: &str) -> Option<&Rc<Lookup>>
+    pub(crate) fn find(&self, name: &str) -> Option<&Arc<Lookup>>
         ensures { option_map (λ lookup. lookup.now.value) result
             ≡ find (λ lookup. bytes_eq name.now lookup.name) self.now }
     {

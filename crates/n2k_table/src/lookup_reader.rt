@@ -16,7 +16,7 @@ use crate::tree::{
 use indexmap::IndexMap;
 use std::alloc::Global;
 use std::marker::Model;
-use std::rc::Rc;
+use std::sync::Arc;
 use toml::{Table, Value};
 
 /// The most lookups of a table.
@@ -82,7 +82,7 @@ fn each_entry(alloc: Global, values: &[Value]) -> Result<Vec<NamedValue>, TableF
     Ok(entries)
 }
 
-/// The entries as a map, where no value stands twice.
+/// The entries as a map, if no value comes twice.
 fn by_value(alloc: Global, entries: Vec<NamedValue>) -> Result<IndexMap<u64, Name>, TableFault>
     ensures { ReaderGives map_entries result (once entries.items) }
 {
@@ -143,14 +143,14 @@ fn each_lookup(alloc: Global, values: &[Value]) -> Result<Vec<Lookup>, TableFaul
     Ok(lookups)
 }
 
-/// The lookups by their names, where no name stands twice.
+/// The lookups by their names, if no name comes twice.
 fn by_name(alloc: Global, lookups: Vec<Lookup>) -> Result<Lookups, TableFault>
     ensures { ReaderGives (λ lookups. lookups) result (apart lookups.items) }
 {
     let mut by_name = IndexMap::with_capacity(alloc, lookups.len())?;
     for lookup in lookups {
         let name = String::from_str(alloc, lookup.name())?;
-        if by_name.insert(name, Rc::new(alloc, lookup)?)?.is_some() {
+        if by_name.insert(name, Arc::new(alloc, lookup)?)?.is_some() {
             return Err(TableFault::Twice);
         }
     }

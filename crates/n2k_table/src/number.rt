@@ -12,7 +12,7 @@ use crate::shown::Shown;
 /// A number, its sign apart: a size times a resolution, or as far below zero.
 #[derive(Clone, Copy)]
 pub(crate) struct Number {
-    /// Whether it is below zero, where it is not zero.
+    /// Whether it is below zero, if it is not zero.
     pub(crate) negative: bool,
     /// How far the value of its bits is from zero.
     pub(crate) size: u64,

@@ -1,4 +1,4 @@
-//! A fast path: a text that many lines hold, with its front at a constant length as well. A copy of a constant length
+//! A fast path: a text that many lines contain, with its front at a constant length as well. A copy of a constant length
 //! is a few instructions; one of a length that varies is a call. `LineBuffer::extend_from_slice` appends any bytes.
 #![tactic(auto, using(crate::proofs::Begins::begins_steps))]
 
@@ -20,9 +20,9 @@ const FRONT: usize = FRONT_ROOM + 1;
 pub(crate) struct PaddedText {
     /// How many bytes it has.
     len: usize,
-    /// The bytes and zeros behind them, where they have room.
+    /// The bytes and zeros after them, if they have room.
     front: [u8; FRONT],
-    /// The bytes, where they are more than are copied at once.
+    /// The bytes, if they are more than are copied at once.
     long: Vec<u8>,
 }
 
@@ -60,7 +60,7 @@ impl PaddedText {
         })
     }
 
-    /// Appends the text from its first byte on, or from its second, where there is room for 32 bytes and so many more.
+    /// Appends the text from its first byte on, or from its second. There is room for 32 bytes and so many more.
     /// Behind the text there is room for those.
     #[inline(always)]
     pub(crate) fn push_from<const SIZE: usize>(

@@ -19,14 +19,14 @@ use std::alloc::Global;
 use std::marker::Model;
 use toml::Value;
 
-/// A set of fields that stands again and again, from a byte of the data on.
+/// A set of fields that repeats, from a byte of the data on.
 #[derive(Drop)]
 pub struct Repeat {
     /// The first byte of the first set.
     first: u32,
     /// The bytes of a set beside those of its strings.
     size: u32,
-    /// The strings of the message behind which the sets stand, from the first on. The first byte counts from the end of the
+    /// The strings of the message before the sets, from the first on. The first byte counts from the end of the
     /// last.
     behind: Vec<Step>,
     fields: Vec<Field>,
@@ -53,7 +53,7 @@ impl Model for Repeat {
         × ((nat_le 1 r.size || r.has_strings) ≡ true) };
 }
 
-/// How many of so many bytes are left beside the strings of a set that begins with the first of these; none where one of
+/// How many of so many bytes are left beside the strings of a set that begins with the first of these; none if one of
 /// them is not proper, or there are not as many.
 fn left_beside_strings(fields: &[Field], set: &[u8], room: usize) -> Option<usize>
     ensures { result ≡ left_beside room (strings_size fields.now set.now) }
@@ -80,7 +80,7 @@ impl Repeat {
         self.fields.as_slice()
     }
 
-    /// The data from the first set on: none where a string before it has no end. It takes no memory.
+    /// The data from the first set on: none if a string before it has no end. It takes no memory.
     ///
     /// ```rust
     /// let sets = repeat.from_first(&[1, 10, 100, 0, 11]);
@@ -183,7 +183,7 @@ fn any_is_string(fields: &[Field]) -> bool
     fields.iter().any(|field| field.is_string())
 }
 
-/// Reads what repeats behind these fields of a message, in a table of this format and of these lookups.
+/// Reads the sets that follow these fields of a message, in a table of this format and of these lookups.
 #[tactic(auto, unfolding(crate::specs::Repeat::repeat))]
 pub(crate) fn read_repeat(
     alloc: Global,

@@ -51,7 +51,7 @@ fn dot_of(text: &[u8]) -> Option<usize>
     text.iter().position(|byte| *byte == b'.')
 }
 
-/// The number that digits make after those that made `before`, where it has 32 bits at most.
+/// The number that digits make after the digits that made `before`, if it has 32 bits at most.
 fn read_on(before: u32, digits: &[u8]) -> Option<u32>
     requires { list_all is_ascii_digit digits.now ≡ true }
     ensures { let number = digits_value_after 10 before digits.now in
@@ -113,7 +113,7 @@ fn of_text(text: &str) -> Result<Resolution, TableFault>
     of_parts(whole, decimals)
 }
 
-/// The resolution of a field, 1 where it has none.
+/// The resolution of a field, 1 if it has none.
 pub(crate) fn resolution_at(table: &Table) -> Result<Resolution, TableFault>
     ensures { Gives (λ resolution. resolution) result (resolution_at (table_view table.now)) }
 {

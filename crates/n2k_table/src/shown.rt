@@ -36,7 +36,7 @@ pub enum Shown<'a> {
 }
 
 /// What the fields of a definition show of a message: the name of each, and what it shows. It borrows
-/// the table and the data, takes no memory, and answers `None` for good after the last field.
+/// the table and the data, takes no memory, and returns `None` forever after the last field.
 #[derive(Drop)]
 pub struct Fields<'a> {
     rest: &'a [Field],

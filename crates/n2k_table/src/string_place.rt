@@ -1,4 +1,4 @@
-//! Strings, which say themselves how long they are, and the places behind them.
+//! Strings, which contain their own length, and the places after them.
 ghost use Rattle.std.specs.Prelude.{◌≡◌, ◌≤◌, ◌+◌, ◌/◌, drop, option_map};
 ghost use Rattle.n2k_table.specs.Strings.{taken, behind_string, data_behind};
 ghost use Rattle.n2k_table.specs.Tree.{message_bits};
@@ -13,14 +13,14 @@ pub enum Form {
     Lz,
 }
 
-/// A string behind which others stand: its first bit, from where its own place counts, and its form.
+/// A string before other fields: its first bit, from where its own place counts, and its form.
 #[derive(Clone, Copy)]
 pub(crate) struct Step {
     pub(crate) at: u32,
     pub(crate) form: Form,
 }
 
-/// How many of the bytes are a string that begins with the first of them, its length; none where it is not proper.
+/// How many of the bytes are a string that begins with the first of them, its length; none if it is not proper.
 fn taken(form: Form, bytes: &[u8]) -> Option<usize>
     ensures { result ≡ taken form bytes.now }
 {
@@ -33,7 +33,7 @@ fn taken(form: Form, bytes: &[u8]) -> Option<usize>
     if all <= bytes.len() { Some(all) } else { None }
 }
 
-/// The bytes behind a string that begins with the first of them, if it has an end.
+/// The bytes after a string that begins with the first of them, if it has an end.
 fn behind_string(form: Form, bytes: &[u8]) -> Option<&[u8]>
     ensures { option_map (λ rest. rest.now) result ≡ behind_string form bytes.now }
 {
@@ -48,14 +48,14 @@ fn from_bit(bytes: &[u8], at: u32) -> &[u8]
     bytes.get(at as usize / 8..).unwrap_or(&[])
 }
 
-/// How many bytes a string has that begins with the byte of that bit; none where it is not proper.
+/// How many bytes a string has that begins with the byte of that bit; none if it is not proper.
 pub(crate) fn taken_at(form: Form, bytes: &[u8], at: u32) -> Option<usize>
     ensures { result ≡ taken form (drop (at / 8) bytes.now) }
 {
     taken(form, from_bit(bytes, at))
 }
 
-/// The data from where a field's place counts: those behind the strings before it, if each of these has an end.
+/// The data from where a field's place counts: after the strings before it, if each of these has an end.
 pub(crate) fn data_behind<'a>(steps: &[Step], data: &'a [u8]) -> Option<&'a [u8]>
     ensures { option_map (λ rest. rest.now) result ≡ data_behind steps.now «data».now }
 {
@@ -66,7 +66,7 @@ pub(crate) fn data_behind<'a>(steps: &[Step], data: &'a [u8]) -> Option<&'a [u8]
     Some(rest)
 }
 
-/// How many bytes the data must have for a field to lie inside them. Where it stands behind a string, that is more than
+/// How many bytes the data must have for a field to lie inside them. If a string precedes the field, that is more than
 /// any have.
 pub(crate) fn bytes_needed(behind: &[Step], at: u32, bits: u32) -> usize
     requires { at + bits ≤ message_bits }

@@ -16,7 +16,7 @@ fn first_bytes(bytes: &[u8], length: usize, short: bool) -> Option<&[u8]>
     bytes.get(..length).or(short.then_some(bytes))
 }
 
-/// What stands in a string behind its length.
+/// The bytes of a string after its length.
 fn content(form: Form, short: bool, length: u8, bytes: &[u8]) -> Option<&[u8]>
     ensures { option_map (λ found. found.now) result ≡ content form short length bytes.now }
 {
@@ -27,7 +27,7 @@ fn content(form: Form, short: bool, length: u8, bytes: &[u8]) -> Option<&[u8]>
     }
 }
 
-/// What characters of a byte each, or of UTF-8, show: nothing where all of them fill the string up.
+/// What characters of a byte each, or of UTF-8, show: nothing if all of them are filler.
 fn characters_value(text: &[u8]) -> Shown<'_>
     ensures { shown_parts result ≡ shown_characters (trimmed text.now) }
 {
@@ -63,7 +63,7 @@ fn trimmed_units(bytes: &[u8]) -> &[u8]
     &bytes[..end]
 }
 
-/// What characters of UTF-16 show: nothing where all of them fill the string up.
+/// What characters of UTF-16 show: nothing if all of them are filler.
 fn wide_value(bytes: &[u8]) -> Shown<'_>
     ensures { shown_parts result ≡ shown_wide (trimmed_units bytes.now) }
 {
@@ -74,7 +74,7 @@ fn wide_value(bytes: &[u8]) -> Shown<'_>
     Shown::Wide(kept)
 }
 
-/// What characters show that stand behind a byte for their encoding.
+/// What characters show that follow a byte for their encoding.
 fn encoded_value(bytes: &[u8]) -> Shown<'_>
     ensures { shown_parts result ≡ shown_encoded bytes.now }
 {

@@ -49,7 +49,7 @@ impl Model for Table {
     ghost invariant = { λ t. IsIndex t.index t.definitions.items };
 }
 
-/// The definitions of a table, and where those of each PGN stand.
+/// The definitions of a table, and the places of each PGN's definitions.
 #[derive(Drop)]
 struct Definitions {
     list: Vec<StoredDefinition>,
@@ -150,7 +150,7 @@ impl Table {
     /// Reads a table: the bytes of a TOML 1.1 document in UTF-8, of format 1, 2 or 3 (docs/PROFILE.md has the
     /// formats). A table with the line `format = 1` alone is one without messages.
     ///
-    /// A document in which a fault stands is refused. Of several faults the first is answered, in the order that
+    /// A document with a fault is refused. Of several faults the first one is returned, in the order that
     /// docs/PROFILE.md tells.
     ///
     /// ```rust
@@ -160,10 +160,10 @@ impl Table {
     /// assert!(rt; matches!(refused, Err(TableFault::Format)));
     /// ```
     pub fn read(alloc: Global, bytes: &[u8]) -> Result<Table, TableFault>
-        // The table that the bytes spell, or the first fault that stands in them, unless memory runs out.
+        // The table that the bytes spell, or their first fault, unless memory runs out.
         ensures judged { ReaderGives (λ t. t) result (read_table bytes.now) }
 
-        // The same in two words: a table that is read has no fault, and a fault that is answered stands.
+        // In short: a table that is read has no fault, and a fault that is returned is in the bytes.
         ensures sound { IfOk result (λ t. (faults bytes.now ≡ []) × (t ≡ table bytes.now)) }
         ensures stands { IfErr result (λ fault. fault ≢ Memory → Contains (faults bytes.now) fault) }
 
@@ -225,7 +225,7 @@ impl Table {
         nth_of(candidates, &self.definitions, place)
     }
 
-    /// Looks a PGN up once for all that is asked of it; `None` where the table has no definition of it. It takes no
+    /// Looks a PGN up once for all later questions; `None` if the table has no definition of it. It takes no
     /// memory.
     ///
     /// ```rust
@@ -247,7 +247,7 @@ impl Table {
         })
     }
 
-    /// How the messages of a PGN are sent, as its definitions say; `None` where the table has none. It takes
+    /// How the messages of a PGN are sent, as its definitions say; `None` if the table has none. It takes
     /// no memory.
     ///
     /// ```rust
@@ -263,7 +263,7 @@ impl Table {
     }
 
     /// The definition that describes a message of a PGN with these data (in the order of the bus): the first
-    /// of the PGN in file order all of whose match fields lie in the data and have their value. `None` where
+    /// of the PGN in file order all of whose match fields lie in the data and have their value. `None` if
     /// there is none. It takes no memory.
     ///
     /// ```rust

@@ -20,14 +20,14 @@ pub(crate) const NAME_ROOM: usize = 64;
 /// The hexadecimal digits, in upper case.
 const DIGITS: [u8; 16] = *b"0123456789ABCDEF";
 
-/// A byte that stands for itself in a text.
+/// A byte that JSON writes as it is.
 fn is_plain(byte: u8) -> bool
     ensures { result ≡ is_plain byte }
 {
     (byte >= b' ') & (byte != b'"') & (byte != b'\\')
 }
 
-/// Whether each byte stands for itself. It looks at each, so that several are compared at once.
+/// Whether JSON writes each byte as it is. It looks at each, so that several are compared at once.
 fn are_plain(text: &[u8]) -> bool
     ensures { result ≡ list_all is_plain text.now }
 {
@@ -46,8 +46,8 @@ fn text_json(alloc: Global, text: &str) -> Result<Vec<u8>, AllocError>
     Value::String(String::from_str(alloc, text)?).to_vec(alloc)
 }
 
-/// Appends a text as JSON. Where each byte of it stands for itself, as in nearly all names, it is put between quotes
-/// where it goes, without a text of its own.
+/// Appends a text as JSON. If no byte needs an escape, as in nearly all names, the text is put between quotes
+/// in place, without a text of its own.
 pub(crate) fn push_json(alloc: Global, text: &str, out: &mut Vec<u8>) -> Result<(), AllocError>
     ensures { OnOk result (out.new.items ≡ out.old.items ++ text_json text.now) }
 {
@@ -61,7 +61,7 @@ pub(crate) fn push_json(alloc: Global, text: &str, out: &mut Vec<u8>) -> Result<
     Ok(())
 }
 
-/// The letter that stands for a byte behind a backslash, if one does.
+/// The letter that follows the backslash in the escape of a byte, if it has such an escape.
 fn escape_letter(byte: u8) -> Option<u8>
     ensures value { unwrap_or result 0 ≡ escape_letter byte }
     ensures some { IfSome result (λ letter. 0 < letter) }
@@ -90,7 +90,7 @@ fn escape_digit(byte: u8) -> u8
     }
 }
 
-/// Appends what stands in a text for a byte.
+/// Appends a byte of a text, escaped if necessary.
 #[tactic(auto, unfolding(json::specs::Print::escape_byte))]
 fn push_escaped<const SIZE: usize>(byte: u8, line: &mut TextBuffer<SIZE>) -> Result<(), AllocError>
     ensures { AddsText result line.old.items line.new.items (escape_byte byte) }
@@ -117,7 +117,7 @@ pub(crate) fn push_each<const SIZE: usize>(
     Ok(())
 }
 
-/// Appends what stands between the quotes of a text.
+/// Appends a text as between its quotes.
 fn push_inner<const SIZE: usize>(text: &[u8], line: &mut TextBuffer<SIZE>) -> Result<(), AllocError>
     ensures { AddsText result line.old.items line.new.items (flat_map escape_byte text.now) }
 {
@@ -141,7 +141,7 @@ pub(crate) fn push_text<const SIZE: usize>(
     line.push(b'"')
 }
 
-/// Appends what stands in a text for the character of a number.
+/// Appends the character with this number, escaped if necessary.
 fn push_character<const SIZE: usize>(
     byte: u8,
     line: &mut TextBuffer<SIZE>,
@@ -155,7 +155,7 @@ fn push_character<const SIZE: usize>(
     }
 }
 
-/// A byte that is a character of its own, and stands for itself in a text.
+/// A byte that is a character of its own, and needs no escape.
 fn is_plain_character(byte: u8) -> bool
     ensures { result ≡ is_plain_character byte }
 {
@@ -185,7 +185,7 @@ fn push_each_character<const SIZE: usize>(
     Ok(())
 }
 
-/// Appends what stands between the quotes of a text of characters. Most have plain ones alone, which are copied at
+/// Appends a text of characters as between its quotes. Most need no escape, and are copied at
 /// once.
 fn push_inner_characters<const SIZE: usize>(
     numbers: &[u8],

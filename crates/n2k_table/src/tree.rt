@@ -23,7 +23,7 @@ pub(crate) enum TableFormat {
     One,
     /// With sets: a definition may have a key `repeat`.
     Two,
-    /// With offsets and units of numbers, flags, digits, strings, fields and sets behind them, and short fields, too.
+    /// With offsets and units of numbers, flags, digits, strings, fields and sets after them, and short fields, too.
     Three,
 }
 
@@ -134,7 +134,7 @@ impl FieldKind {
         }
     }
 
-    /// Whether a key says where a field of the kind stands.
+    /// Whether a key gives the place of a field of this kind.
     fn has_place_key(self, key: &str) -> bool
         ensures { result ≡ is_among key.now (place_keys self) }
     {
@@ -299,7 +299,7 @@ pub(crate) fn text_at<'a>(table: &'a Table, key: &str) -> Result<&'a str, TableF
     checked_text(any_text_at(table, key)?)
 }
 
-/// A truth value, false where the key is missing.
+/// A truth value, false if the key is missing.
 pub(crate) fn bool_at(table: &Table, key: &str) -> Result<bool, TableFault>
     ensures { Gives (λ truth. truth) result (bool_at key.now (table_view table.now)) }
 {
@@ -337,7 +337,7 @@ pub(crate) fn elements_at<'a>(
     at_most(as_elements(get_required(table, key)?)?, most)
 }
 
-/// The elements of an array, at most so many; none where the key is missing.
+/// The elements of an array, at most so many; none if the key is missing.
 pub(crate) fn elements_or_none<'a>(
     table: &'a Table,
     key: &str,

@@ -12,7 +12,7 @@ use crate::line_buffer::TextBuffer;
 use crate::text::push_each;
 use std::alloc::AllocError;
 
-/// The first unit, and the bytes behind it.
+/// The first unit, and the bytes after it.
 fn split_unit(bytes: &[u8]) -> Option<(u16, &[u8])>
     ensures { MatchOption result (units bytes.now ≡ [])
         (λ p. (units bytes.now ≡ p.0 ∷ units p.1.now) × (length p.1.now + 2 ≡ length bytes.now)) }
@@ -22,7 +22,7 @@ fn split_unit(bytes: &[u8]) -> Option<(u16, &[u8])>
     Some((u16::from(*low) + 256 * u16::from(*high), rest))
 }
 
-/// The character of two units, where they are a pair of surrogates.
+/// The character of two units, if they are a pair of surrogates.
 fn pair_character(first: u16, second: u16) -> Option<char>
     ensures { MatchOption result (is_high_surrogate first && is_low_surrogate second ≡ false)
         (λ c. (is_high_surrogate first && is_low_surrogate second ≡ true) × (c ≡ surrogate_pair_char first second)) }
@@ -62,7 +62,7 @@ pub fn split_character(bytes: &[u8]) -> Option<(char, &[u8])>
     Some((lone_character(unit), behind))
 }
 
-/// Appends what stands in a text for a character.
+/// Appends a character, escaped if necessary.
 fn push_char<const SIZE: usize>(letter: char, line: &mut TextBuffer<SIZE>) -> Result<(), AllocError>
     ensures { AddsText result line.old.items line.new.items (flat_map escape_byte (character letter)) }
 {
@@ -70,7 +70,7 @@ fn push_char<const SIZE: usize>(letter: char, line: &mut TextBuffer<SIZE>) -> Re
     push_each(letter.encode_utf8(&mut room).as_bytes(), line)
 }
 
-/// Appends what stands between the quotes of a text.
+/// Appends a text as between its quotes.
 fn push_inner_wide<const SIZE: usize>(
     bytes: &[u8],
     line: &mut TextBuffer<SIZE>,

@@ -6,7 +6,7 @@ use Rattle.jiff_core.proofs.SignedLemmas.{signed_arith}
 use Rattle.jiff_core.proofs.CalendarLemmas.{day_count-epoch, day_count-lt_year, day_count-lt_month, day_count-day, day_count-day_of_year, day_count_bounds, days_from_civil-day_count}
 use Rattle.n2k_wire.specs.Calendar.{day_number, is_date, last_begun_year, last_begun_month, year_of, month_of, day_of_month}
 
--- a year that has begun, where no later one has
+-- a year that has begun, if no later one has
 pub last_begun_year-is : (n day year : ℕ) → 1970 ≤ year → year ≤ 1970 + n → day_number year 1 1 ≤ day → ((later : ℕ) → year < later → day < day_number later 1 1) → last_begun_year n day ≡ year
 unfolding last_begun_year
 last_begun_year-is zero day year low high begun others = omega arith

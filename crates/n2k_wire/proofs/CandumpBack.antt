@@ -67,7 +67,7 @@ none_of p q apart (b ∷ xs) all = grind (arith, none_of p q apart xs (and_parts
 
 -- ---- the moment
 
--- a text that is read as a number has digits alone
+-- a text that is read as a number contains only digits
 pub digits_alone : (before n : ℕ) (text : List ℕ) → decimal_after before text ≡ Some n → list_all is_ascii_digit text ≡ true
 unfolding decimal_after decimal_digit
 digits_alone before n [] e = refl
@@ -77,7 +77,7 @@ digits_alone before n (b ∷ text) e =
       | inr other ↦ absurd (let none = rw other at e in cc)
     ]
 
--- zeros in front change no number
+-- leading zeros change no number
 zero_read : (text : List ℕ) → decimal_after 0 (48 ∷ text) ≡ decimal_after 0 text
 unfolding decimal_after decimal_digit
 zero_read text = refl
@@ -117,7 +117,7 @@ fraction_after n few =
 pub is_other : (p : ℕ → Bool) (c : ℕ) → p c ≡ false → (b : ℕ) → p b ≡ true → (b == c) ≡ false
 is_other p c none b some = elim (cases_Bool (b == c)) [ inl same ↦ absurd (let e : b ≡ c = eqb-true b c same in let both = rw e at some in cc) | inr differs ↦ differs ]
 
--- what stands between the parentheses is read as the moment
+-- the text between the parentheses is read as the moment
 moment_read : (seen : Moment) → IsMoment seen → moment (second_digits seen.seconds ++ (46 ∷ (millis_digits seen.millis ++ codes "000"))) ≡ Some seen
 unfolding moment three_digits
 moment_read seen fits = grind (arith, number_is 12 seen.seconds (second_digits seen.seconds) (length-seconds seen.seconds fits.seconds_fit).0 (length-seconds seen.seconds fits.seconds_fit).1 (seconds_after seen.seconds fits.seconds_fit), number_is 9 (10 * (10 * (10 * seen.millis + 0) + 0) + 0) (millis_digits seen.millis ++ codes "000") (omega arith) (omega arith) (fraction_after seen.millis fits.millis_fit), number_is 3 seen.millis (millis_digits seen.millis) (omega arith) (omega arith) (millis_after seen.millis [] fits.millis_fit ∙ after-none seen.millis), cut_behind 46 (second_digits seen.seconds) (millis_digits seen.millis ++ codes "000") (none_of is_ascii_digit (λ b. b == 46) (is_other is_ascii_digit 46 refl) (second_digits seen.seconds) (digits_alone 0 seen.seconds (second_digits seen.seconds) (seconds_after seen.seconds fits.seconds_fit))))
@@ -136,7 +136,7 @@ upper_hexes (b ∷ bytes) ok =
     let low : is_ascii_hexdigit (slice_index upper_digits (b % 16)) ≡ true = upper_hex (b % 16) (omega arith) in
     rw (high, low) (upper_hexes bytes (λ i. ok (suc i)))
 
--- ---- the parts behind the stamp
+-- ---- the parts after the stamp
 
 no_hex_in : (c : ℕ) → is_ascii_hexdigit c ≡ false → (text : List ℕ) → list_all is_ascii_hexdigit text ≡ true → HasNone (λ b. b == c) text
 no_hex_in c other text all = none_of is_ascii_hexdigit (λ b. b == c) (is_other is_ascii_hexdigit c other) text all

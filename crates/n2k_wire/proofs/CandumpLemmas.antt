@@ -32,7 +32,7 @@ indexed f [] i none = sym none
 indexed f (digit ∷ digits) zero none = refl
 indexed f (digit ∷ digits) (suc i) none = indexed f digits i none
 
--- digits in upper case are the upper case of those in lower case
+-- digits in upper case are lower-case digits, converted
 pub upper_of_lower : (bytes : List ℕ) → map to_ascii_uppercase (encode_lower bytes) ≡ encode_upper bytes
 unfolding encode_with
 upper_of_lower [] = refl
@@ -76,7 +76,7 @@ line_is : (interface begun : List ℕ) (seen : Moment) (identifier : ℕ) (paylo
 unfolding candump_line
 line_is interface begun seen identifier payload is = rw is (simp append_assoc)
 
--- A line that was written behind the text that was there, of which the room behind it is cut off, is the packet's.
+-- A line that was written after the old text, with the unused room after it cut off, is the packet's.
 pub appended : (interface front millis behind digits : List ℕ) (p : PacketParts) (payload old room written rest cut : List ℕ) (at n all : ℕ)
     → IsStampText (utc_moment p.stamp) (front ++ millis) → AreDigitsOf p.id digits → behind ≡ behind_millis interface → payload ≡ p.payload
     → take n written ≡ take at room ++ (front ++ millis ++ behind ++ take 8 digits ++ codes "#" ++ encode_upper payload ++ codes "\n") → take at room ≡ old

@@ -6,7 +6,7 @@ use Rattle.std.proofs.lemmas.List.Sums.{prefix_len-le-length}
 use Rattle.std.proofs.lemmas.List.Splits.{slice_split-cons_no, slice_split_first}
 use Rattle.n2k_wire.specs.Pieces.{cut_at}
 
--- a byte that is nowhere
+-- a byte that is not found
 pub none_found : (p : ℕ → Bool) (xs : List ℕ) → None ≡ position p xs → length xs ≡ position_or_len p xs
 none_found p xs e = grind (arith, prefix_len-le-length)
 
@@ -21,12 +21,12 @@ split_none p (x ∷ xs) e =
           slice_split-cons_no p x xs fails ∙ ap (onto_first x) (split_none p xs rest)
     ]
 
--- where there is no separator, the text is the one column
+-- without a separator, the text is the one column
 pub columns_uncut : (separator : ℕ) (text : List ℕ) → cut_at separator text ≡ None → slice_split (λ b. b == separator) text ≡ text ∷ []
 unfolding cut_at
 columns_uncut separator text e = grind (arith, split_none, prefix_len-le-length)
 
--- else the first column is what stands before the first separator
+-- the first column is the text before the first separator
 pub columns_cut : (separator : ℕ) (text before after : List ℕ) → cut_at separator text ≡ Some (before, after)
     → slice_split (λ b. b == separator) text ≡ before ∷ slice_split (λ b. b == separator) after
 unfolding cut_at

@@ -1,4 +1,4 @@
--- What follows the stamp of a line, where it stands as `candump` writes it.
+-- The text after the stamp of a line in the form that `candump` writes.
 use Rattle.std.proofs.Common.{◌≡◌, ℕ, ◌<◌, ◌≤◌, true, false, not, List, [], ◌∷◌, ◌++◌, take, drop, get_or, length, Some, Ok, refl, sym, subst, arith, position, option_map, take-append-drop}
 use Rattle.std.specs.Char.{is_ascii_hexdigit}
 use Rattle.std.specs.Int.{w32, from_be_bytes}
@@ -24,7 +24,7 @@ interface_of : (name : List ℕ) → 0 < length name → length name ≤ 15 → 
 unfolding is_interface
 interface_of name some few all = rw (lt-ltb 0 (length name) some, le-leb (length name) 15 few, all) refl
 
--- an interface that one space surrounds, eight digits and a `#` are what is looked for
+-- an interface between two single spaces, eight digits and a `#` are found by place
 pub by_place : (text named name rest inner digits behind more : List ℕ) (at : ℕ)
     → after_byte 32 text ≡ Some named → position (λ b. not (is_interface_byte b)) named ≡ Some at
     → name ≡ take at named → rest ≡ drop at named → length name ≡ at → 0 < at → at ≤ 15
@@ -43,7 +43,7 @@ identifier_of digits n hex eight read small = grind arith
 abbrev pub twice : List ℕ → List ℕ
 twice digits = pick_l 0 (digits ++ digits) (0 ∷ 1 ∷ 2 ∷ 3 ∷ 4 ∷ 5 ∷ 6 ∷ 7 ∷ 0 ∷ 1 ∷ 2 ∷ 3 ∷ 4 ∷ 5 ∷ 6 ∷ 7 ∷ [])
 
--- the first four of their bytes
+-- the first four bytes of eight digits twice are those of the digits
 pub word_of : (digits bytes : List ℕ) → length digits ≡ 8 → list_all is_ascii_hexdigit (twice digits) ≡ true → result_ok (decode_of (twice digits)) ≡ Some bytes
     → (list_all is_ascii_hexdigit digits ≡ true) × (result_ok (decode_of digits) ≡ Some (get_or bytes 0 0 ∷ get_or bytes 1 0 ∷ get_or bytes 2 0 ∷ get_or bytes 3 0 ∷ []))
 unfolding listed spelled
@@ -60,7 +60,7 @@ pub entry_of : (line stamp text behind bytes : List ℕ) (n : ℕ) → stamp_beh
 unfolding stamp_behind candump frame_or_skip
 entry_of line stamp text behind bytes n is (digits, framed_is, known) other read = grind arith
 
--- such a line is a candump line
+-- a line in this form is a candump line
 pub entry_line : (line stamp text : List ℕ) (packing : Packing) → stamp_behind line ≡ Some (stamp, text) → length line ≤ 2048 → entry line packing ≡ settled (candump line)
 unfolding stamp_behind stamped after_byte
 entry_line [] stamp text packing seen short = absurd cc

@@ -22,7 +22,7 @@ others : (bytes : List ℕ) → Each1 (Fits w8) bytes
 others [] small = refl
 others (b ∷ bytes) small = λ i. agree_below_at lane other 256 b refl small.0.fits i ∷ others bytes small.1 i
 
--- the bits of these lanes
+-- the code's mask of sixteen bytes has the bits of `other`
 pub mask_is : (bytes : List ℕ) → length bytes ≡ 16 → Each1 (Fits w8) bytes
     → mask_l (map (top 7) (zip2 (λ a b. cond (ltb a b) 255 0) (replicate 16 93) (zip2 (λ a b. (a + (256 - b)) % 256) bytes (replicate 16 33)))) % 2 ^ 64 ≡ mask_l (map other bytes)
 mask_is bytes long small = grind (arith, others bytes small, mask_l-mod (map other bytes) 64 (omega (arith, length-map bytes other, long)), length-map bytes other)
@@ -65,10 +65,10 @@ pub stamp_mask : (bytes : List ℕ) → length bytes ≡ 32 → Each1 (Fits w8) 
 stamp_mask bytes long small =
     ap (λ ms. mask_l ms % 2 ^ 64) (rw long at (stamp_lanes bytes small)) ∙ mask_l-mod (map no_stamp bytes) 64 (omega (arith, length-map bytes no_stamp, long))
 
--- all bytes are those of a stamp
+-- all bytes are a stamp's
 pub none_stops : (text : List ℕ) (n : ℕ) → length text ≡ n → mask_l (map no_stamp text) ≡ 0 → list_all is_stamp_byte (take n text) ≡ true
 none_stops text n long none = grind (arith, leading_from_mask_l no_stamp text none, all_before is_stamp_byte text)
 
--- or those before the first whose bit is set
+-- all bytes before the first set bit are a stamp's
 pub one_stops : (text : List ℕ) (mask : ℕ) → length text ≤ 64 → mask ≡ mask_l (map no_stamp text) → 0 < mask → (list_all is_stamp_byte (take (count_trailing_zeros 64 mask) text) ≡ true) × (count_trailing_zeros 64 mask ≤ length text)
 one_stops text mask long is some = grind (arith, trailing_mask_l no_stamp 64 text long (omega (arith, is)), all_before is_stamp_byte text, prefix_len-le-length (λ b. not (no_stamp b)) text)

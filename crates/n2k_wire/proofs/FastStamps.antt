@@ -1,4 +1,4 @@
--- A stamp in which the separators stand where `candump` puts them.
+-- A stamp with its separators in the places where `candump` puts them.
 use Rattle.std.proofs.Common.{arith, ◌≡◌, ℕ, ◌≤◌, true, leb, not, List, [], ◌∷◌, ◌++◌, Some, refl, ap, ◌∙◌, ◌==◌}
 use Rattle.std.specs.Char.{is_ascii_digit}
 use Rattle.std.specs.List.{list_all}
@@ -20,7 +20,7 @@ unfolding after_byte
 follows byte [] rest e = absurd cc
 follows byte (b ∷ text) rest e = grind arith
 
--- the separators stand where they were looked for, and nowhere before
+-- the separators are in these places, and not before
 pub usual : (line inner stamp behind text seconds point fraction : List ℕ) (s f m : ℕ)
     → after_byte 40 line ≡ Some inner → inner ≡ stamp ++ behind → after_byte 41 behind ≡ Some text
     → stamp ≡ seconds ++ point → after_byte 46 point ≡ Some fraction

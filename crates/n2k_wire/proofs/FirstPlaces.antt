@@ -1,4 +1,4 @@
--- The first place of a byte, as `memchr` answers it.
+-- The first place of a byte, as `memchr` returns it.
 use Rattle.std.proofs.Common.{◌≡◌, ℕ, List, length, get_or, Option, Some, None, arith, position, ◌==◌}
 use Rattle.std.proofs.lemmas.Bool.{false_from_ne_true}
 use Rattle.std.proofs.lemmas.List.Sums.{position_or_len_is}

@@ -70,7 +70,7 @@ all_more p bytes i so_far within before =
 pub all_done : (p : ℕ → Bool) (bytes : List ℕ) (i : ℕ) (so_far : Bool) → length bytes ≤ i → (so_far && list_all p (drop i bytes)) ≡ list_all p bytes → so_far ≡ list_all p bytes
 all_done p bytes i so_far past before = sym (and-true so_far) ∙ (rw (drop_of_length-le bytes {i = i} past) at before)
 
--- a text of digits alone is as long as the digits that it begins with
+-- a text of digits alone is as long as its leading digits
 pub all_digits : (p : ℕ → Bool) (text : List ℕ) → list_all p text ≡ true → length text ≡ position_or_len (λ b. not (p b)) text
 all_digits p [] all = refl
 all_digits p (b ∷ text) all =
@@ -141,7 +141,7 @@ sixteen_read bytes long small none =
     let whole : length (others 16 bytes) ≡ 16 = rw long at (length-others bytes) in
     (rw long at (lanes_read bytes small)) (sym (mask_l-mod (others 16 bytes) 64 (omega (arith, whole))) ∙ none)
 
--- the bytes of their pairs
+-- the bytes of pairs of digits
 abbrev joined : List ℕ → List ℕ
 joined vs =
     zip2 (λ a b. (a + b) % 256) (zip2 (λ a b. a * b % 256) (pick_l 0 (vs ++ vs) (0 ∷ 2 ∷ 4 ∷ 6 ∷ 8 ∷ 10 ∷ 12 ∷ 14 ∷ [])) (replicate 8 16))
@@ -150,7 +150,7 @@ joined vs =
 byte_is : (high low : ℕ) → is_ascii_hexdigit high ≡ true → is_ascii_hexdigit low ≡ true → (hex_value high * 16 % 256 + hex_value low) % 256 ≡ hex_value high * 16 + hex_value low
 byte_is high low a b = grind (arith, nat_tests)
 
--- each of them
+-- each of some hexadecimal digits is one
 pub digit_at : (digits : List ℕ) (i : ℕ) → list_all is_ascii_hexdigit digits ≡ true → i < length digits → is_ascii_hexdigit (get_or digits i 0) ≡ true
 digit_at [] i all within = absurd (omega arith)
 digit_at (digit ∷ digits) zero all within = (and_parts _ _ all).0

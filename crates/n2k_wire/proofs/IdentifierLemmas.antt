@@ -1,4 +1,4 @@
--- An identifier and what it says, both ways.
+-- An identifier and its parts, both ways.
 use Rattle.std.proofs.Common.{◌≡◌, ℕ, ◌+◌, ◌*◌, ◌/◌, ◌%◌, ◌^◌, ◌<◌, true, false, Some, refl, sym, ◌∙◌, ltb, arith, inl, inr, ◌==◌, if◌then◌else◌}
 use Rattle.std.proofs.lemmas.Bool.{cases_Bool, eqb-true}
 use Rattle.n2k_wire.specs.declared.identifier.Id.{Id}
@@ -8,7 +8,7 @@ use Rattle.n2k_wire.specs.Identifier.{split, join, is_joinable, is_addressed, lo
 abbrev sum_of : ℕ → ℕ → ℕ → ℕ → ℕ
 sum_of p g s a = p * 2 ^ 26 + g * 2 ^ 16 + s * 2 ^ 8 + a
 
--- its parts
+-- the parts of a sum of priority, page and format, specific byte and source
 parts : (p g s a : ℕ) → p < 8 → g < 1024 → s < 256 → a < 256
     → (priority (sum_of p g s a) ≡ p) × (data_page (sum_of p g s a) ≡ g / 2 ^ 8) × (pdu_format (sum_of p g s a) ≡ g % 2 ^ 8) × (pdu_specific (sum_of p g s a) ≡ s) × (source (sum_of p g s a) ≡ a)
 parts p g s a p_fits g_fits s_fits a_fits = (omega arith, omega arith, omega arith, omega arith, omega arith)
@@ -16,7 +16,7 @@ parts p g s a p_fits g_fits s_fits a_fits = (omega arith, omega arith, omega ari
 same_id : (a b : Id) → a.prio ≡ b.prio → a.pgn ≡ b.pgn → a.src ≡ b.src → a.dst ≡ b.dst → a ≡ b
 same_id a b prio pgn src dst = grind arith
 
--- what an identifier says, where it is for one address and where it is for all
+-- the parts of an identifier for one address, and of an identifier for all
 split_addressed : (n : ℕ) → ltb (pdu_format n) 240 ≡ true
     → (id : Id) → priority n ≡ id.prio → data_page n * 2 ^ 16 + pdu_format n * 2 ^ 8 ≡ id.pgn → source n ≡ id.src → pdu_specific n ≡ id.dst → split n ≡ id
 unfolding split
@@ -27,7 +27,7 @@ split_broadcast : (n : ℕ) → ltb (pdu_format n) 240 ≡ false
 unfolding split
 split_broadcast n test id prio pgn src dst = rw test (same_id _ id prio pgn src dst)
 
--- the number of an identifier that says this
+-- the number of an identifier with these parts
 abbrev number_of : Id → ℕ
 number_of id = sum_of id.prio (id.pgn / 2 ^ 8) (specific_of id) id.src
 
@@ -35,7 +35,7 @@ join_some : (id : Id) → is_joinable id ≡ true → join id ≡ Some (number_o
 unfolding join
 join_some id holds = rw holds refl
 
--- what stands where an identifier says this
+-- the conditions under which an identifier has these parts
 abbrev Joinable : Id → Type 0
 Joinable id = (id.prio < 8) × (id.pgn < 2 ^ 18) × ((if is_addressed id.pgn then low_byte id.pgn == 0 else id.dst == everyone) ≡ true)
 

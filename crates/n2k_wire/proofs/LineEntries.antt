@@ -39,7 +39,7 @@ split_fits n = grind arith
 
 -- ---- data
 
--- digits that decode are twice as many as their bytes
+-- digits of data are twice as many as their bytes
 payload_fits : (text bytes : List ℕ) → payload text ≡ Some bytes → (length bytes ≤ 8) × IsBytes bytes
 unfolding payload
 payload_fits text bytes e =

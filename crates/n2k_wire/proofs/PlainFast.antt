@@ -1,4 +1,4 @@
--- A plain line in which everything stands where canboat puts it.
+-- A plain line with everything in the places where canboat puts it.
 use Rattle.std.proofs.Common.{◌≡◌, ℕ, zero, suc, ◌+◌, ◌-◌, ◌*◌, ◌%◌, ◌^◌, ◌<◌, ◌≤◌, Bool, true, false, cond, eqb, not, w8, List, [], ◌∷◌, ◌++◌, length, get_or, map, replicate, drop, take, Option, Some, None, Ok, refl, ap, sym, subst, ◌∙◌, arith, ◌==◌, IsTrue, append-nil, length-append, length-take-le, take-append-drop, take-take}
 use Rattle.std.specs.Char.{is_ascii_digit, is_ascii_hexdigit}
 use Rattle.std.specs.List.{list_all}
@@ -39,7 +39,7 @@ is_found n line front stamp front_is stamp_is few long all starts = grind (arith
 
 -- ---- numbers
 
--- what was read as a number has digits alone
+-- a column that was read as a number contains only digits
 read_digits : (limit n : ℕ) (column : List ℕ) (read : Option ℕ) → decimal_number 10 column ≡ read → number_to limit column ≡ Some n → list_all is_ascii_digit column ≡ true
 unfolding number_to
 read_digits limit n column read e found = grind (arith, number_digits)
@@ -53,7 +53,7 @@ numbered limit n text column behind rest whole comma found = grind (arith, follo
 
 -- ---- columns that were read
 
--- what was read before, and then more
+-- columns read before, and then more
 pub read_more : (all next rest : List (List ℕ)) (front bytes : List ℕ) → AreRead all front next → AreRead next bytes rest → AreRead all (front ++ bytes) rest
 read_more all next rest front bytes a b = grind (arith, length-append, regroup)
 
@@ -67,7 +67,7 @@ frame_made : (text stamp bytes : List ℕ) (id : Id) (e : Entry) → AreRead (co
     → IsPackedOf packings.Frames stamp id (bytes_of 8 (columns text)) e
 frame_made text stamp bytes id e read eight is = grind (arith, all_read)
 
--- the first bytes of what was taken
+-- the first of the bytes taken
 pub all_taken : (all more : List (List ℕ)) (room bytes last : List ℕ) (e len : ℕ) → AreRead all (take e room) more → AreRead more (take (len - e) last) [] → take (e + 8) bytes ≡ take e room ++ last
     → e ≤ length room → length last ≡ 8 → e < len → len ≤ e + 8 → bytes_of len all ≡ Some (take len bytes)
 all_taken all more room bytes last e len first rest written inside eight past within = grind (arith, partly bytes room last e (len - e) 8 written (omega arith) inside, length-append (take e room) (take (len - e) last), length-take-le e room inside, length-take-le (len - e) last (omega arith), all_read all (take e room ++ take (len - e) last) (read_more all more [] (take e room) (take (len - e) last) first rest))
@@ -77,7 +77,7 @@ all_taken all more room bytes last e len first rest written inside eight past wi
 two_no_comma : (a b : ℕ) → is_ascii_hexdigit a ≡ true → is_ascii_hexdigit b ≡ true → HasNoComma (a ∷ b ∷ [])
 two_no_comma a b ea eb = grind (arith, is_other is_ascii_hexdigit 44 refl a ea, is_other is_ascii_hexdigit 44 refl b eb)
 
--- these columns follow a column that stands before this text
+-- these columns follow a column that is before this text
 abbrev Follow : List ℕ → List (List ℕ) → Type 0
 Follow text more = (column : List ℕ) → HasNoComma column → columns (column ++ text) ≡ column ∷ more
 
@@ -104,7 +104,7 @@ digits_read n (a ∷ b ∷ c ∷ rest) text more ends all e =
     (one_read a b (44 ∷ others) (columns others) (λ column alone. next_column column others alone) ea.0 eb.0)
     (digits_read (n - 1) (c ∷ rest) text more ends eb.1 (omega arith))
 
--- eight columns and what follows them
+-- eight columns and the text after them
 eight_read : (text bytes behind : List ℕ) (more : List (List ℕ)) → AreSpelled text bytes → Follow behind more → AreRead (columns (text ++ behind)) bytes more
 eight_read text bytes behind more is ends = grind (arith, spelled_bytes 8 is.digits bytes is.hexadecimal is.count is.bytes_are, digits_read 7 is.digits behind more ends is.hexadecimal is.count)
 
@@ -125,7 +125,7 @@ two_more j = omega arith
 three_more : (j : ℕ) → 3 * suc j ≡ suc (suc (suc (3 * j)))
 three_more j = omega arith
 
--- the first columns, and what they spell
+-- the first columns, and their bytes
 front_columns : (j : ℕ) (digits : List ℕ) → take (suc (suc (3 * j))) (with_commas digits) ≡ with_commas (take (suc (suc (2 * j))) digits)
 unfolding with_commas
 front_columns zero [] = refl
@@ -201,7 +201,7 @@ packet_read : (line stamp text behind rest payload : List ℕ) (id : Id) (n : �
 unfolding packet_of header id_of
 packet_read line stamp text behind rest payload id n line_is ok (pgn, src, dst, first, second, third, fourth) len bytes = grind (arith, next_column, stamp_parts)
 
--- the entry of a line, by its parts and what its data make of them
+-- the entry of a line, by its parts and its data
 pub entry_read : (packing : Packing) (line stamp text behind rest : List ℕ) (id : Id) (n : ℕ) (e : Entry) → line ≡ stamp ++ (44 ∷ text) → length line ≤ 2048 → IsTrue (is_stamp stamp) → IsIdBefore text id behind → IsNumberBefore 223 behind n rest
     → (bytes : Option (List ℕ)) → bytes_of n (columns rest) ≡ bytes → IsPackedOf packing stamp id bytes e → e ≡ entry line packing
 entry_read packing line stamp text behind rest id n e line_is short ok is len None read made = absurd cc

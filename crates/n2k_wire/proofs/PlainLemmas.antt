@@ -3,7 +3,7 @@ use Rattle.std.proofs.Common.{arith, ◌≡◌, ℕ, List, [], ◌∷◌, ◌++�
 use Rattle.std.proofs.lemmas.Bool.{eq-eqb, ne_eqb}
 use Rattle.n2k_wire.specs.Plain.{pair, pairs, bytes_of}
 
--- what was read before, and what is still read
+-- the bytes read before, and those still read
 abbrev pub with_front : List ℕ → Option (List ℕ) → Option (List ℕ)
 with_front front read = option_map (λ bytes. front ++ bytes) read
 
@@ -31,6 +31,6 @@ pub bytes_of-other : (len : ℕ) (more : List (List ℕ)) → (length more ≡ l
 unfolding bytes_of
 bytes_of-other len more other = rw (ne_eqb (length more) len other) refl
 
--- a column that is no byte, among as many columns as there should be or not
+-- a column that is not a byte, for any number of columns
 pub bytes_of-bad : (len : ℕ) (more : List (List ℕ)) → pairs more ≡ None → bytes_of len more ≡ None
 bytes_of-bad len more bad = grind (arith, bytes_of-pairs, bytes_of-other)

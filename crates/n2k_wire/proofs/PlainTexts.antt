@@ -19,7 +19,7 @@ take_past (x ∷ p) q k =
     let one : length (x ∷ p) + k ≡ suc (length p + k) = omega arith in
     rw one (ap (λ (t : List ℕ). x ∷ t) (take_past p q k))
 
--- the first of some bytes that were written behind others
+-- the first of some bytes that were written after others
 pub partly : (new old bytes : List ℕ) (at count n : ℕ) → take (at + n) new ≡ take at old ++ bytes → count ≤ n → at ≤ length old
     → take (at + count) new ≡ take at old ++ take count bytes
 partly new old bytes at count n is few inside = grind (arith, length-take-le at old inside, take-take (at + count) (at + n) new (omega arith), take_past (take at old) bytes count)
@@ -50,7 +50,7 @@ piece_of_small n free byte two one none = grind (arith, one_digit, two_digits, t
 
 -- ---- PGNs of five and six digits
 
--- the word of six digits, of which the first may be a zero
+-- the word of six digits, the first of which may be a zero
 abbrev pub pgn_of : ℕ → ℕ
 pgn_of n = digits_of (n / 1000) + digits_of (n % 1000) / 256 * 4294967296
 
@@ -99,7 +99,7 @@ end_is bytes long small = grind (arith, listed_all 8 0 bytes long, end_of_eight 
 
 -- ---- the line
 
--- what was written in order is the line
+-- the pieces, written in order, are the line
 pub line_is : (p : PacketParts) (t0 t1 t2 t3 t4 t5 t6 stamp prio pgn src dst bytes : List ℕ)
     → t1 ≡ t0 ++ stamp → t2 ≡ t1 ++ prio → t3 ≡ t2 ++ pgn → t4 ≡ t3 ++ src → t5 ≡ t4 ++ dst
     → t6 ≡ t5 ++ number_piece (length bytes) ++ flat_map byte_piece bytes ++ codes "\n"

@@ -26,11 +26,10 @@ HasNoComma text = All (λ b. (b == 44) ≡ false) text
 no_comma : (b : ℕ) → (b ≡ 44 → ⊥) → (b == 44) ≡ false
 no_comma b other = ne_eqb b 44 other
 
--- a column and a comma, and what stands behind them
+-- a column and a comma, and the text after them
 pub next_column : (text more : List ℕ) → HasNoComma text → columns (text ++ (44 ∷ more)) ≡ text ∷ columns more
 next_column text more h = slice_split_at (λ b. b == 44) text 44 more h refl
 
--- the last column
 pub last_column : (text : List ℕ) → HasNoComma text → columns text ≡ text ∷ []
 last_column text h = slice_split_none (λ b. b == 44) text h
 
@@ -65,7 +64,7 @@ unfolding pairs
 bytes_read [] h = refl
 bytes_read (b ∷ bytes) h = rw (byte_reads b (h 0), bytes_read bytes (λ i. h (suc i))) refl
 
--- a column, and behind it one column for each byte
+-- a column, followed by one column for each byte
 columns_of_bytes : (front bytes : List ℕ) → HasNoComma front → IsBytes bytes → columns (front ++ flat_map byte_piece bytes) ≡ front ∷ map byte_digits bytes
 columns_of_bytes front [] h bs = rw append-nil (last_column front h)
 columns_of_bytes front (b ∷ bytes) h bs = grind (arith, columns_of_bytes (byte_digits b) bytes (byte_no_comma b (bs 0)) (λ i. bs (suc i)), next_column)
@@ -118,7 +117,7 @@ decimal_reads n h = decimal_by_steps IsReadAs one_digit_reads more_digits_read n
 number_no_comma : (n : ℕ) → n < 10 ^ 10 → HasNoComma (decimal n)
 number_no_comma n h = (decimal_reads n (omega arith)).1
 
--- so are they where the number is within its limit
+-- the decimal digits of a number within a limit are read as that number
 number_reads : (limit n : ℕ) → n ≤ limit → limit < 10 ^ 10 → number_to limit (decimal n) ≡ Some n
 unfolding number_to decimal_number
 number_reads limit n within h =
@@ -152,7 +151,7 @@ regroup s a b c d e f = simp append_assoc
 lengths : (s a b c d e f : List ℕ) → length ((((((s ++ a) ++ b) ++ c) ++ d) ++ e) ++ f) ≡ length s + length a + length b + length c + length d + length e + length f
 lengths s a b c d e f = simp length-append
 
--- a line that is neither too long, nor skipped, nor of the other format
+-- a line that is short, not skipped, and not of the other format
 pub plain_entry : (line : List ℕ) (packing : Packing) → length line ≤ 2048 → is_skipped line ≡ false → is_candump line ≡ false → entry line packing ≡ settled (plain packing line)
 unfolding entry
 plain_entry line packing short kept other = grind arith
@@ -161,7 +160,7 @@ module _ (p : PacketParts) (packing : Packing) (ok : IsPacketParts p) where
   stamp_is : (starts_stamp p.stamp ≡ true) × (length p.stamp ≤ 32) × HasNoComma p.stamp
   stamp_is = stamp_parts p.stamp ok.packet_ok.stamp_ok
 
-  -- what stands behind the stamp
+  -- the text after the stamp
   abbrev behind_stamp : List ℕ
   behind_stamp =
       number_piece p.id.prio ++ (number_piece p.id.pgn ++ (number_piece p.id.src ++ (number_piece p.id.dst ++ (number_piece (length p.payload) ++ flat_map byte_piece p.payload))))
@@ -174,7 +173,7 @@ module _ (p : PacketParts) (packing : Packing) (ok : IsPacketParts p) where
   unfolding plain_line
   line_short = grind (arith, lengths, stamp_is, length-number_piece, length-bytes)
 
-  -- the columns behind the stamp
+  -- the columns after the stamp
   abbrev behind : List (List ℕ)
   behind =
       decimal p.id.prio ∷ decimal p.id.pgn ∷ decimal p.id.src ∷ decimal p.id.dst ∷ decimal (length p.payload) ∷ map byte_digits p.payload

@@ -1,4 +1,4 @@
--- The second that lines in a row share: what they begin with, and its text with the milliseconds of each.
+-- The second that lines in a row share: their first bytes, and its text with the milliseconds of each line.
 use Rattle.std.proofs.Common.{◌≡◌, ℕ, ◌+◌, ◌-◌, ◌*◌, ◌≤◌, true, List, [], ◌∷◌, ◌++◌, length, get_or, set, take, drop, Some, refl, ap, sym, ◌∙◌, arith, append_assoc, codes, IsTrue, length-take-le, take-append-drop}
 use Rattle.std.specs.Char.{is_ascii_digit}
 use Rattle.std.specs.List.{list_all}
@@ -28,16 +28,16 @@ opens : (byte : ℕ) (rest : List ℕ) → after_byte byte (byte ∷ rest) ≡ S
 unfolding after_byte
 opens byte rest = rw (eq-eqb byte byte refl) refl
 
--- the front of ten digits, or of any up to twelve
+-- the start of a line with up to twelve digits
 pub front_read : (front seconds : List ℕ) (s : ℕ) → front ≡ 40 ∷ (seconds ++ (46 ∷ [])) → decimal_number 12 seconds ≡ Some s → s ≤ 253402300799 → IsSecondFront front s
 front_read front seconds s is read small fraction rest f m part third = grind (arith, usual (40 ∷ ((seconds ++ (46 ∷ fraction)) ++ (41 ∷ rest))) ((seconds ++ (46 ∷ fraction)) ++ (41 ∷ rest)) (seconds ++ (46 ∷ fraction)) (41 ∷ rest) rest seconds (46 ∷ fraction) fraction s f m (opens 40 ((seconds ++ (46 ∷ fraction)) ++ (41 ∷ rest))) refl (opens 41 rest) refl (opens 46 fraction) read part third small, append_assoc)
 
--- the front of 1970's begin
+-- the start of a line of 1970's first second
 pub first_front : IsSecondFront (codes "(0000000000.") 0
 unfolding decimal_number decimal_after decimal_digit
 first_front = front_read (codes "(0000000000.") (codes "0000000000") 0 refl refl (omega arith)
 
--- a front that was taken apart
+-- the parts of the start of a line
 pub front_parts : (front inner digits point rest : List ℕ) → length front ≡ 12 → after_byte 40 front ≡ Some inner → digits ≡ take 10 inner → point ≡ drop 10 inner → after_byte 46 point ≡ Some rest
     → front ≡ 40 ∷ (digits ++ (46 ∷ []))
 front_parts front inner digits point [] twelve opened digits_is point_is pointed =
@@ -49,7 +49,7 @@ front_parts front inner digits point (b ∷ rest) twelve opened digits_is point_
 pub first_chunk : (n : ℕ) (text front rest : List ℕ) → front ≡ take n text → rest ≡ drop n text → length rest + n ≡ length text → (length front ≡ n) × (text ≡ front ++ rest)
 first_chunk n text front rest front_is rest_is long = grind (arith, length-take-le, take-append-drop)
 
--- a line of that front, by the text of its stamp
+-- a line that begins so, by the text of its stamp
 pub stamped_on : (front fraction rest : List ℕ) (seconds : ℕ) → IsSecondFront front seconds → seconds ≤ 253402300799 → list_all is_ascii_digit fraction ≡ true → length fraction ≡ 6
     → (m : ℕ) × (stamp_behind (front ++ (fraction ++ (41 ∷ rest))) ≡ Some (utc_text (record { seconds = seconds; millis = m }), rest)) × (millis_digits m ≡ three_digits fraction) × (m ≤ 999)
 unfolding three_digits

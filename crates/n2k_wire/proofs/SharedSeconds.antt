@@ -64,7 +64,7 @@ module _ (stamp : List ℕ) (long : length stamp ≡ 20) (behind other : List �
       let millis_is = millis_at (take 3 other) refl ∙ number.1 in
       (record { seconds = day * 86400 + second; millis = number.0 }, rw (form_is, day_is, second_is, millis_is) refl, ap (λ (t : List ℕ). second_front (day * 86400 + second) ++ t) (sym (three_back number.0 (take 3 other) three number.2).0))
 
--- where one stamp has a moment, each that begins with the same 20 bytes is of its second
+-- if one stamp has a moment, each stamp with the same first 20 bytes is of its second
 shared : (stamp behind : List ℕ) (seen : Moment) → length stamp ≡ 20 → length behind ≡ 4 → utc_moment (stamp ++ behind) ≡ Some seen
     → (other : List ℕ) → length other ≡ 4 → are_millis other ≡ true → IsStampText (utc_moment (stamp ++ other)) (second_front seen.seconds ++ take 3 other)
 unfolding utc_moment
@@ -76,12 +76,12 @@ shared stamp behind seen long four e other four_too ends =
     let is : day * 86400 + second ≡ seen.seconds = (moment_is seen (day * 86400 + second) millis e4).0 in
     subst (λ n. IsStampText (utc_moment (stamp ++ other)) (second_front n ++ take 3 other)) is (found stamp long behind other four four_too day second (if_some (has_utc_form (stamp ++ behind)) (stamp ++ behind) f ef).0 ed es ends)))))
 
--- and its own milliseconds follow them
+-- a stamp's milliseconds are its last digits
 own_millis : (stamp behind : List ℕ) (seen : Moment) → length stamp ≡ 20 → length behind ≡ 4 → utc_moment (stamp ++ behind) ≡ Some seen → millis_digits seen.millis ≡ take 3 behind
 unfolding utc_moment
 own_millis stamp behind seen long four e = grind (arith, number_parts, millis_at, three_back)
 
--- the front of a line has at most fourteen bytes
+-- the start of a line has at most fourteen bytes
 pub front_short : (n : ℕ) → n ≤ 253402300799 → length (second_front n) ≤ 14
 front_short n few = omega (arith, length-append (second_digits n) (codes "."), (length-seconds n few).1)
 
@@ -105,6 +105,6 @@ pub no_moment : (text : List ℕ) → (length text ≡ 24 → ⊥) → utc_momen
 unfolding utc_moment
 no_moment text other = let test : (length text == 24) ≡ false = ne_eqb (length text) 24 other in rw test refl
 
--- a stamp of the second that is kept
+-- a stamp of the kept second
 pub of_second : (text stamp behind line kept : List ℕ) → text ≡ stamp ++ behind → length behind ≡ 4 → IsSecond kept line → stamp ≡ kept → are_millis behind ≡ true → IsStampText (utc_moment text) (line ++ take 3 behind)
 of_second text stamp behind line kept is four second same ends = rw (is, same) (second.shared behind four ends)

@@ -1,4 +1,4 @@
--- The text `YYYY-MM-DDTHH:MM:SS.mmmZ` of the moment that such a text names is that text.
+-- A text `YYYY-MM-DDTHH:MM:SS.mmmZ` is the text of the moment that it names.
 use Rattle.std.proofs.Common.{◌≡◌, ℕ, ◌+◌, ◌*◌, ◌/◌, ◌%◌, ◌<◌, ◌≤◌, Bool, true, List, [], ◌∷◌, ◌++◌, get_or, length, take, drop, Option, Some, Result, Ok, refl, sym, ap, subst, ◌∙◌, append_assoc, arith, ltb, pos, codes, option_and_then, slice_index, ◌&&◌, ◌==◌, length-take-le, length-drop}
 use Rattle.std.proofs.lemmas.Bool.{and_parts, eqb-true, ltb-true}
 use Rattle.jiff_core.specs.Calendar.{IsCivilDate}
@@ -12,7 +12,7 @@ use Rattle.n2k_wire.proofs.TextLemmas.{listed, listed_all}
 
 -- ---- steps that found something
 
--- what follows from the first step's value follows
+-- a consequence of the first step's value
 pub with_some : {A B : Type 0} {P : Type 0} (o : Option A) (f : A → Option B) (y : B) → option_and_then f o ≡ Some y → ((x : A) → o ≡ Some x → f x ≡ Some y → P) → P
 with_some o f y e follows = grind arith
 
@@ -67,7 +67,7 @@ length_at place digits text within = length-take-le digits (drop place text) (om
 pub eight : (a b c d e f g h : Bool) → (a && b && c && d && e && f && g && h) ≡ true → (a ≡ true) × (b ≡ true) × (c ≡ true) × (d ≡ true) × (e ≡ true) × (f ≡ true) × (g ≡ true) × (h ≡ true)
 eight a b c d e f g h all = grind arith
 
--- what stands in the form of a stamp
+-- the parts of a text in the form of a stamp
 module _ (text : List ℕ) (form : has_utc_form text ≡ true) where
   tests : ((length text == 24) ≡ true) × ((slice_index text 4 == 45) ≡ true) × ((slice_index text 7 == 45) ≡ true) × ((slice_index text 10 == 84) ≡ true) × ((slice_index text 13 == 58) ≡ true) × ((slice_index text 16 == 58) ≡ true) × ((slice_index text 19 == 46) ≡ true) × ((slice_index text 23 == 90) ≡ true)
   tests = eight _ _ _ _ _ _ _ _ form
@@ -136,7 +136,7 @@ module _ (text : List ℕ) (form : has_utc_form text ≡ true) where
         subst (λ n. n ≤ 2_932_896) found.1 (to_last_day y m d civil.0 civil.1),
       )
 
-  -- the date that stands at the start
+  -- the date at the start
   pub date_back : (day : ℕ) → day_at_start text ≡ Some day → DateStands day
   unfolding day_at_start
   date_back day e =
@@ -165,7 +165,7 @@ module _ (text : List ℕ) (form : has_utc_form text ≡ true) where
         omega (arith, sum, h_small, m_small, s_small),
       )
 
-  -- and the time of the day
+  -- the time of the day
   pub time_back : (second : ℕ) → second_behind_date text ≡ Some second → TimeStands second
   unfolding second_behind_date
   time_back second e =
@@ -177,7 +177,7 @@ grouped : (y m d h n s f : List ℕ)
     ≡ y ++ (45 ∷ (m ++ (45 ∷ (d ++ (84 ∷ (h ++ (58 ∷ (n ++ (58 ∷ (s ++ (46 ∷ (f ++ (90 ∷ [])))))))))))))
 grouped y m d h n s f = simp append_assoc
 
--- the parts of a moment that stands in a text
+-- the parts of a moment that is in a text
 found_parts : (text : List ℕ) (seen : Moment) (day second millis : ℕ) → has_utc_form text ≡ true → day_at_start text ≡ Some day → second_behind_date text ≡ Some second
     → number_at 20 3 text ≡ Some millis → day * 86400 + second ≡ seen.seconds → millis ≡ seen.millis → (utc_text seen ≡ text) × IsMoment seen
 unfolding utc_text

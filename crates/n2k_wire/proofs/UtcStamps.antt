@@ -14,7 +14,7 @@ use Rattle.n2k_wire.proofs.UtcBack.{after_cons, after_nil, number_parts}
 
 -- ---- the date of a day has digits enough
 
--- where the year after the last has not begun by the day, neither has the one after the last that has
+-- if the year after the last has not begun by the day, neither has the year after the last that has begun
 year_ends : (n day : ℕ) → day < day_number (1971 + n) 1 1 → (last_begun_year n day ≤ 1970 + n) × (day < day_number (1 + last_begun_year n day) 1 1)
 unfolding last_begun_year
 year_ends zero day before = (omega arith, before)
@@ -90,7 +90,7 @@ pub utc_is_stamp : (seen : Moment) → IsMoment seen → IsTrue (is_stamp (utc_t
 unfolding utc_text
 utc_is_stamp seen is = grind (arith, date_fits, time_fits, millis_fit, starts)
 
--- ---- a moment that is read is one
+-- ---- a moment that is read is valid
 
 three_small : (n : ℕ) (text : List ℕ) → length text ≤ 3 → decimal_after 0 text ≡ Some n → n ≤ 999
 three_small n [] few e = omega (arith, after_nil 0 n e)

@@ -1,5 +1,5 @@
--- The Gregorian calendar from 1970 to 9999, by day numbers: 0 is 1 January 1970. The lengths of years and
--- months are those of jiff's calendar, which `day_count` adds up.
+-- The Gregorian calendar from 1970 to 9999, by day numbers: 0 is 1 January 1970. jiff's calendar gives the lengths of
+-- years and months; `day_count` adds them up.
 use Rattle.std.specs.Prelude.{ℕ, zero, suc, ◌+◌, ◌-◌, ◌&&◌, nat_le, Bool, if◌then◌else◌, pos}
 use Rattle.jiff_core.specs.Calendar.{day_count, days_in_month}
 

@@ -31,20 +31,20 @@ unfoldable pub is_interface : List ℕ → Bool
 is_interface name =
     nat_lt 0 (length name) && nat_le (length name) longest_interface && list_all is_interface_byte name
 
--- what stands between the parentheses, and what follows them
+-- the text between the parentheses, and the text after them
 unfoldable pub stamped : List ℕ → Option (List ℕ × List ℕ)
 stamped line = option_and_then (cut_at 41) (after_byte 40 line)
 
--- After the stamp: one or more spaces, an interface, one or more spaces, and a text with a `#`. That text, up
--- to its first `#` and behind it.
+-- After the stamp: one or more spaces, an interface, one or more spaces, and a text with a `#`. The result is this text
+-- before and after its first `#`.
 unfoldable pub framed : List ℕ → Option (List ℕ × List ℕ)
 framed text =
     option_and_then (λ named. option_and_then (cut_at 35)
     (option_and_then skip_spaces (some_if (is_interface named.0) named.1)))
     (option_and_then (cut_at 32) (option_and_then skip_spaces (after_byte 32 text)))
 
--- The 29 bits of an extended identifier. None where the frame is skipped: an identifier of 3 digits (11 bits),
--- or an error frame.
+-- The 29 bits of an extended identifier. None if the frame is skipped: an identifier of 3 digits (11 bits), or an error
+-- frame.
 abbrev pub of_number : ℕ → Result (Option ℕ) BadCause
 of_number n =
     if nat_lt n 0x20000000 then Ok (Some n) else if nat_lt n 0x40000000 then Ok None else Err causes.Identifier
@@ -57,12 +57,13 @@ identifier digits =
     then (or_cause causes.Identifier (option_map (from_be_bytes w32) (result_ok (decode_of digits))) >>= of_number)
     else Err causes.Identifier
 
--- what may follow the data: nothing, or a space and any bytes
+-- the allowed text after the data: nothing, or a space and any bytes
 abbrev pub is_end : List ℕ → Bool
 is_end [] = true
 is_end (b ∷ rest) = b == 32
 
--- the same after `_` and one digit, which `candump` writes for the length code of a classic frame
+-- the text after the data, which may begin with `_` and one digit: `candump` writes this for the length code of a
+-- classic frame
 unfoldable pub is_ending : List ℕ → Bool
 is_ending [] = true
 is_ending (b ∷ []) = b == 32
@@ -72,19 +73,19 @@ is_ending (b ∷ code ∷ rest) = (b == 32) || ((b == 95) && is_ascii_hexdigit c
 abbrev pub digits_len : List ℕ → ℕ
 digits_len text = position_or_len (λ b. not (is_ascii_hexdigit b)) text
 
--- the data of a frame: 0 to 8 pairs of hexadecimal digits, and what may follow
+-- the data of a frame: 0 to 8 pairs of hexadecimal digits, and an allowed end
 unfoldable pub payload : List ℕ → Option (List ℕ)
 payload text =
     option_and_then (λ digits. result_ok (decode_of digits))
     (some_if (nat_le (digits_len text) (2 * frame_payload) && is_ending (drop (digits_len text) text))
     (take (digits_len text) text))
 
--- behind the first `#`: an FD frame begins with another, a remote frame with R or r
+-- after the first `#`: an FD frame begins with another `#`, a remote frame with R or r
 unfoldable pub is_other_frame : List ℕ → Bool
 is_other_frame [] = false
 is_other_frame (b ∷ rest) = (b == 35) || (b == 82) || (b == 114)
 
--- the frame of a known identifier, or one that is skipped
+-- the entry of a frame: Skip without a known identifier or for a frame of another kind
 unfoldable pub frame_or_skip : Moment → Option ℕ → List ℕ → Result Entry BadCause
 frame_or_skip seen None text = Ok entries.Skip
 frame_or_skip seen (Some n) text =

@@ -7,7 +7,7 @@ use Rattle.std.specs.Char.{is_ascii_digit}
 unfoldable pub decimal_digit : ℕ → Option ℕ
 decimal_digit b = if is_ascii_digit b then Some (b - 48) else None
 
--- the number that decimal digits make, read on after the number that stands before them
+-- the number that decimal digits make, read on from the number of the digits before
 unfoldable pub decimal_after : ℕ → List ℕ → Option ℕ
 decimal_after before [] = Some before
 decimal_after before (b ∷ digits) =

@@ -1,4 +1,4 @@
--- What a line of a log is: skipped, bad for one cause, a frame, or a whole message.
+-- The entry of a line of a log: skipped, bad for one cause, a frame, or a whole message.
 use Rattle.std.specs.Prelude.{ℕ, ◌≤◌, ◌==◌, nat_lt, Bool, true, false, if◌then◌else◌, List, [], ◌∷◌, length, Result, Ok}
 use Rattle.std.specs.Prelude.{Err}
 use Rattle.n2k_wire.specs.declared.entry.BadCause.{BadCause}
@@ -29,7 +29,7 @@ abbrev pub settled : Result Entry BadCause → Entry
 settled (Ok e) = e
 settled (Err cause) = entries.Bad cause
 
--- the entry of a line, which stands without its LF and CR
+-- entry: the result of reading a line, without its LF and CR
 unfoldable pub entry : List ℕ → Packing → Entry
 entry line packing =
     if nat_lt longest_line (length line) then entries.Bad causes.Long
@@ -44,7 +44,7 @@ IsShort (entries.Bad cause) = Unit {0}
 IsShort (entries.Frame packet) = length packet.payload ≤ frame_payload
 IsShort (entries.Whole packet) = Unit {0}
 
--- An entry that a line can be: its packet's parts make one, and a frame has at most 8 data bytes. Reading a line
+-- The possible entries of lines: the parts of a packet are valid, and a frame has at most 8 data bytes. Reading a line
 -- promises it, and a join's state stays valid under such entries.
 abbrev pub IsEntry : Entry → Type 0
 IsEntry entries.Skip = Unit {0}

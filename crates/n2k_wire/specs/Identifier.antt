@@ -23,11 +23,11 @@ priority n = n / 2 ^ 26 % 2 ^ 3
 abbrev pub first_broadcast_format : ℕ
 first_broadcast_format = 240
 
--- the address that stands for all
+-- the address of all devices
 abbrev pub everyone : ℕ
 everyone = 255
 
--- what an identifier says. In a PDU1 the specific byte is the destination, in a PDU2 the low byte of the PGN.
+-- the parts of an identifier. In a PDU1 the specific byte is the destination, in a PDU2 the low byte of the PGN.
 unfoldable pub split : ℕ → Id
 split n =
     if nat_lt (pdu_format n) first_broadcast_format
@@ -55,8 +55,8 @@ low_byte pgn = pgn % 2 ^ 8
 abbrev pub is_addressed : ℕ → Bool
 is_addressed pgn = nat_lt (format_of_pgn pgn) first_broadcast_format
 
--- Whether an identifier of 29 bits says this: the priority has three bits and the PGN eighteen; of a PDU1 the PGN has
--- no low byte, and a PDU2 is for all.
+-- Whether an identifier of 29 bits has these parts: the priority has three bits and the PGN eighteen; of a PDU1 the PGN
+-- has no low byte, and a PDU2 is for all.
 unfoldable pub is_joinable : Id → Bool
 is_joinable id =
     nat_lt id.prio (2 ^ 3) && nat_lt id.pgn (2 ^ 18)
@@ -66,7 +66,7 @@ is_joinable id =
 abbrev pub specific_of : Id → ℕ
 specific_of id = if is_addressed id.pgn then id.dst else low_byte id.pgn
 
--- the identifier that says this, where there is one
+-- the identifier with these parts, if there is one
 unfoldable pub join : Id → Option ℕ
 join id =
     if is_joinable id

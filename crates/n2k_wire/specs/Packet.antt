@@ -1,4 +1,4 @@
--- What contracts see of a packet: its parts, and which parts make one.
+-- A packet as contracts see it: its parts, and which parts are valid.
 use Rattle.std.specs.Prelude.{ℕ, ◌≤◌, Bool, false, not, ◌&&◌, ◌==◌, nat_le, List, [], ◌∷◌, length, IsTrue}
 use Rattle.std.specs.List.{list_all}
 use Rattle.hex.specs.Hex.{IsBytes}
@@ -24,9 +24,9 @@ greatest_priority = 7
 pub record PacketParts : Type 0 where
   -- when it was seen, as text
   pub stamp : List ℕ
-  -- who sent what to whom
+  -- priority, PGN, source and destination
   pub id : Id
-  -- its data, the bytes in the order of the bus
+  -- the data bytes in the order of the bus
   pub payload : List ℕ
 
 -- a printable ASCII byte, the space among them
@@ -45,7 +45,7 @@ abbrev pub starts_stamp : List ℕ → Bool
 starts_stamp [] = false
 starts_stamp (b ∷ bs) = is_stamp_start b
 
--- a stamp: 1 to 32 such bytes
+-- a stamp: 1 to 32 stamp bytes
 abbrev pub is_stamp : List ℕ → Bool
 is_stamp text = starts_stamp text && nat_le (length text) longest_stamp && list_all is_stamp_byte text
 

@@ -41,7 +41,7 @@ unfoldable pub pairs : List (List ℕ) → Option (List ℕ)
 pairs [] = Some []
 pairs (column ∷ more) = option_and_then (λ byte. option_map (λ bytes. byte ++ bytes) (pairs more)) (pair column)
 
--- the five columns behind the stamp, and the columns behind those
+-- the five columns after the stamp, and the columns after those
 pub record Header : Type 0 where
   pub prio : List ℕ
   pub pgn : List ℕ
@@ -68,7 +68,7 @@ id_of h = do
 unfoldable pub bytes_of : ℕ → List (List ℕ) → Option (List ℕ)
 bytes_of len more = if length more == len then pairs more else None
 
--- the packet of a plain line whose columns are these, or the first of its causes
+-- the packet of a plain line with these columns, or the first of its causes
 unfoldable pub packet_of : List ℕ → List (List ℕ) → Result PacketParts BadCause
 packet_of stamp more = do
   stamped ← holds_or causes.Stamp (is_stamp stamp)
@@ -78,7 +78,7 @@ packet_of stamp more = do
   bytes ← or_cause causes.Data (bytes_of len h.more)
   Ok (record { stamp = stamp; id = id; payload = bytes })
 
--- the same of the columns as a list, which is never empty
+-- the packet of a plain line with these columns, the stamp included; there is always one column
 abbrev pub packet_of_columns : List (List ℕ) → Result PacketParts BadCause
 packet_of_columns [] = Err causes.Stamp
 packet_of_columns (stamp ∷ more) = packet_of stamp more

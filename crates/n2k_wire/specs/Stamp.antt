@@ -1,4 +1,4 @@
--- Stamps of candump lines, `seconds.fraction` since 1970, and the UTC text that packets keep of them.
+-- Stamps of candump lines, `seconds.fraction` since 1970, and the UTC text of a stamp in a packet.
 use Rattle.std.specs.Prelude.{ℕ, ◌+◌, ◌*◌, ◌/◌, ◌%◌, ◌==◌, ◌&&◌, nat_lt, nat_le, Bool, List, [], ◌∷◌, ◌++◌, length}
 use Rattle.std.specs.Prelude.{slice_index, take, drop, Option, Some, codes, option_and_then}
 use Rattle.n2k_wire.specs.Calendar.{day_number, is_date, year_of, month_of, day_of_month}
@@ -68,11 +68,11 @@ utc_text m =
     date_text (m.seconds / seconds_of_day) ++ codes "T" ++ time_text (m.seconds % seconds_of_day)
     ++ codes "." ++ millis_digits m.millis ++ codes "Z"
 
--- the bytes of such a text
+-- the length of a UTC text
 abbrev pub utc_len : ℕ
 utc_len = 24
 
--- whether the bytes that are no digits stand in their places
+-- whether the bytes between the digits are in their places
 abbrev pub has_utc_form : List ℕ → Bool
 has_utc_form text =
     (length text == utc_len) && (slice_index text 4 == 45) && (slice_index text 7 == 45)
@@ -83,7 +83,7 @@ has_utc_form text =
 abbrev pub number_at : ℕ → ℕ → List ℕ → Option ℕ
 number_at place digits text = decimal_number digits (take digits (drop place text))
 
--- the day number of `YYYY-MM-DD` at the start of a text, where the calendar has that day
+-- the day number of `YYYY-MM-DD` at the start of a text, if the calendar has that day
 unfoldable pub day_at_start : List ℕ → Option ℕ
 day_at_start text = do
   year ← number_at 0 4 text
@@ -91,7 +91,7 @@ day_at_start text = do
   day ← number_at 8 2 text
   some_if (is_date year month day) (day_number year month day)
 
--- the second of the day of `HH:MM:SS` behind `YYYY-MM-DDT`
+-- the second of the day of `HH:MM:SS` after `YYYY-MM-DDT`
 unfoldable pub second_behind_date : List ℕ → Option ℕ
 second_behind_date text = do
   hour ← number_at 11 2 text

@@ -24,11 +24,11 @@ plain_line p =
     p.stamp ++ number_piece p.id.prio ++ number_piece p.id.pgn ++ number_piece p.id.src ++ number_piece p.id.dst
     ++ number_piece (length p.payload) ++ flat_map byte_piece p.payload
 
--- the same with its LF
+-- a plain line with its LF
 abbrev pub plain_text : PacketParts → List ℕ
 plain_text p = plain_line p ++ codes "\n"
 
--- seconds as at least ten digits: zeros stand where they leave some of ten places free
+-- seconds as at least ten digits, with leading zeros up to ten
 abbrev pub second_digits : ℕ → List ℕ
 second_digits n = drop (length (decimal n)) (codes "0000000000") ++ decimal n
 
@@ -39,8 +39,8 @@ candump_line interface seen identifier payload =
     ++ interface ++ codes " "
     ++ encode_upper (to_be_bytes w32 identifier) ++ codes "#" ++ encode_upper payload
 
--- What candump writes of a packet in front of its data: the moment of its stamp and its identifier. The first that
--- isn't there is the fault.
+-- The parts of a packet that candump writes before its data: the moment of its stamp and its identifier. The first part
+-- that doesn't exist is the fault.
 unfoldable pub candump_parts : PacketParts → Result (Moment × ℕ) WireFault
 candump_parts p = do
   seen ← or_cause NoStamp (utc_moment p.stamp)
@@ -52,8 +52,8 @@ abbrev pub candump_text : List ℕ → PacketParts → Result (List ℕ) WireFau
 candump_text interface p =
     candump_parts p >>= (λ parts. Ok (candump_line interface parts.0 parts.1 p.payload ++ codes "\n"))
 
--- An answer of a call that appends this text: the text is appended, or memory is refused. Where there is no text its
--- fault is the answer.
+-- A result of a call that appends this text: the text is appended, or memory is refused. If there is no text, its fault
+-- is returned.
 abbrev pub Appends : Result (List ℕ) WireFault → Result (Unit {0}) WireFault → List ℕ → List ℕ → Type 0
 Appends (Ok text) answer old new = OnOk answer (new ≡ old ++ text) × IfErr answer (λ fault. fault ≡ Memory)
 Appends (Err fault) answer old new = answer ≡ Err fault

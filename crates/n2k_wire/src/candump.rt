@@ -28,8 +28,8 @@ pub const FRAME_PAYLOAD: usize = 8;
 /// The first number that isn't a CAN identifier of 29 bits.
 pub(crate) const FIRST_ERROR_FRAME: u32 = 0x2000_0000;
 
-/// The first number past those of error frames. SocketCAN's flags of remote frames and of extended identifiers
-/// lie here, which `candump -L` doesn't print.
+/// The first number after those of error frames. Here are SocketCAN's flags of remote frames and of extended
+/// identifiers, which `candump -L` doesn't print.
 const FIRST_OTHER: u32 = 0x4000_0000;
 
 /// The frame of a candump line.
@@ -66,7 +66,7 @@ pub fn is_interface(name: &[u8]) -> bool
     !name.is_empty() && name.len() <= LONGEST_INTERFACE && are_interface_bytes(name)
 }
 
-/// What stands between the parentheses, and what follows them.
+/// The text between the parentheses, and the text after them.
 #[tactic(auto, unfolding(crate::specs::Candump::stamped))]
 fn read_stamped(line: &[u8]) -> Option<(&[u8], &[u8])>
     ensures { Finds (λ x. (x.0.now, x.1.now)) result (stamped line.now) }
@@ -75,7 +75,7 @@ fn read_stamped(line: &[u8]) -> Option<(&[u8], &[u8])>
     cut_at(b')', inner)
 }
 
-/// The text up to its first `#` and behind it, after spaces, an interface and spaces.
+/// The text before and after the first `#` that follows spaces, an interface and spaces.
 #[tactic(auto, unfolding(crate::specs::Candump::framed))]
 fn read_framed(text: &[u8]) -> Option<(&[u8], &[u8])>
     ensures { Finds (λ x. (x.0.now, x.1.now)) result (framed text.now) }
@@ -116,7 +116,7 @@ fn are_hex_digits(digits: &[u8]) -> bool
     digits.iter().all(|byte| byte.is_ascii_hexdigit())
 }
 
-/// The 29 bits of an extended identifier, or none where the frame is skipped.
+/// The 29 bits of an extended identifier. None if the frame is skipped.
 #[tactic(auto, unfolding(crate::specs::Candump::identifier))]
 fn read_identifier(digits: &[u8]) -> Result<Option<u32>, BadCause>
     ensures value { Gives (λ known. known) result (identifier digits.now) }
@@ -198,7 +198,7 @@ fn read_payload(text: &[u8]) -> Option<ArrayVec<u8, FRAME_PAYLOAD>>
     ArrayVec::try_from(&*data).ok()
 }
 
-/// The frame of these parts, or none where it is skipped.
+/// The frame of these parts. None if it is skipped.
 #[inline]
 #[tactic(auto, unfolding(crate::specs::Candump::frame_or_skip))]
 fn frame_or_skip(
@@ -226,7 +226,7 @@ fn frame_or_skip(
     }))
 }
 
-/// The frame of a candump line, none where it is skipped, or the first of its causes.
+/// The frame of a candump line, None if it is skipped, or the first of its causes.
 #[tactic(auto, unfolding(crate::specs::Candump::candump))]
 fn read_frame(line: &[u8]) -> Result<Option<CandumpFrame>, BadCause>
     ensures entry { Gives candump_entry result (candump line.now) }
@@ -240,7 +240,7 @@ fn read_frame(line: &[u8]) -> Result<Option<CandumpFrame>, BadCause>
     frame_or_skip(seen, known, text)
 }
 
-/// The entry of a candump line, put where that of an earlier line was.
+/// The entry of a candump line, written over the entry of an earlier line.
 pub(crate) fn read_candump(line: &[u8], out: &mut Entry)
     ensures entry { out.new ≡ settled (candump line.now) }
     ensures valid { IsEntry out.new }

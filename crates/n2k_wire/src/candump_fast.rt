@@ -1,7 +1,6 @@
-//! A fast path; read `candump.rt` first. A candump line of eight bytes as `candump -L` writes it,
-//! `(1751608800.114221) can0 09F80103#FF..`, is read by position, and the text of its second is kept for the lines that
-//! follow. It promises only what it answers. Where it answers nothing, `candump.rt` reads the line, as it reads every
-//! candump line.
+//! A fast path; read `candump.rt` first. It reads a candump line of eight bytes as `candump -L` writes it,
+//! `(1751608800.114221) can0 09F80103#FF..`, by position, and keeps the text of its second for the next lines. Only a
+//! result that is returned is promised: without one, the line is read by `candump.rt`, which reads every candump line.
 ghost use Rattle.std.specs.Prelude.{◌≡◌, ◌≤◌, ◌<◌, ◌^◌, ◌++◌, ℕ, map, not, position, true, false, Some, Ok, IfSome, IsTrue};
 ghost use Rattle.std.specs.Char.{is_ascii_hexdigit};
 ghost use Rattle.std.specs.Int.{w32, w64, to_le_bytes};
@@ -34,7 +33,7 @@ const FRACTION: usize = 6;
 /// The digits of an extended identifier.
 const WORD_DIGITS: usize = 8;
 
-/// The least bytes of such a line, and the most.
+/// The least bytes of a line of the fast path, and the most.
 const SHORTEST: usize = 47;
 
 const LONGEST: usize = 61;
@@ -45,7 +44,7 @@ const LANES: usize = 16;
 /// The second of the line that was read last.
 #[derive(Drop)]
 pub(crate) struct SecondCache {
-    /// What a line of that second begins with.
+    /// The first bytes of a line of that second.
     front: [u8; FRONT],
     seconds: u64,
     /// The UTC text of the second's begin.
@@ -67,7 +66,7 @@ impl SecondCache {
         }
     }
 
-    /// Turns to the second of the lines with this front, if it is such a front.
+    /// Sets the second to that of lines with these first bytes. None if no line has them.
     #[inline(never)]
     fn recompute(&mut self, front: &[u8; FRONT]) -> Option<()>
         ensures { IfSome result (λ done. self.new.front ≡ front.now) }
@@ -82,7 +81,7 @@ impl SecondCache {
         Some(())
     }
 
-    /// Goes on to the second of the lines with this front. Mostly it is that of the line before.
+    /// Sets the second of the next line. Mostly it is the second of the line before.
     #[inline]
     fn advance_to(&mut self, front: &[u8; FRONT]) -> Option<()>
         ensures { IfSome result (λ done. self.new.front ≡ front.now) }
@@ -94,7 +93,7 @@ impl SecondCache {
         }
     }
 
-    /// The UTC text of a line's stamp, and what follows the stamp.
+    /// The UTC text of a line's stamp, and the text after the stamp.
     #[inline]
     fn stamp_behind<'a>(&mut self, line: &'a [u8]) -> Option<([u8; UTC_LEN], &'a [u8])>
         ensures value { IfSome result (λ x. stamp_behind line.now ≡ Some (x.0, x.1.now)) }
@@ -112,7 +111,7 @@ impl SecondCache {
     }
 }
 
-/// A front as two words.
+/// The first bytes of a line as two words.
 #[inline(always)]
 fn front_words(front: &[u8; FRONT]) -> (u64, u32)
     ensures { front.now ≡ to_le_bytes w64 result.0 ++ to_le_bytes w32 result.1 }
@@ -124,7 +123,7 @@ fn front_words(front: &[u8; FRONT]) -> (u64, u32)
     )
 }
 
-/// Whether two fronts are the same.
+/// Whether two lines begin with the same bytes.
 #[inline(always)]
 fn are_same(front: &[u8; FRONT], other: &[u8; FRONT]) -> bool
     ensures { IsTrue result → front.now ≡ other.now }
@@ -159,7 +158,8 @@ fn mask_of_others(lanes: u8x16) -> u64
     shifted.simd_gt(u8x16::splat(b'~' - b'!')).to_bitmask()
 }
 
-/// Where the first such byte stands, if it is among the first sixteen of a text. They are looked at all at once.
+/// The place of the first byte that ends an interface, if it is among the first sixteen of a text. All sixteen are
+/// compared at once.
 #[inline(always)]
 fn interface_end(text: &[u8]) -> Option<usize>
     ensures { IfSome result (λ at. position (λ b. not (is_interface_byte b)) text.now ≡ Some at) }
@@ -191,7 +191,7 @@ fn fast_identifier(digits: &[u8; WORD_DIGITS]) -> Option<u32>
     }
 }
 
-/// The identifier and what follows the `#`, where one space stands on each side of the interface, and eight digits
+/// The identifier and the text after the `#`, if one space is on each side of the interface, and eight digits are
 /// before the `#`.
 #[inline]
 fn fast_framed(text: &[u8]) -> Option<(u32, &[u8])>
@@ -222,7 +222,7 @@ fn fast_payload(text: &[u8]) -> Option<[u8; 8]>
     eight_bytes(u8x16::from_array(*digits))
 }
 
-/// Puts the entry of such a line where that of an earlier line was. Of another line it answers nothing.
+/// Writes the entry of a line of eight bytes over the entry of an earlier line. None for a line in another form.
 pub(crate) fn read_candump_fast(cache: &mut SecondCache, line: &[u8], out: &mut Entry) -> Option<()>
     ensures entry { IfSome result (λ done. (packing : Packing) → out.new ≡ entry line.now packing) }
     ensures valid { IfSome result (λ done. IsEntry out.new) }

@@ -1,5 +1,5 @@
-//! Packets as candump lines, `(0000000010.300000) can0 1DFF0405#000BA39901414243`, written where they go as plain lines
-//! are. Of the packet before these are kept: how its stamps and lines begin, and the digits of its identifier.
+//! Packets as candump lines, `(0000000010.300000) can0 1DFF0405#000BA39901414243`, written in place as plain lines are.
+//! Kept of the packet before: the start of its stamp and of its line, and the digits of its identifier.
 ghost use Rattle.std.specs.Prelude.{◌≡◌, ◌+◌, ◌-◌, ◌*◌, ◌<◌, ◌≤◌, ◌++◌, [], codes, length, take, IfSome, IfNone, None, true, false, IsTrue, OnErr};
 ghost use Rattle.hex.specs.Hex.{encode_upper};
 ghost use Rattle.n2k_wire.specs.Candump.{frame_payload, is_interface, longest_interface};
@@ -18,13 +18,13 @@ use crate::stamp::read_utc;
 use std::alloc::Global;
 use std::marker::Model;
 
-/// The bytes of a stamp in front of its milliseconds, `1970-01-01T00:00:10.`.
+/// The bytes of a stamp before its milliseconds, `1970-01-01T00:00:10.`.
 const SECOND_LEN: usize = 20;
 
-/// The bytes behind them, `300Z`.
+/// The bytes of the milliseconds and the `Z`, `300Z`.
 const MILLIS_LEN: usize = 4;
 
-/// A short text and room behind it. It is copied with its room, since a copy of known length costs less.
+/// A short text and unused room after it. It is copied with its room, since a copy of known length costs less.
 #[derive(Drop)]
 struct ShortText {
     bytes: [u8; 32],
@@ -56,7 +56,7 @@ impl ShortText {
         self.len = end;
     }
 
-    /// Writes it at a place of a text, and answers the place behind it.
+    /// Writes the text at a place, and returns the place after it.
     #[inline(always)]
     fn put(&self, text: &mut [u8], at: usize) -> usize
         requires { at + 32 ≤ length text.old }
@@ -68,7 +68,7 @@ impl ShortText {
     }
 }
 
-/// How the lines of a second begin, `(0000000010.`.
+/// The start of the lines of a second, `(0000000010.`.
 #[tactic(auto, using(crate::proofs::CandumpLemmas::seconds_short, std::proofs::Common::append_assoc))]
 fn second_front(seconds: u64) -> ShortText
     requires { seconds ≤ last_second }
@@ -84,7 +84,7 @@ fn second_front(seconds: u64) -> ShortText
     front
 }
 
-/// What stands between the milliseconds and the identifier, `000) can0 `.
+/// The text between the milliseconds and the identifier, `000) can0 `.
 #[tactic(auto, using(std::proofs::Common::append_assoc))]
 fn behind_millis(interface: &[u8]) -> ShortText
     requires { length interface.now ≤ longest_interface }
@@ -97,7 +97,7 @@ fn behind_millis(interface: &[u8]) -> ShortText
     behind
 }
 
-/// Whether what follows the second in a stamp is milliseconds and the end.
+/// Whether the rest of a stamp after the second is milliseconds and the end.
 #[inline]
 fn are_millis(behind: &[u8; MILLIS_LEN]) -> bool
     ensures { result ≡ are_millis behind.now }
@@ -109,14 +109,14 @@ fn are_millis(behind: &[u8; MILLIS_LEN]) -> bool
 /// The second of the packet before.
 #[derive(Drop)]
 struct WrittenSecond {
-    /// How its stamps begin.
+    /// The first bytes of its stamps.
     stamp: [u8; SECOND_LEN],
-    /// And its lines.
+    /// The first bytes of its candump lines.
     line: ShortText,
 }
 
 impl WrittenSecond {
-    /// The first that a candump line can name.
+    /// The first second that a candump line can name.
     #[tactic(auto, using(crate::proofs::SharedSeconds::first_second))]
     fn new() -> WrittenSecond
         ensures { IsSecond result.stamp result.line }
@@ -127,8 +127,7 @@ impl WrittenSecond {
         }
     }
 
-    /// Goes on to the second of a stamp, and answers what follows it in the stamp. Mostly it is that of the packet
-    /// before.
+    /// Sets the second to a stamp's, and returns the rest of the stamp. Mostly it is the second of the packet before.
     fn advance_to<'s>(&mut self, stamp: &'s [u8]) -> Option<&'s [u8; MILLIS_LEN]>
         requires { IsSecond self.old.stamp self.old.line }
         ensures second { IsSecond self.new.stamp self.new.line }
@@ -147,17 +146,17 @@ impl WrittenSecond {
     }
 }
 
-/// Appends packets in a row as `candump -L` writes frames that came in at one interface, as `candump_text` does, at
-/// less cost where a packet has the second of the one before.
+/// Appends packets in a row as `candump -L` writes frames that came in at one interface, as `candump_text` does, but
+/// faster if a packet has the second of the one before.
 #[derive(Drop)]
 pub struct CandumpLines<'a> {
     interface: &'a str,
-    /// What stands behind the milliseconds.
+    /// The text after the milliseconds.
     behind: ShortText,
     second: WrittenSecond,
     /// The identifier of the packet before.
     id: Id,
-    /// And its digits.
+    /// The digits of that identifier.
     digits: [u8; 8],
 }
 
@@ -175,8 +174,8 @@ impl<'a> Model for CandumpLines<'a> {
         × IsSecond l.second.stamp l.second.line × AreDigitsOf l.id l.digits };
 }
 
-/// Writes bytes as digits in upper case at a place of a text, and answers the place behind them. `hex` writes lower
-/// case without memory.
+/// Writes bytes as digits in upper case at a place of a text, and returns the place after them. Without memory, `hex`
+/// writes only lower case.
 #[tactic(auto, using(crate::proofs::CandumpLemmas::upper_of_lower, crate::proofs::CandumpLemmas::upper_len))]
 #[inline(always)]
 fn put_upper(text: &mut [u8], at: usize, bytes: &[u8]) -> usize
@@ -192,7 +191,7 @@ fn put_upper(text: &mut [u8], at: usize, bytes: &[u8]) -> usize
     end
 }
 
-/// Goes on to an identifier and its digits, if there is one. Mostly it is that of the packet before.
+/// Sets the identifier and its digits, if there is one. Mostly it is the identifier of the packet before.
 #[inline(always)]
 fn advance_id(id: Id, kept: &mut Id, digits: &mut [u8; 8]) -> bool
     requires { AreDigitsOf kept.old digits.old }
@@ -210,8 +209,8 @@ fn advance_id(id: Id, kept: &mut Id, digits: &mut [u8; 8]) -> bool
     true
 }
 
-/// Writes the data and the LF at a place of the text, and answers the place behind them. Most frames have eight bytes,
-/// and those cost less at a known length.
+/// Writes the data and the LF at a place of the text, and returns the place after them. Most frames have eight bytes; a
+/// known length costs less.
 fn put_data(text: &mut [u8], at: usize, payload: &[u8]) -> usize
     requires room { at + 2 * length payload.now < length text.old }
     ensures { take result text.new ≡ take at text.old ++ (encode_upper payload.now ++ codes "\n") }
@@ -223,7 +222,7 @@ fn put_data(text: &mut [u8], at: usize, payload: &[u8]) -> usize
     put(text, end, b"\n", 1)
 }
 
-/// Writes a line at a place of the text, and answers the place behind it.
+/// Writes a line at a place of the text, and returns the place after it.
 #[tactic(auto, using(std::proofs::Common::append_assoc))]
 #[inline(always)]
 fn write_line(
@@ -279,9 +278,8 @@ impl<'a> CandumpLines<'a> {
         }
     }
 
-    /// Appends a packet of at most 8 bytes, as `candump_text` does: `NoStamp` or `NoId` where that says so, or
-    /// `Memory`. `out` is as it was where the answer is a fault, and what follows is appended as if that packet had
-    /// not come.
+    /// Appends a packet of at most 8 bytes, as `candump_text` does, with the same faults: `NoStamp`, `NoId` or
+    /// `Memory`. After a fault `out` is unchanged, and later packets are appended as if that packet had not come.
     ///
     /// ```rust
     /// let id = split_id(0x18EA_FF01);
@@ -330,9 +328,9 @@ impl<'a> CandumpLines<'a> {
 }
 
 /// Appends a packet of at most 8 bytes as `candump -L` writes a frame that came in at an interface of 1 to 15 bytes
-/// from `!` to `~`: `(0000000010.300000) can0 1DFF0405#000BA39901414243` with its LF, digits in upper case.
-/// `NoStamp` where its stamp isn't `YYYY-MM-DDTHH:MM:SS.mmmZ` of a day that the calendar has from 1970 on, else
-/// `NoId` where `join_id` has no identifier for it. `out` is as it was where the answer is a fault.
+/// from `!` to `~`: `(0000000010.300000) can0 1DFF0405#000BA39901414243` with its LF, digits in upper case. `NoStamp`
+/// if its stamp isn't `YYYY-MM-DDTHH:MM:SS.mmmZ` of a day of the calendar from 1970 on, else `NoId` if `join_id` has no
+/// identifier for it. After a fault `out` is unchanged.
 ///
 /// ```rust
 /// let id = split_id(0x18EA_FF01);

@@ -48,7 +48,7 @@ fn decimal_digit(byte: u8) -> Option<u64>
     }
 }
 
-/// Where it answers true the first six of eight bytes are decimal digits. All are compared at once.
+/// If true, the first six of eight bytes are decimal digits. All are compared at once.
 #[inline(always)]
 pub(crate) fn begins_with_digits(bytes: u8x8) -> bool
     ensures { result ≡ true → list_all is_ascii_digit (take 6 bytes) ≡ true }
@@ -58,8 +58,8 @@ pub(crate) fn begins_with_digits(bytes: u8x8) -> bool
     figures.simd_gt(greatest).to_bitmask() == 0
 }
 
-/// The eight bytes that sixteen hexadecimal digits spell, if all are digits. No branch goes by the kind of a digit: it
-/// would be mispredicted all the time, since the bytes of a bus are as good as random.
+/// The eight bytes that sixteen hexadecimal digits spell, if all are digits. No branch depends on the kind of a digit:
+/// it would often be mispredicted, since the bytes of a bus are practically random.
 #[inline(always)]
 pub(crate) fn eight_bytes(digits: u8x16) -> Option<[u8; 8]>
     ensures hexadecimal { IfSome result (λ bytes. list_all is_ascii_hexdigit digits ≡ true) }

@@ -1,4 +1,4 @@
-//! What a line of a log is.
+//! The entry of a line of a log.
 ghost use Rattle.std.specs.Prelude.{◌≡◌, ◌≤◌, length, IfSome};
 ghost use Rattle.n2k_wire.specs.Candump.{frame_payload};
 ghost use Rattle.n2k_wire.specs.Entry.{entry, IsEntry, IsShort};
@@ -15,7 +15,7 @@ use crate::plain_fast::read_plain_fast;
 /// The most bytes of a line, without its LF and CR. Comments count too.
 pub const LONGEST_LINE: usize = 2048;
 
-/// Why a line gives no frame. The number of each is what reports print.
+/// Why a line gives no frame. Reports print the number of the cause.
 #[derive(Clone, Copy, Debug, PartialEq, Eq)]
 pub enum BadCause {
     /// 1: over 2,048 bytes.
@@ -24,20 +24,20 @@ pub enum BadCause {
     Stamp,
     /// 3: parts are missing.
     Form,
-    /// 4: a CAN identifier of another form than 3 or 8 hexadecimal digits, or of 40000000 and more. From 20000000
-    /// on it is an error frame's, which is skipped.
+    /// 4: a CAN identifier of another form than 3 or 8 hexadecimal digits, or of 40000000 and more. From 20000000 on it
+    /// is an error frame's, which is skipped.
     Identifier,
     /// 5: a number of a plain line.
     Number,
     /// 6: the data bytes.
     Data,
-    /// 7: a fast-packet frame that can't be one.
+    /// 7: a fast-packet frame with invalid data.
     Fast,
-    /// 8: a PGN that isn't in the table, where frames are written.
+    /// 8: a PGN that isn't in the table, when frames are written.
     Unknown,
     /// 9: more data than one frame of a single PGN holds.
     Size,
-    /// 10: a frame where a message is wanted.
+    /// 10: a frame instead of a message.
     Frame,
     /// 11: a stamp that candump can't write.
     Time,
@@ -54,21 +54,20 @@ pub enum Packing {
     Whole,
 }
 
-/// What a line of a log is.
+/// The result of reading a line of a log.
 #[derive(Drop)]
 pub enum Entry {
-    /// A line that stands for nothing: empty, a comment, or a frame of another kind.
+    /// A line to skip: empty, a comment, or a frame of another kind.
     Skip,
     /// A line that can't be read, for this cause.
     Bad(BadCause),
     /// A frame, of at most 8 bytes.
     Frame(Packet),
-    /// A whole message, which stood in a plain line.
+    /// A whole message, from a plain line.
     Whole(Packet),
 }
 
-/// The entry of a line, which is handed in without its LF and CR. It takes no memory. For lines in a row a
-/// `LineReader` gives it at less cost.
+/// The entry of a line, given without its LF and CR. It needs no memory. For lines in a row a `LineReader` is faster.
 ///
 /// ```rust
 /// let frame = read_line("(1.0) can0 18EAFF01#14F001".as_bytes(), Packing::Frames);
@@ -88,7 +87,7 @@ pub fn read_line(line: &[u8], packing: Packing) -> Entry
     entry
 }
 
-/// The entry of a line, put where that of an earlier line was, so that no entry is moved.
+/// The entry of a line, written over the entry of an earlier line, so that no entry is moved.
 #[tactic(auto, unfolding(crate::specs::Entry::entry))]
 fn read_line_into(line: &[u8], packing: Packing, out: &mut Entry)
     ensures entry { out.new ≡ entry line.now packing }
@@ -106,8 +105,8 @@ fn read_line_into(line: &[u8], packing: Packing, out: &mut Entry)
     }
 }
 
-/// Reads lines one after the other, each into the room of the one before. Lines of one second mostly follow each other,
-/// and the text of the last second is kept, so that its date is worked out once.
+/// Reads lines in order, each in the place of the one before. Lines of one second mostly follow each other, and the
+/// text of the last second is kept, so that its date is computed once.
 #[derive(Drop)]
 pub struct LineReader {
     cache: SecondCache,
@@ -115,7 +114,7 @@ pub struct LineReader {
 }
 
 impl LineReader {
-    /// Before the first line.
+    /// A reader before the first line.
     ///
     /// ```rust
     /// let mut reader = LineReader::new();
@@ -129,7 +128,7 @@ impl LineReader {
         }
     }
 
-    /// The entry of a line, as `read_line` says it. It takes no memory.
+    /// The entry of a line, as `read_line` returns it. It needs no memory.
     ///
     /// ```rust
     /// let mut reader = LineReader::new();
@@ -146,7 +145,7 @@ impl LineReader {
         self.read_mut(line, packing)
     }
 
-    /// The entry that `read` gives, which the caller may change.
+    /// The entry of a line, as `read` returns it; the caller may change it.
     ///
     /// ```rust
     /// let mut reader = LineReader::new();
@@ -165,7 +164,7 @@ impl LineReader {
     }
 }
 
-/// The entry of the line after those that the cache has seen.
+/// The entry of the next line, by the cache of the lines before.
 #[inline]
 fn read_next(cache: &mut SecondCache, line: &[u8], packing: Packing, out: &mut Entry)
     ensures entry { out.new ≡ entry line.now packing }
@@ -177,7 +176,7 @@ fn read_next(cache: &mut SecondCache, line: &[u8], packing: Packing, out: &mut E
     }
 }
 
-/// The entry of a candump line or a plain line of the common form. Of another line it answers nothing.
+/// The entry of a candump line or a plain line of the common form. None for other lines.
 #[inline]
 fn read_fast(cache: &mut SecondCache, line: &[u8], packing: Packing, out: &mut Entry) -> Option<()>
     ensures entry { IfSome result (λ done. out.new ≡ entry line.now packing) }
@@ -190,7 +189,7 @@ fn read_fast(cache: &mut SecondCache, line: &[u8], packing: Packing, out: &mut E
     }
 }
 
-/// Makes an entry the frame of these parts, in the room of the packet that it has, if it is a frame.
+/// Turns an entry into the frame of these parts, in place if it already is a frame.
 pub(crate) fn set_frame(out: &mut Entry, stamp: &[u8], id: Id, data: &[u8])
     requires parts { IsPacket stamp.now id «data».now }
     requires short { length «data».now ≤ frame_payload }
@@ -203,8 +202,8 @@ pub(crate) fn set_frame(out: &mut Entry, stamp: &[u8], id: Id, data: &[u8])
     }
 }
 
-/// `set_frame` of a stamp and data whose lengths are known, so that they are moved and not copied byte by byte. It is
-/// inlined, with `set_parts`: only then are they known there.
+/// `set_frame` for a stamp and data of known lengths, so that they are moved instead of copied byte by byte. It is
+/// inlined, with `set_parts`: only then are the lengths known there.
 #[inline(always)]
 pub(crate) fn set_frame_fast<const N: usize>(
     out: &mut Entry,
@@ -222,7 +221,7 @@ pub(crate) fn set_frame_fast<const N: usize>(
     }
 }
 
-/// Makes an entry the whole message of these parts, in the room of the packet that it has, if it is one.
+/// Turns an entry into the whole message of these parts, in place if it already is a whole message.
 pub(crate) fn set_whole(out: &mut Entry, stamp: &[u8], id: Id, data: &[u8])
     requires { IsPacket stamp.now id «data».now }
     ensures value { out.new ≡ entries.Whole (record { stamp = stamp.now; id = id; payload = «data».now }) }

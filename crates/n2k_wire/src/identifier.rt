@@ -4,12 +4,12 @@ ghost use Rattle.n2k_wire.specs.Identifier.{split, join, is_addressed, is_joinab
 
 use crate::packet::GREATEST_PRIORITY;
 
-/// What an identifier says of a frame: its priority, what it carries, who sent it, and to whom.
+/// The parts of a frame's identifier: priority, PGN, source and destination.
 #[derive(Clone, Copy, Debug, PartialEq, Eq)]
 pub struct Id {
     /// The priority, 0 (first) to 7.
     pub prio: u8,
-    /// The parameter group number: what the data mean.
+    /// The parameter group number, which defines the meaning of the data.
     pub pgn: u32,
     /// The sender's address.
     pub src: u8,
@@ -20,13 +20,13 @@ pub struct Id {
 /// From this PDU format on a frame is for all (PDU2), and below it for one address (PDU1).
 const FIRST_BROADCAST_FORMAT: u32 = 240;
 
-/// The address that stands for all.
+/// The address of all devices.
 const EVERYONE: u8 = 255;
 
 /// The greatest PGN of the bus, of 18 bits.
 const GREATEST_BUS_PGN: u32 = 0x3_ffff;
 
-/// What the 29 bits of an identifier say (ISO 11783-3).
+/// The parts of the 29 bits of an identifier (ISO 11783-3).
 ///
 /// ```rust
 /// let id = split_id(0x09F8_027F);
@@ -89,8 +89,8 @@ fn specific_of(id: &Id) -> u8
     }
 }
 
-/// The 29 bits of the identifier that says this (ISO 11783-3). `None` where no identifier does: the priority is over
-/// 7, the PGN has more than 18 bits, a PGN for one address (PDU1) has a low byte, or one for all (PDU2) has another
+/// The 29 bits of the identifier with these parts (ISO 11783-3). `None` if there is none: the priority is over 7, the
+/// PGN has more than 18 bits, a PGN for one address (PDU1) has a low byte, or a PGN for all (PDU2) has another
 /// destination than 255.
 ///
 /// ```rust

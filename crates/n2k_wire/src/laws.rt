@@ -1,4 +1,4 @@
-//! Laws that hold of the definitions: each is the contract of a function that does nothing.
+//! Theorems about the definitions: each is the contract of a function that does nothing.
 ghost use Rattle.std.specs.Prelude.{◌≡◌, ℕ, All, List, ◌<◌, ◌≤◌, ◌^◌, ◌++◌, Some, Ok, IsTrue, codes, length};
 ghost use Rattle.n2k_wire.specs.Entry.{entry, IsEntry, IsShort};
 ghost use Rattle.n2k_wire.specs.Identifier.{join, split};
@@ -18,7 +18,7 @@ pub fn plain_line_reads_back()
         → entry (plain_line p) packing ≡ packed packing p }
 {}
 
-/// An identifier is split into what it says, and what it says is joined to that identifier, both ways.
+/// Splitting an identifier and joining its parts gives the identifier, and joining parts and splitting gives the parts.
 #[tactic(auto, using(crate::proofs::IdentifierLemmas::join_split, crate::proofs::IdentifierLemmas::split_join))]
 pub fn identifiers_round_trip()
     ensures joined { (id : Id) (n : ℕ) → id.src < 2 ^ 8 → id.dst < 2 ^ 8 → join id ≡ Some n → split n ≡ id }

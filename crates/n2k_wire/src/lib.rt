@@ -12,18 +12,18 @@
 //! assert_eq!(rt; text.as_slice(), wanted.as_bytes());
 //! ```
 //!
-//! - `read_line` says what one line of a log is (`Entry`): a frame or a whole message as a `Packet`, a line to skip,
-//!   or a bad line with its cause (`BadCause`). A line is one of `candump -L` or a plain line. For the lines of a log,
-//!   one after the other, use a `LineReader`: it answers the same, and moves no packet.
+//! - `read_line` reads one line of a log, of `candump -L` or plain, as its `Entry`: a frame or a whole message as a
+//!   `Packet`, a line to skip, or a bad line with its cause (`BadCause`). For the lines of a log use a `LineReader`: it
+//!   gives the same result, and moves no packet.
 //! - `split_id` splits a CAN identifier into priority, PGN, source and destination (`Id`), and `join_id` joins them.
 //! - `Packet` holds a message or a frame: its stamp, its `Id`, and up to 223 bytes.
-//! - `plain_text` and `candump_text` append a packet as a line, and `CandumpLines` packets in a row, at less cost;
-//!   `is_interface` is the test of an interface's name. `laws` has what ties these calls together.
+//! - `plain_text` and `candump_text` append a packet as a line, and `CandumpLines` appends packets in a row faster;
+//!   `is_interface` tests the name of an interface. `laws` has theorems that connect these calls.
 //!
-//! No other call takes memory. Each answer is a stated function of the bytes that were given.
+//! No other call needs memory. Each result is a defined function of the given bytes.
 //!
-//! Each example is a test of `n2k_table_tests`, in the same words. In them `rt` is the runtime that `main` or a test is
-//! handed, and `alloc` its allocator, `rt.alloc()`; `frame_in(line)` is the packet of a line's frame.
+//! Each example is a test of `n2k_table_tests`, word for word. In them `rt` is the runtime that `main` or a test gets,
+//! and `alloc` its allocator, `rt.alloc()`; `frame_in(line)` is the packet of a line's frame.
 #![tactic(auto)]
 
 mod candump;

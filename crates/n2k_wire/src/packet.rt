@@ -42,14 +42,14 @@ impl Model for Packet {
         × (p.data_len ≤ 223) };
 }
 
-/// A byte that a stamp may hold.
+/// Whether a stamp may contain the byte.
 fn is_stamp_byte(byte: u8) -> bool
     ensures { result ≡ is_stamp_byte byte }
 {
     (byte >= b' ') & (byte <= b'~') & (byte != b',')
 }
 
-/// It looks at each byte, without a branch.
+/// Whether all bytes may be in a stamp, tested without a branch.
 #[inline]
 fn are_stamp_bytes(text: &[u8]) -> bool
     ensures { result ≡ list_all is_stamp_byte text.now }
@@ -61,14 +61,14 @@ fn are_stamp_bytes(text: &[u8]) -> bool
     all
 }
 
-/// A byte that a stamp may begin with.
+/// Whether a stamp may begin with the byte.
 fn is_stamp_start(byte: u8) -> bool
     ensures { result ≡ is_stamp_start byte }
 {
     byte != b'(' && byte != b'#'
 }
 
-/// Whether a text is a stamp: 1 to 32 printable ASCII bytes, none of them a comma, the first neither `(` nor `#`.
+/// Whether a text is a stamp: 1 to 32 printable ASCII bytes without a comma, not beginning with `(` or `#`.
 #[inline]
 pub(crate) fn is_stamp(text: &[u8]) -> bool
     ensures { result ≡ is_stamp text.now }
@@ -82,8 +82,8 @@ pub(crate) fn is_stamp(text: &[u8]) -> bool
 }
 
 impl Packet {
-    /// The packet of these parts. `None` where the stamp isn't a stamp, the priority is over 7, the PGN over
-    /// 16777215, or the data are over 223 bytes.
+    /// The packet of these parts. `None` if the stamp is invalid, the priority is over 7, the PGN over 16777215, or the
+    /// data are over 223 bytes.
     ///
     /// ```rust
     /// let id = split_id(0x18EA_FF01);
@@ -104,7 +104,7 @@ impl Packet {
         Some(Packet::from_parts(stamp, id, data))
     }
 
-    /// The packet of parts that make one.
+    /// The packet of valid parts.
     #[inline]
     pub(crate) fn from_parts(stamp: &[u8], id: Id, data: &[u8]) -> Packet
         requires { IsPacket stamp.now id «data».now }
@@ -148,7 +148,7 @@ impl Packet {
         }
     }
 
-    /// Gives it other data, of at most 223 bytes, in its own place.
+    /// Replaces the packet's data, at most 223 bytes, in place.
     ///
     /// ```rust
     /// let mut packet = frame_in("(1.0) can0 18EAFF01#14F001")?;
@@ -165,7 +165,7 @@ impl Packet {
         self.data_len = data.len();
     }
 
-    /// Makes it a frame of a message, with these data, in its own place.
+    /// Turns the packet into a frame of a message, with these data, in place.
     ///
     /// ```rust
     /// let message = frame_in("(2.0) can0 1DFF0405#")?;
@@ -185,7 +185,7 @@ impl Packet {
         self.data_len = FRAME_PAYLOAD;
     }
 
-    /// Makes it the packet of these parts, in its own place. It is inlined, since most callers know the lengths.
+    /// Turns the packet into that of these parts, in place. It is inlined, since most callers know the lengths.
     #[inline(always)]
     pub(crate) fn set_parts(&mut self, stamp: &[u8], id: Id, data: &[u8])
         requires { IsPacket stamp.now id «data».now }
@@ -212,7 +212,7 @@ impl Packet {
         &self.stamp[..self.stamp_len]
     }
 
-    /// The stamp in its room, and how many bytes it has.
+    /// The stamp with its unused room, and its length.
     #[inline]
     pub(crate) fn stamp_buffer(&self) -> (&[u8; LONGEST_STAMP], usize)
         ensures value { take result.1 result.0.now ≡ self.now.stamp }

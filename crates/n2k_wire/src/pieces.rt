@@ -16,7 +16,7 @@ fn find_other_byte(byte: u8, bytes: &[u8]) -> Option<usize>
     bytes.iter().position(|b| *b != byte)
 }
 
-/// What stands before the first such byte, and what stands after it.
+/// The bytes before the first separator, and the bytes after it.
 #[tactic(auto, unfolding(crate::specs::Pieces::cut_at))]
 pub(crate) fn cut_at(separator: u8, bytes: &[u8]) -> Option<(&[u8], &[u8])>
     ensures { Finds (λ x. (x.0.now, x.1.now)) result (cut_at separator bytes.now) }
@@ -25,7 +25,7 @@ pub(crate) fn cut_at(separator: u8, bytes: &[u8]) -> Option<(&[u8], &[u8])>
     Some((bytes.split_at(at).0, bytes.split_at(at + 1).1))
 }
 
-/// What follows this byte, where the bytes begin with it.
+/// The bytes after this byte, if they begin with it.
 #[tactic(auto, unfolding(crate::specs::Pieces::after_byte))]
 pub(crate) fn after_byte(first: u8, bytes: &[u8]) -> Option<&[u8]>
     ensures { Finds (λ x. x.now) result (after_byte first bytes.now) }
@@ -36,7 +36,7 @@ pub(crate) fn after_byte(first: u8, bytes: &[u8]) -> Option<&[u8]>
     }
 }
 
-/// The bytes from the first on that isn't a space.
+/// The bytes from the first non-space on.
 #[tactic(auto, unfolding(crate::specs::Pieces::skip_spaces))]
 pub(crate) fn skip_spaces(bytes: &[u8]) -> Option<&[u8]>
     ensures { Finds (λ x. x.now) result (skip_spaces bytes.now) }

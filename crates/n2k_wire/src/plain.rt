@@ -18,7 +18,7 @@ use hex::FromHex;
 /// The greatest address of a packet and of a saved state.
 pub const GREATEST_ADDRESS: u64 = 255;
 
-/// The five columns behind the stamp, and what is left behind those: nothing, or a text of columns.
+/// The five columns after the stamp, and the text of the columns after those, if any.
 #[derive(Clone, Copy)]
 struct Header<'a> {
     prio: &'a [u8],
@@ -29,7 +29,7 @@ struct Header<'a> {
     more: Option<&'a [u8]>,
 }
 
-/// The first column of a text, and the text of those behind it, if there are any.
+/// The first column of a text, and the text of the columns after it, if any.
 fn first_column(text: &[u8]) -> (&[u8], Option<&[u8]>)
     ensures { columns text.now ≡ result.0.now ∷ columns_left result.1 }
 {
@@ -100,7 +100,7 @@ fn read_pair(column: &[u8]) -> Option<u8>
     Some(byte)
 }
 
-/// Exactly so many columns, each as a byte, which `bytes` holds then.
+/// Reads exactly so many columns, each as a byte, into `bytes`.
 fn read_bytes(
     len: u64,
     more: Option<&[u8]>,
@@ -134,7 +134,7 @@ fn is_frame(packing: Packing, len: usize) -> bool
     }
 }
 
-/// The stamp and the identifier of a plain line's packet, whose data `bytes` holds then, or the first of its causes.
+/// The stamp and the identifier of a plain line's packet, with its data in `bytes`, or the first of its causes.
 #[tactic(auto, unfolding(crate::specs::Plain::packet_of))]
 fn read_packet<'a>(
     line: &'a [u8],
@@ -156,7 +156,7 @@ fn read_packet<'a>(
     Ok((stamp, id))
 }
 
-/// Makes an entry that of a plain line with these parts, in the room of the packet that it has, if it is of its kind.
+/// Turns an entry into that of a plain line with these parts, in place if it already is of the same kind.
 pub(crate) fn set_packed(out: &mut Entry, packing: Packing, stamp: &[u8], id: Id, data: &[u8])
     requires { IsPacket stamp.now id «data».now }
     ensures value { out.new ≡ packed packing (record { stamp = stamp.now; id = id; payload = «data».now }) }
@@ -169,7 +169,7 @@ pub(crate) fn set_packed(out: &mut Entry, packing: Packing, stamp: &[u8], id: Id
     }
 }
 
-/// The entry of a plain line, put where that of an earlier line was.
+/// The entry of a plain line, written over the entry of an earlier line.
 pub(crate) fn read_plain(line: &[u8], packing: Packing, out: &mut Entry)
     ensures entry { out.new ≡ settled (plain packing line.now) }
     ensures valid { IsEntry out.new }

@@ -1,7 +1,7 @@
-//! A fast path; read `plain.rt` first. A plain line with data,
-//! `2011-11-24-22:42:04.388,2,127251,36,255,8,7d,0b,7d,02,00,ff,ff,ff`, is read by position: the end of its stamp is
-//! looked for among 32 bytes at once, that of a number at few places, and data are taken eight bytes at once. It
-//! promises only what it answers. Where it answers nothing, `plain.rt` reads the line, as it reads every plain line.
+//! A fast path; read `plain.rt` first. It reads a plain line with data,
+//! `2011-11-24-22:42:04.388,2,127251,36,255,8,7d,0b,7d,02,00,ff,ff,ff`, by position: it looks for the end of the stamp
+//! among 32 bytes at once and for the end of a number at few places, and takes data eight bytes at once. Only a result
+//! that is returned is promised: without one, the line is read by `plain.rt`, which reads every plain line.
 ghost use Rattle.std.specs.Prelude.{◌≡◌, ◌≤◌, ◌+◌, ◌++◌, [], ◌∷◌, length, map, not, take, true, Some, IfSome, IsTrue};
 ghost use Rattle.std.specs.List.{list_all};
 ghost use Rattle.std.specs.Simd.Lanes.{mask_l};
@@ -42,7 +42,7 @@ fn mask_of_others(lanes: u8x32) -> u64
     (others | lanes.simd_eq(u8x32::splat(b','))).to_bitmask()
 }
 
-/// How many bytes a text begins with that a stamp may have. They are looked at all at once.
+/// The number of stamp bytes that a text begins with. All are compared at once.
 #[inline(always)]
 fn stamp_len(text: &[u8; LONGEST_STAMP]) -> usize
     ensures front { list_all is_stamp_byte (take result text.now) ≡ true }
@@ -67,7 +67,7 @@ fn starts_stamp(text: &[u8]) -> bool
     }
 }
 
-/// The stamp before a line's first comma, and what follows the comma.
+/// The stamp before a line's first comma, and the text after the comma.
 #[inline]
 fn stamp_before(line: &[u8]) -> Option<(&[u8], &[u8])>
     ensures line { IfSome result (λ x. line.now ≡ x.0.now ++ (44 ∷ x.1.now)) }
@@ -82,7 +82,7 @@ fn stamp_before(line: &[u8]) -> Option<(&[u8], &[u8])>
     Some((stamp, text))
 }
 
-/// The number of so many digits before a comma, and what follows the comma.
+/// The number of so many digits before a comma, and the text after the comma.
 #[inline(always)]
 fn number_before(digits: usize, limit: u64, text: &[u8]) -> Option<(u64, &[u8])>
     ensures value { IfSome result (λ x. IsNumberBefore limit text.now x.0 x.1.now) }
@@ -97,7 +97,7 @@ fn number_before(digits: usize, limit: u64, text: &[u8]) -> Option<(u64, &[u8])>
     Some((number, rest))
 }
 
-/// A number of one to three digits before a comma, and what follows the comma.
+/// A number of one to three digits before a comma, and the text after the comma.
 #[inline(always)]
 fn short_number_before(limit: u64, text: &[u8]) -> Option<(u64, &[u8])>
     ensures value { IfSome result (λ x. IsNumberBefore limit text.now x.0 x.1.now) }
@@ -112,7 +112,7 @@ fn short_number_before(limit: u64, text: &[u8]) -> Option<(u64, &[u8])>
     }
 }
 
-/// A PGN of six digits or five before a comma, and what follows the comma.
+/// A PGN of six digits or five before a comma, and the text after the comma.
 #[inline(always)]
 fn pgn_before(text: &[u8]) -> Option<(u64, &[u8])>
     ensures value { IfSome result (λ x. IsNumberBefore greatest_pgn text.now x.0 x.1.now) }
@@ -124,7 +124,7 @@ fn pgn_before(text: &[u8]) -> Option<(u64, &[u8])>
     }
 }
 
-/// The identifier of four numbers before commas, and what follows the last.
+/// The identifier of four numbers before commas, and the text after the last comma.
 #[inline]
 fn id_before(text: &[u8]) -> Option<(Id, &[u8])>
     ensures value { IfSome result (λ x. IsIdBefore text.now x.0 x.1.now) }
@@ -183,7 +183,7 @@ fn last_columns(text: &[u8], count: usize) -> Option<[u8; FRAME_PAYLOAD]>
     Some(bytes)
 }
 
-/// Puts eight bytes at a place of others.
+/// Writes eight bytes at a place of others.
 #[inline(always)]
 fn put_eight(bytes: &mut [u8], at: usize, eight: &[u8; FRAME_PAYLOAD])
     requires { at + 8 ≤ length bytes.old }
@@ -210,7 +210,7 @@ fn read_columns(text: &[u8], len: usize, bytes: &mut [u8; FILLED_MESSAGE]) -> Op
     Some(())
 }
 
-/// Puts the entry of a line with these parts and the data of so many columns where that of an earlier line was.
+/// Writes the entry of a line with these parts and the data of so many columns over the entry of an earlier line.
 #[inline(never)]
 fn set_read(
     out: &mut Entry,
@@ -251,7 +251,7 @@ fn set_stamped(out: &mut Entry, stamp: &[u8], id: Id, data: &[u8; FRAME_PAYLOAD]
     }
 }
 
-/// Puts the entry of such a line where that of an earlier line was. Of another line it answers nothing.
+/// Writes the entry of a plain line with data over the entry of an earlier line. None for a line in another form.
 pub(crate) fn read_plain_fast(line: &[u8], packing: Packing, out: &mut Entry) -> Option<()>
     ensures entry { IfSome result (λ done. out.new ≡ entry line.now packing) }
     ensures valid { IfSome result (λ done. IsEntry out.new) }

@@ -1,5 +1,5 @@
-//! A packet as a plain line, `2016-02-28T19:57:02.364Z,2,127250,67,255,8,ff,10,3b,ff,7f,ce,f5,fc`. It is written where
-//! it goes: zeros are appended, and pieces of constant length are written over them, of which a part may count.
+//! A packet as a plain line, `2016-02-28T19:57:02.364Z,2,127250,67,255,8,ff,10,3b,ff,7f,ce,f5,fc`, written in place:
+//! zeros are appended, and pieces of constant length are written over them, each perhaps only in part used.
 ghost use Rattle.std.specs.Prelude.{◌≡◌, ◌+◌, ◌*◌, ◌/◌, ◌%◌, ◌^◌, ◌<◌, ◌≤◌, ◌++◌, ◌∷◌, [], codes, length, map, take};
 ghost use Rattle.std.specs.Prelude.{OnOk, OnErr};
 ghost use Rattle.std.specs.List.{flat_map};
@@ -12,17 +12,17 @@ use crate::packet::Packet;
 use std::alloc::{AllocError, Global};
 use std::simd::prelude::*;
 
-/// Room for the line of a frame, a plain one or candump's, and for what is written behind it: 53 bytes at most stand
-/// before the last piece of 32.
+/// Room for the line of a frame, plain or candump, and for unused bytes after it: at most 53 bytes come before the last
+/// piece of 32.
 const FRAME_ROOM: usize = 96;
 
-/// Room for any line and for what is written behind it: three bytes for each byte of data, and at most 58 more.
+/// Room for any line and for unused bytes after it: three bytes for each byte of data, and at most 58 more.
 pub const LINE_ROOM: usize = 736;
 
 /// The bytes of the last piece of a line of eight bytes that count: the length, the bytes and the LF.
 const END: usize = 27;
 
-/// Writes a piece at a place of the text, of which the first bytes count, and answers the place behind them.
+/// Writes a piece, whose first bytes are used, at a place of the text, and returns the place after those.
 #[inline(always)]
 pub(crate) fn put<const N: usize>(
     text: &mut [u8],
@@ -54,7 +54,7 @@ fn digits_word(number: u32) -> u32
     (word + 0x3030_3030) as u32
 }
 
-/// How many zeros stand in front of a number that is written with three digits.
+/// The number of leading zeros if a number is written with three digits.
 #[inline(always)]
 fn leading_zeros(number: u8) -> u32
     ensures two { number < 10 → result ≡ 2 }
@@ -76,7 +76,7 @@ fn small_piece(number: u8) -> ([u8; 4], usize)
     ((digits - 4).to_le_bytes(), 4 - zeros as usize)
 }
 
-/// A PGN as a piece of a plain line, in the same way.
+/// A PGN as a piece of a plain line. The comma takes the place of the last zero.
 #[inline(always)]
 fn pgn_piece(pgn: u32) -> ([u8; 8], usize)
     requires { (10000 ≤ pgn) × (pgn < 1000000) }
@@ -109,7 +109,7 @@ fn put_number(text: &mut [u8], at: usize, number: u32) -> usize
     end
 }
 
-/// Writes a PGN as a piece of the line. Those of the bus have five or six digits.
+/// Writes a PGN as a piece of the line. PGNs of the bus have five or six digits.
 #[inline(always)]
 fn put_pgn(text: &mut [u8], at: usize, pgn: u32) -> usize
     requires { at + 11 ≤ length text.old }
@@ -136,7 +136,7 @@ fn lower_digits(numbers: u8x16) -> u8x16
     )
 }
 
-/// What follows the destination in the line of eight bytes.
+/// The text after the destination in the line of eight bytes.
 #[inline(always)]
 fn end_piece(data: &[u8; FRAME_PAYLOAD]) -> [u8; 32]
     ensures { take 27 result ≡ number_piece 8 ++ flat_map byte_piece «data».now ++ codes "\n" }
@@ -181,7 +181,7 @@ fn put_bytes(text: &mut [u8], at: usize, bytes: &[u8]) -> usize
     at
 }
 
-/// Writes what follows the destination.
+/// Writes the text after the destination.
 #[inline(always)]
 fn put_end(text: &mut [u8], at: usize, data: &[u8]) -> usize
     requires room { at + 32 ≤ length text.old }
@@ -200,8 +200,8 @@ fn put_end(text: &mut [u8], at: usize, data: &[u8]) -> usize
     put(text, at, b"\n", 1)
 }
 
-/// Writes the plain line of a packet at a place of the text, and answers the place behind it. `LINE_ROOM` bytes are
-/// enough for any.
+/// Writes the plain line of a packet at a place of the text, and returns the place after it. `LINE_ROOM` bytes are
+/// enough for any line.
 ///
 /// ```rust
 /// let packet = frame_in("(1.0) can0 18EAFF01#14F001")?;
@@ -230,7 +230,7 @@ pub fn write_line(text: &mut [u8], at: usize, packet: &Packet) -> usize
     put_end(text, at, packet.data())
 }
 
-/// Appends zeros, as many as the line of so many bytes and what is written behind it can take.
+/// Appends zeros as room for the line of so many bytes and for unused bytes after it.
 #[inline(always)]
 pub(crate) fn append_room(bytes: usize, out: &mut Vec<u8>) -> Result<(), AllocError>
     requires { bytes ≤ longest_message }
@@ -246,8 +246,8 @@ pub(crate) fn append_room(bytes: usize, out: &mut Vec<u8>) -> Result<(), AllocEr
     }
 }
 
-/// Appends the plain line of a packet, `stamp,prio,pgn,src,dst,len,b0,b1,..` with its LF: numbers without
-/// leading zeros, each byte as two digits in lower case. `out` is as it was where memory is refused.
+/// Appends the plain line of a packet, `stamp,prio,pgn,src,dst,len,b0,b1,..` with its LF: numbers without leading
+/// zeros, each byte as two digits in lower case. If memory is refused, `out` is unchanged.
 ///
 /// ```rust
 /// let packet = frame_in("(1.0) can0 18EAFF01#14F001")?;
@@ -256,6 +256,7 @@ pub(crate) fn append_room(bytes: usize, out: &mut Vec<u8>) -> Result<(), AllocEr
 /// let wanted = "1970-01-01T00:00:01.000Z,6,59904,1,255,3,14,f0,01\n";
 /// assert_eq!(rt; text.as_slice(), wanted.as_bytes());
 /// ```
+#[inline(always)]
 pub fn plain_text(_alloc: Global, packet: &Packet, out: &mut Vec<u8>) -> Result<(), AllocError>
     ensures ok { OnOk result (out.new.items ≡ out.old.items ++ plain_text packet.now) }
     ensures unchanged { OnErr result (out.new.items ≡ out.old.items) }

@@ -1,4 +1,4 @@
-//! Stamps of candump lines, and the UTC text that packets keep of them.
+//! Stamps of candump lines, and the UTC text of a stamp in a packet.
 ghost use Rattle.std.specs.Prelude.{◌≡◌, ◌+◌, ◌^◌, ◌≤◌, ◌<◌, ◌↔◌, IfSome, IsSome, IsTrue, true, length, pos};
 ghost use Rattle.jiff_core.specs.Calendar.{IsCivilDate};
 ghost use Rattle.jiff_core.specs.Date.{epoch_day};
@@ -146,7 +146,7 @@ pub(crate) fn utc_text(moment: Moment) -> [u8; UTC_LEN]
     ]
 }
 
-/// The date of a year, a month and a day, where the calendar has it.
+/// The date of a year, a month and a day, if the calendar has it.
 fn date_of(year: u32, month: u32, day: u32) -> Option<Date>
     requires year { year ≤ 9999 }
     requires month { month ≤ 99 }
@@ -159,7 +159,7 @@ fn date_of(year: u32, month: u32, day: u32) -> Option<Date>
     Date::new(year as i16, month as i8, day as i8).ok()
 }
 
-/// The day number of a year, a month and a day, where the calendar has them and they are no earlier than 1970.
+/// The day number of a year, a month and a day, if the calendar has that day and it is 1970 or later.
 fn civil_day(year: u32, month: u32, day: u32) -> Option<u32>
     requires year { year ≤ 9999 }
     requires month { month ≤ 99 }
@@ -211,7 +211,7 @@ fn day_at_start(text: &[u8]) -> Option<u32>
     civil_day(year, month, day)
 }
 
-/// The second of the day of `HH:MM:SS` behind `YYYY-MM-DDT`.
+/// The second of the day of `HH:MM:SS` after `YYYY-MM-DDT`.
 #[tactic(auto, unfolding(crate::specs::Stamp::second_behind_date))]
 fn second_behind_date(text: &[u8]) -> Option<u32>
     requires { length text.now ≡ utc_len }

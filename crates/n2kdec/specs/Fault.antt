@@ -12,17 +12,20 @@ use Rattle.n2k_run.specs.declared.fault.RunFault.TheVariants as run
 use Rattle.n2k_table.specs.declared.fault.TableFault.{TableFault}
 use Rattle.n2k_table.specs.declared.fault.TableFault.TheVariants as table
 use Rattle.n2kdec.specs.declared.fault.Fault.{Fault}
-use Rattle.n2kdec.specs.declared.fault.Reading.{Reading}
-use Rattle.n2kdec.specs.declared.fault.Reading.TheVariants as reading
+use Rattle.n2kdec.specs.declared.fault.InputFile.{InputFile}
+use Rattle.n2kdec.specs.declared.fault.InputFile.TheVariants as reading
 use Rattle.n2kdec.specs.declared.fault.Fault.TheVariants.{Words, Interface, TableSize, StateSize, Table, State}
 use Rattle.n2kdec.specs.declared.fault.Fault.TheVariants.{TableFile, StateFile, Read, Write, Report, Memory, Lines}
 use Rattle.n2kdec.specs.declared.fault.Fault.TheVariants.{Save}
+pub mod Escape
+pub mod Reason
+pub mod Sentence
 
 -- the most bytes of the file of a table, and of that of a state
 abbrev pub longest_file : ℕ
 longest_file = 16_777_216
 
--- the number and the name of a refused table's fault; want of memory has the line that it has everywhere
+-- the number and the name of a refused table's fault; refused memory has the line that it has everywhere
 abbrev pub table_line : TableFault → List ℕ
 table_line table.NotToml = codes "n2kdec: table 1 NotToml\n"
 table_line table.Format = codes "n2kdec: table 2 Format\n"
@@ -62,7 +65,7 @@ fault_line (Memory read) = codes "n2kdec: memory\n"
 fault_line Lines = codes "n2kdec: lines\n"
 fault_line (Save why) = codes "n2kdec: save\n"
 
--- 2 where the words, the table or the state are refused, 3 where a file, a device, memory or the limit of lines ended
+-- 2 if the arguments, the table or the state are refused, 3 if a file, a device, memory or the limit of lines ended
 -- it
 abbrev pub status_of : Fault → ℕ
 status_of Words = 2
@@ -84,19 +87,19 @@ fault_of_run run.Memory lines = Memory (Some reading.Log)
 fault_of_run run.TooManyLines lines = Lines
 
 -- and of a file that can't be read, for this
-abbrev pub unread : Reading → Option Error → Fault
+abbrev pub unread : InputFile → Option Error → Fault
 unread reading.Table why = TableFile why
 unread reading.State why = StateFile why
 unread reading.Log why = Read 0 why None
 
 -- or can't be opened, by this error of this kind
-abbrev pub unopened_by : ErrorKind → Reading → Error → Fault
+abbrev pub unopened_by : ErrorKind → InputFile → Error → Fault
 unopened_by OutOfMemory read error = Memory (Some read)
 unopened_by _ read error = unread read (Some error)
 
-abbrev pub unopened : Reading → Error → Fault
+abbrev pub unopened : InputFile → Error → Fault
 unopened read error = unopened_by (error_kind error) read error
 
--- 0 where no line was bad
+-- 0 if no line was bad
 abbrev pub exit_status : Counts → ℕ
 exit_status counts = if counts.bad == 0 then 0 else 1

@@ -5,19 +5,23 @@ ghost use Rattle.std.specs.List.{list_all};
 ghost use Rattle.clap.specs.Walk.{texts};
 ghost use Rattle.clap.specs.Values.{kind_of};
 ghost use Rattle.clap.specs.Words.{HasKind, fault_of, first_of, found_of, rows_of, subcommand_rows_of, takes};
-ghost use Rattle.n2kdec.specs.declared.asked.Request.TheVariants.{Help, Refused};
+ghost use Rattle.n2kdec.specs.declared.command_line.asked.ParsedArgs.TheVariants.{Help, Refused};
 ghost use Rattle.n2kdec.specs.declared.fault.Fault.TheVariants.{Memory};
-ghost use Rattle.n2kdec.specs.Asked.{AreLinesOf, AreMatchesOf, IsAsked};
+ghost use Rattle.n2kdec.specs.CommandLine.Asked.{AreLinesOf, AreMatchesOf, IsAsked};
 ghost use Rattle.n2kdec.specs.Inner.Parse.{AnswersKind};
-ghost use Rattle.n2kdec.specs.Usage.{program_app};
-ghost use Rattle.n2kdec.specs.Words.{Names, NamesIn, command_of, decode_by, flag_of, frames_by, judged, lines_in};
-ghost use Rattle.n2kdec.specs.Words.{named, over, packing_of, plain_command, version_text, window_of};
+ghost use Rattle.n2kdec.specs.CommandLine.Usage.{program_app};
+ghost use Rattle.n2kdec.specs.CommandLine.Words.{Names, NamesIn, command_of, decode_by, encode_by, flag_of, frames_by, judged, lines_in};
+ghost use Rattle.n2kdec.specs.CommandLine.Words.{named, over, packing_of, plain_command, version_text, window_of};
 
-use crate::asked::{Command, Files, Interface, Request, Task};
-use crate::escape::push_escaped;
+pub mod asked;
+pub mod usage;
+pub mod words;
+
+use crate::command_line::asked::{Command, Files, Interface, ParsedArgs, Subcommand};
+use crate::command_line::usage::{VERSION, program};
+use crate::command_line::words::Word;
 use crate::fault::Fault;
-use crate::usage::{VERSION, program};
-use crate::words::Word;
+use crate::fault::escape::push_escaped;
 use clap::error::ErrorKind;
 use clap::{ArgMatches, Error};
 use n2k_join::Window;
@@ -26,8 +30,8 @@ use n2k_wire::Packing;
 use std::alloc::{AllocError, Global};
 use std::fmt::Display;
 
-/// The value of an argument, where it has one.
-#[tactic(auto, using(crate::proofs::Rows::value_of_rows))]
+/// The value of an argument, if it has one.
+#[tactic(auto, using(crate::proofs::command_line::Rows::value_of_rows))]
 fn value_of(alloc: Global, matches: &ArgMatches<'_>, id: &str) -> Result<Option<Word>, AllocError>
     ensures { IfOk result (λ value. value ≡ first_of id.now (rows_of (found_of matches.now))) }
 {
@@ -38,7 +42,7 @@ fn value_of(alloc: Global, matches: &ArgMatches<'_>, id: &str) -> Result<Option<
 }
 
 /// Whether a flag was given: `clap` gives it the value `true` then, and else `false`.
-#[tactic(auto, using(crate::proofs::Rows::value_of_rows))]
+#[tactic(auto, using(crate::proofs::command_line::Rows::value_of_rows))]
 fn flag_of(matches: &ArgMatches<'_>, id: &str) -> bool
     ensures { result ≡ flag_of id.now (rows_of (found_of matches.now)) }
 {
@@ -57,7 +61,7 @@ fn are_digits(text: &[u8]) -> bool
     text.iter().all(|byte| byte.is_ascii_digit())
 }
 
-/// The window of a number of lines in decimal digits, where it can be one.
+/// The window of a number of lines in decimal digits, if it can be one.
 fn window_in(text: &str) -> Option<Window>
     ensures { result ≡ option_map (λ lines. record { lines = lines; in_order = false }) (lines_in text.now) }
 {
@@ -68,7 +72,7 @@ fn window_in(text: &str) -> Option<Window>
 }
 
 /// The window that the words ask for, or the default one.
-#[tactic(auto, using(crate::proofs::Rows::value_of_rows))]
+#[tactic(auto, using(crate::proofs::command_line::Rows::value_of_rows))]
 fn window_of(matches: &ArgMatches<'_>) -> Option<Window>
     ensures { result ≡ window_of (rows_of (found_of matches.now)) }
 {
@@ -95,7 +99,7 @@ fn packing_of(whole: bool) -> Packing
 }
 
 /// A command over these files.
-fn over(table: Option<Word>, state: Option<Word>, log: Option<Word>, task: Task) -> Command
+fn over(table: Option<Word>, state: Option<Word>, log: Option<Word>, task: Subcommand) -> Command
     ensures { result ≡ over table state log task }
 {
     Command {
@@ -104,7 +108,7 @@ fn over(table: Option<Word>, state: Option<Word>, log: Option<Word>, task: Task)
     }
 }
 
-/// The interface of this name, where one is named.
+/// The interface of this name, if one is named.
 fn judged(name: Option<Word>) -> Result<Option<Interface>, Fault>
     ensures { result ≡ judged name }
 {
@@ -119,7 +123,7 @@ fn plain_of(alloc: Global, matches: &ArgMatches<'_>) -> Result<Command, Fault>
     ensures { Names (plain_command (rows_of (found_of matches.now))) result }
 {
     let log = value_of(alloc, matches, "log")?;
-    Ok(over(None, None, log, Task::Plain))
+    Ok(over(None, None, log, Subcommand::Plain))
 }
 
 /// `decode`, with its values.
@@ -141,7 +145,12 @@ fn decode_of(alloc: Global, matches: &ArgMatches<'_>) -> Result<Command, Fault>
     let state = value_of(alloc, matches, "resume")?;
     let save = value_of(alloc, matches, "save")?;
     let log = value_of(alloc, matches, "log")?;
-    Ok(over(Some(table), state, log, Task::Decode { options, save }))
+    Ok(over(
+        Some(table),
+        state,
+        log,
+        Subcommand::Decode { options, save },
+    ))
 }
 
 /// `frames`, with its values.
@@ -154,7 +163,20 @@ fn frames_of(alloc: Global, matches: &ArgMatches<'_>) -> Result<Command, Fault>
     };
     let candump = value_of(alloc, matches, "candump")?;
     let log = value_of(alloc, matches, "log")?;
-    Ok(over(Some(table), None, log, Task::Frames(judged(candump)?)))
+    Ok(over(Some(table), None, log, Subcommand::Frames(judged(candump)?)))
+}
+
+/// `encode`, with its values.
+fn encode_of(alloc: Global, matches: &ArgMatches<'_>) -> Result<Command, Fault>
+    ensures { let rows = rows_of (found_of matches.now) in
+        Names (encode_by (first_of (codes "table") rows) rows) result }
+{
+    let Some(table) = value_of(alloc, matches, "table")? else {
+        return Err(Fault::Words);
+    };
+    let nearest = flag_of(matches, "nearest");
+    let log = value_of(alloc, matches, "log")?;
+    Ok(over(Some(table), None, log, Subcommand::Encode { nearest }))
 }
 
 /// The command that was named, with its values.
@@ -170,6 +192,8 @@ fn command_of(alloc: Global, matches: &ArgMatches<'_>) -> Result<Command, Fault>
         decode_of(alloc, values)
     } else if name == "frames" {
         frames_of(alloc, values)
+    } else if name == "encode" {
+        encode_of(alloc, values)
     } else {
         Err(Fault::Words)
     }
@@ -210,26 +234,26 @@ fn lines_of<T: Display>(alloc: Global, shown: &T) -> Result<Vec<u8>, AllocError>
 }
 
 /// A text that is asked for.
-fn help(text: Result<Word, AllocError>) -> Request
+fn help(text: Result<Word, AllocError>) -> ParsedArgs
     ensures { MatchResult text (λ text. result ≡ Help text) (λ _. result ≡ Refused (Memory None) None) }
 {
     match text {
-        Ok(text) => Request::Help(text),
-        Err(_) => Request::Refused(Fault::Memory(None), None),
+        Ok(text) => ParsedArgs::Help(text),
+        Err(_) => ParsedArgs::Refused(Fault::Memory(None), None),
     }
 }
 
 /// What a parse without matches comes to, by the kind of its error. A request for help gets the text that is shown; it
 /// is not a fault, nor is a request for the version.
-fn help_of<T: Display>(alloc: Global, kind: ErrorKind, shown: &T) -> Request
+fn help_of<T: Display>(alloc: Global, kind: ErrorKind, shown: &T) -> ParsedArgs
     ensures answers { AnswersKind kind (T.output shown.now) result }
     ensures memory { kind ≡ ErrorKind.OutOfMemory → result ≡ Refused (Memory None) None }
 {
     match kind {
         ErrorKind::DisplayHelp => help(shown_text(alloc, shown)),
         ErrorKind::DisplayVersion => help(version(alloc)),
-        ErrorKind::OutOfMemory => Request::Refused(Fault::Memory(None), None),
-        _ => Request::Refused(Fault::Words, Some(lines_of(alloc, shown))),
+        ErrorKind::OutOfMemory => ParsedArgs::Refused(Fault::Memory(None), None),
+        _ => ParsedArgs::Refused(Fault::Words, Some(lines_of(alloc, shown))),
     }
 }
 
@@ -247,16 +271,19 @@ fn matches_of<'a>(alloc: Global, words: &'a [&'a str]) -> Result<ArgMatches<'a>,
 /// definition: `["n2kdec", "plain", "trip.log"]` gives `plain` with that log. If they ask for help or the version, `Help`
 /// has `clap`'s help text, or `n2kdec`, the version and an LF. An invalid interface is `Fault::Interface`; arguments that
 /// are refused for any other cause are `Fault::Words`, with what is said of them, or an error if memory for that is
-/// refused; want of memory is `Fault::Memory`.
-pub fn request(alloc: Global, words: &[&str]) -> Request
+/// refused; if memory is refused, `Fault::Memory`.
+pub fn request(alloc: Global, words: &[&str]) -> ParsedArgs
     ensures asked { IsAsked result (texts words.now) }
     ensures taken { takes program_app (texts words.now) ≡ true → NamesIn (command_of (texts words.now)) result }
 {
     match matches_of(alloc, words) {
         Ok(matches) => match command_of(alloc, &matches) {
-            Ok(command) => Request::Command(command),
-            Err(Fault::Words) => Request::Refused(Fault::Words, Some(lines_of(alloc, &NO_WINDOW))),
-            Err(fault) => Request::Refused(fault, None),
+            Ok(command) => ParsedArgs::Command(command),
+            Err(Fault::Words) => ParsedArgs::Refused(
+                Fault::Words,
+                Some(lines_of(alloc, &NO_WINDOW)),
+            ),
+            Err(fault) => ParsedArgs::Refused(fault, None),
         },
         Err(error) => help_of(alloc, error.kind(), &error),
     }

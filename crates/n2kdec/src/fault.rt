@@ -2,8 +2,13 @@
 ghost use Rattle.std.specs.Prelude.{◌≡◌, ◌++◌, OnOk, OnErr};
 ghost use Rattle.n2kdec.specs.Fault.{exit_status, fault_line, fault_of_run, state_line, status_of, table_line, unopened, unread};
 
-use crate::difference::Difference;
-use crate::keeper::Unkept;
+pub mod escape;
+pub mod message;
+pub mod reason;
+pub mod sentence;
+
+use crate::run::difference::StateMismatch;
+use crate::save::keeper::SaveError;
 use n2k_join::StateFault;
 use n2k_run::{Counts, RunFault};
 use n2k_table::TableFault;
@@ -12,7 +17,7 @@ use std::io::{Error, ErrorKind};
 
 /// What is read of files.
 #[derive(Clone, Copy, Debug, PartialEq, Eq)]
-pub enum Reading {
+pub enum InputFile {
     /// The table.
     Table,
     /// The state.
@@ -43,7 +48,7 @@ pub enum Fault {
     /// The state is refused, and what it was saved under, if that is another table or window; an error if memory to find that
     /// out is refused.
     #[error("{0}")]
-    State(StateFault, Result<Option<Difference>, AllocError>),
+    State(StateFault, Result<Option<StateMismatch>, AllocError>),
     /// The file of the table can't be opened or read, by this error.
     #[error("can't be read")]
     TableFile(Option<Error>),
@@ -51,24 +56,24 @@ pub enum Fault {
     #[error("can't be read")]
     StateFile(Option<Error>),
     /// The log can't be opened or read, by this error, or its end was not found: so many lines were taken of it, those
-    /// before a state too. Why the state after them could not be kept, where it could not.
+    /// before a state too. Why the state after them could not be saved, if it could not.
     #[error("can't be read")]
-    Read(u64, Option<Error>, Option<Unkept>),
+    Read(u64, Option<Error>, Option<SaveError>),
     /// The output can't be written, by this error.
     #[error("can't be written")]
     Write(Option<Error>),
     /// A report or the summary can't be written.
     #[error("can't be written")]
     Report,
-    /// Memory is refused where this is read, or the command line.
+    /// Memory is refused while this, or the command line, is read.
     #[error("out of memory")]
-    Memory(Option<Reading>),
+    Memory(Option<InputFile>),
     /// The log has more lines than are counted.
     #[error("over 999999999999999 lines")]
     Lines,
     /// The state can't be kept, for this.
     #[error("{0}")]
-    Save(Unkept),
+    Save(SaveError),
 }
 
 impl From<AllocError> for Fault {
@@ -90,24 +95,24 @@ pub fn fault_of_run(fault: RunFault, lines: u64) -> Fault
         RunFault::Read => Fault::Read(lines, None, None),
         RunFault::Write => Fault::Write(None),
         RunFault::Report => Fault::Report,
-        RunFault::Memory => Fault::Memory(Some(Reading::Log)),
+        RunFault::Memory => Fault::Memory(Some(InputFile::Log)),
         RunFault::TooManyLines => Fault::Lines,
     }
 }
 
 /// The fault of a file that can't be read, for this.
-pub fn unread(reading: Reading, why: Option<Error>) -> Fault
+pub fn unread(reading: InputFile, why: Option<Error>) -> Fault
     ensures { result ≡ unread reading why }
 {
     match reading {
-        Reading::Table => Fault::TableFile(why),
-        Reading::State => Fault::StateFile(why),
-        Reading::Log => Fault::Read(0, why, None),
+        InputFile::Table => Fault::TableFile(why),
+        InputFile::State => Fault::StateFile(why),
+        InputFile::Log => Fault::Read(0, why, None),
     }
 }
 
 /// The fault of a file that can't be opened, by this error.
-pub fn unopened(reading: Reading, error: Error) -> Fault
+pub fn unopened(reading: InputFile, error: Error) -> Fault
     ensures { result ≡ unopened reading error }
 {
     match error.kind() {
@@ -171,7 +176,7 @@ pub fn fault_line(fault: Fault) -> &'static [u8]
     }
 }
 
-/// Appends the line of a fault, as `n2kdec: read` with an LF. `out` is as it was where memory is refused.
+/// Appends the line of a fault, as `n2kdec: read` with an LF. If memory is refused, `out` is unchanged.
 pub fn fault_text(_alloc: Global, fault: &Fault, out: &mut Vec<u8>) -> Result<(), AllocError>
     ensures ok { OnOk result (out.new.items ≡ out.old.items ++ fault_line fault.now) }
     ensures unchanged { OnErr result (out.new.items ≡ out.old.items) }
@@ -179,8 +184,8 @@ pub fn fault_text(_alloc: Global, fault: &Fault, out: &mut Vec<u8>) -> Result<()
     out.extend_from_slice(fault_line(*fault))
 }
 
-/// The status that the program ends with after a fault: 2 where the words, the table or the state are refused, 3
-/// where a file, a device, memory or the limit of lines ended it. It takes no memory.
+/// The exit status after a fault: 2 if the arguments, the table or the state are refused, 3
+/// if a file, a device, memory or the limit of lines ended the run. It takes no memory.
 pub fn status(fault: &Fault) -> u8
     ensures { result ≡ status_of fault.now }
 {
@@ -196,7 +201,7 @@ pub fn status(fault: &Fault) -> u8
     }
 }
 
-/// The status of a run that came to its end: 0 where no line was bad, else 1.
+/// The status of a run that came to its end: 0 if no line was bad, else 1.
 pub fn exit_status(counts: &Counts) -> u8
     ensures { result ≡ exit_status counts.now }
 {

@@ -1,12 +1,17 @@
 //! The system as a machine. It is what is trusted: what was typed, which bytes a file of the system has and what
 //! becomes of those that are written, no contract says.
-ghost use Rattle.n2kdec.specs.Machine.{unknown_world};
+ghost use Rattle.n2kdec.specs.System.Machine.{unknown_world};
 
+pub mod disk;
+pub mod machine;
+pub mod reader;
+pub mod system_disk;
+
+use crate::command_line::words::Word;
 use crate::fault::Fault;
-use crate::machine::Machine;
-use crate::reader::Reader;
-use crate::reason::words_of;
-use crate::words::Word;
+use crate::fault::reason::words_of;
+use crate::system::machine::Machine;
+use crate::system::reader::Reader;
 use n2k_run::{StdSink, StdSource};
 use std::alloc::{AllocError, Global};
 use std::fs::File;

@@ -352,7 +352,7 @@ class Findings:
         for (pgn, thing, description), (_, at, turns, senders) in self.facts.instances.items():
             if turns >= 3 and len(senders) > 1:
                 told = " and ".join(self.label(it) for it in sorted(senders)[:4])
-                self.add("instance", f"{told} both send {text_of(description)} ({pgn}) of instance {text_of(thing)}: displays show one for the other. Give one another "
+                self.add("instance", f"{told} both send {text_of(description)} ({pgn}) of instance {text_of(thing)}: displays mix them up. Give one another "
                          "instance." if len(senders) == 2 else f"{told} send {text_of(description)} ({pgn}) of one instance, {text_of(thing)}.",
                          min(senders), len(senders), at, None, pgn=pgn, devices=sorted(senders), instance=text_of(thing))
 
@@ -382,7 +382,7 @@ class Findings:
     def clocks(self):
         facts = self.facts
         if facts.begin < YEAR_2000:
-            self.add("no clock", "The log's times are not those of a clock, they begin before the year 2000.", None, 0, facts.begin)
+            self.add("no clock", "The log has no real clock: its times begin before the year 2000.", None, 0, facts.begin)
             return
         off = {}
         for sender, (_, least, most, last, *_) in facts.clocks.items():
@@ -397,7 +397,7 @@ class Findings:
             for sender, ahead in wrong.items():
                 told = f"{self.label(sender)} says that it is {self.date(facts.begin + ahead)} when the log says {self.date(facts.begin)}"
                 rolled = abs(abs(ahead) - WEEKS) < 86400
-                why = ": its number of the week began anew (1,024 weeks)" if rolled else "" if len(off) > len(wrong) else ": one of the two clocks is wrong"
+                why = ": its week number rolled over (1,024 weeks)" if rolled else "" if len(off) > len(wrong) else ": one of the two clocks is wrong"
                 self.add("device clock", f"{told}{why}.", sender, abs(ahead), facts.clocks[sender][4], None, seconds=round(ahead, 3))
         edges = [edge for hole in (*facts.holes, *facts.set_back) for edge in hole]
         for sender, (*_, last) in ((sender, it) for sender, it in facts.clocks.items() if len(it) > 5):

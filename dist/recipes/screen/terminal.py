@@ -117,7 +117,7 @@ def take_terminal():
     except curses.error:
         is_able = False
     if not is_able:
-        fail(2, f"of the terminal {os.environ.get('TERM') or 'without a name'} nothing is known here: TERM=xterm-256color before the command may help")
+        fail(2, f"unknown terminal {os.environ.get('TERM') or 'without a name'}: try TERM=xterm-256color before the command")
     log = os.dup(0)
     # It mostly is open for both ways. Its file may belong to another user, as behind su.
     if fcntl.fcntl(1, fcntl.F_GETFL) & (os.O_WRONLY | os.O_RDWR) == os.O_RDWR:

@@ -359,22 +359,22 @@ class Lines(View):
 
 
 KEYS = [
-    ("1 v", "values, by device and message"), ("2 d", "devices"), ("3 g", "PGNs"), ("4 a", "alarms, and what is late"), ("5 r", "lines as they come"),
+    ("1 v", "values, by device and message"), ("2 d", "devices"), ("3 g", "PGNs"), ("4 a", "alarms and late messages"), ("5 r", "raw lines as they arrive"),
     ("6 h", "health: which device fails, the most harmful first"),
-    ("Tab, right, left", "the next view, or the one before"), ("up, down", "a row"), ("Page Up, Page Down", "a page"), ("Home, End", "the first rows, the last ones"),
-    ("/", "only rows with all words that follow; Esc: all rows"), ("p, Space", "hold the picture, and a log that is played; again: go on"),
-    ("o", "open or close: in values the sets of lists, in PGNs each sender with count, rate and the bytes of its last frame"),
-    ("k", "what is late now is known: it is grey, and no more counted"),
-    ("?", "this page, and back"), ("q", "end, as Ctrl-C does")]
+    ("Tab, right, left", "next or previous view"), ("up, down", "one row"), ("Page Up, Page Down", "one page"), ("Home, End", "first or last rows"),
+    ("/", "show only rows that contain all words you type; Esc: all rows"), ("p, Space", "pause the screen, and a log that is played; again: resume"),
+    ("o", "open or close a row: in values the sets of a list, in PGNs each sender with count, rate and the bytes of its last frame"),
+    ("k", "acknowledge what is late now: it turns grey and is no longer counted"),
+    ("?", "show or leave this page"), ("q", "quit, like Ctrl-C")]
 MEANINGS = [
-    "Values: what one looks for on board stands first, by who sends it; then the devices. A new value is set off for a second; a field that the last message lacks is –.",
-    "Late: a message that came at a regular rate for a minute, and now does not for more than twice its longest gap; its age stands there. After ten "
-    "times that gap, and a minute at least, it is grey, with the time since when.",
-    "Load: the bits of the frames, with their stuff bits, of the 250,000 a second that the bus has.",
+    "Values: the values that a skipper looks for come first, by sender; then the devices. A new value is highlighted for a second; a field that the last message lacks is –.",
+    "Late: a message that came at a regular rate for a minute, and has not come for more than twice its longest gap. Its age is shown. After ten times that gap, "
+    "but at least a minute, it turns grey, with the time since when.",
+    "Load: the bits of all frames, including stuff bits, as a share of the bus's 250,000 bits a second.",
     "Unknown: frames whose PGN is not in the table.",
-    "Behind: the screen can't keep up with what comes, and its values are so old.",
-    "Left out: of more than 4,000 messages of other ships the oldest go; of more than 4,000 of own devices the new ones of those that send most; of more than "
-    "100 alarms of a device the new ones of the kind that it has most of. Of alarms that differ only in their instance three are shown."]
+    "Behind: the screen can't keep up; its values are this old.",
+    "Left out: after 4,000 messages of other ships the oldest are dropped; after 4,000 of your own devices, new ones of the devices that send most; after "
+    "100 alarms of a device, new ones of its most frequent kind. Of alarms that differ only in their instance, three are shown."]
 
 
 class Help(View):

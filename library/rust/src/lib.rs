@@ -43,6 +43,11 @@ pub struct Counts {
     pub open: u64,
 }
 
+/// The table that the library contains, for [`Decoder::new`].
+pub fn own_table() -> &'static [u8] {
+    raw::own_table()
+}
+
 /// Why a call was refused, or why the log could not be read.
 #[derive(Debug)]
 pub enum Error {
@@ -107,6 +112,13 @@ impl Decoder {
     pub fn feed(&mut self, bytes: &[u8]) -> Result<(), Error> {
         let bytes = bytes.to_vec();
         self.call(move |it| it.feed(&bytes))
+    }
+
+    /// Takes a CAN frame: the 29 bits of its identifier, its data of at most 8 bytes, and its time since 1970 in UTC. The
+    /// decoder prints what it prints for the line that `candump -L` writes of the frame.
+    pub fn frame(&mut self, identifier: u32, data: &[u8], seconds: u64, nanoseconds: u32) -> Result<(), Error> {
+        let data = data.to_vec();
+        self.call(move |it| it.frame(identifier, &data, seconds, nanoseconds))
     }
 
     /// Ends the log: its last line is taken even without a line feed.

@@ -40,6 +40,8 @@ pub type Take = unsafe extern "C" fn(*mut Decoder, *mut u8, usize, *mut usize) -
 extern "C" {
     fn n2k_open(table: *const u8, table_size: usize, resumes: bool, state: *const u8, state_size: usize, settings: *const RawSettings, decoder: *mut Decoder) -> i32;
     fn n2k_feed(decoder: *mut Decoder, bytes: *const u8, size: usize) -> i32;
+    fn n2k_frame(decoder: *mut Decoder, identifier: u32, data: *const u8, size: usize, seconds: u64, nanoseconds: u32) -> i32;
+    fn n2k_table(size: *mut usize) -> *const u8;
     fn n2k_end(decoder: *mut Decoder) -> i32;
     pub fn n2k_take(decoder: *mut Decoder, room: *mut u8, room_size: usize, size: *mut usize) -> i32;
     pub fn n2k_take_reports(decoder: *mut Decoder, room: *mut u8, room_size: usize, size: *mut usize) -> i32;
@@ -48,6 +50,16 @@ extern "C" {
     fn n2k_waiting(decoder: *mut Decoder, size: *mut usize) -> i32;
     fn n2k_close(decoder: *mut Decoder);
     fn n2k_status_text(status: i32) -> *const c_char;
+}
+
+/// The table that the library contains.
+pub fn own_table() -> &'static [u8] {
+    let mut size = 0;
+    // SAFETY: the library's table has so many bytes, which never change.
+    unsafe {
+        let table = n2k_table(&mut size);
+        std::slice::from_raw_parts(table, size)
+    }
 }
 
 fn answer(status: i32) -> Result<(), Error> {
@@ -88,6 +100,10 @@ impl Decoder {
 
     pub fn end(&mut self) -> Result<(), Error> {
         answer(unsafe { n2k_end(self) })
+    }
+
+    pub fn frame(&mut self, identifier: u32, data: &[u8], seconds: u64, nanoseconds: u32) -> Result<(), Error> {
+        answer(unsafe { n2k_frame(self, identifier, data.as_ptr(), data.len(), seconds, nanoseconds) })
     }
 
     pub fn bytes(&mut self, call: Take) -> Result<Vec<u8>, Error> {

@@ -1,5 +1,5 @@
 //! Compares the decoder with the program, which $N2KDEC_PROGRAM names: by random pieces, from thread to thread, saved and continued.
-use n2kdec::{Counts, Decoder, Error, Settings};
+use n2kdec::{own_table, Counts, Decoder, Error, Settings};
 use std::io::{self, Read};
 use std::path::PathBuf;
 use std::process::Command;
@@ -51,6 +51,21 @@ fn pieces_on_threads_with_states_between() {
         reported.push(format!("lines {lines} messages {count} bad {bad} unknown {unknown} broken {broken} open {open}"));
         assert_eq!((printed, reported), (messages, reports), "{log}");
     }
+}
+
+#[test]
+fn frames_print_what_their_lines_print() {
+    let table = fs::read(at("tables/n2k.toml")).unwrap();
+    assert_eq!(table, own_table());
+    let mut frames = Decoder::new(own_table(), Settings::default()).unwrap();
+    let mut lines = Decoder::new(&table, Settings::default()).unwrap();
+    for micros in [0, 114_999, 999_999] {
+        frames.frame(0x09F8_0103, &[0x89, 0x40, 0xB2, 0x20, 0, 0x74, 0x45, 6], 1_751_608_800, 1000 * micros).unwrap();
+        lines.feed(format!("(1751608800.{micros:06}) can0 09F80103#8940B22000744506\n").as_bytes()).unwrap();
+    }
+    let printed = frames.messages().unwrap();
+    assert_eq!((printed.len(), printed), (3, lines.messages().unwrap()));
+    assert!(matches!(frames.frame(1 << 29, &[], 0, 0), Err(Error::Refused(9, _))));
 }
 
 #[test]

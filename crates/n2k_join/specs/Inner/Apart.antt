@@ -1,4 +1,4 @@
--- The rules on the groups of a state that is read, each by itself, and their keys by an index.
+-- The rules on the groups of a state that is read: each group by itself, and their keys by an index.
 use Rattle.std.specs.Prelude.{◌≡◌, ℕ, Bool, true, false, not, ◌&&◌, List, [], ◌∷◌, ◌++◌, length, Option, Some, None}
 use Rattle.std.specs.List.{list_any}
 use Rattle.n2k_table.specs.declared.definition.Kind.{Kind}
@@ -7,7 +7,7 @@ use Rattle.n2k_join.specs.Frames.{Key, same_key}
 use Rattle.n2k_join.specs.Open.{Group}
 use Rattle.n2k_join.specs.Resumed.{counts_hold, firsts_rise, group_holds}
 
--- the counts and the first lines can be those of a state with these groups
+-- the counts and the first lines can be of a state with these groups
 abbrev pub numbers_hold : Counts → List Group → Bool
 numbers_hold c gs = counts_hold (record c { held = length gs }) && firsts_rise 1 c.lines gs
 
@@ -17,7 +17,7 @@ each_new kind seen [] = true
 each_new kind seen (g ∷ gs) =
     group_holds kind g && (not (list_any (same_key g.key) seen) && each_new kind (seen ++ g.key ∷ []) gs)
 
--- What a function answered, seen by view, is this value, where the test holds, and nothing where it doesn't.
+-- A returned value, through view, is this value if the test holds, and None if it doesn't.
 abbrev pub SomeUnder : {X Y : Type 0} → (X → Y) → Option X → Bool → Y → Type 0
 SomeUnder view (Some x) test y = (test ≡ true) × (view x ≡ y)
 SomeUnder view None test y = test ≡ false

@@ -1,5 +1,5 @@
--- The open groups by key, and the list through them in the order of the lines that opened them: with each group stand
--- the places of the one opened before it and of the one behind it.
+-- The open groups by key, and the list through them in the order of their first lines: each entry has the places of the
+-- groups opened before and after it.
 use Rattle.std.specs.Prelude.{◌≡◌, ℕ, zero, suc, ◌+◌, ◌<◌, ◌≤◌, ◌==◌, ◌⊎◌, if◌then◌else◌, List, [], ◌∷◌, length, Option}
 use Rattle.std.specs.Prelude.{Some, option_map, filter_map, slice_get}
 use Rattle.std.specs.Option.{option_map_or}
@@ -17,11 +17,11 @@ use Rattle.n2k_join.specs.Inner.Places.{nowhere, AreLinked}
 abbrev pub Entries : Type 0
 Entries = List (FrameKey × Linked)
 
--- what is open of a key
+-- the open group of a key
 abbrev pub found : Entries → FrameKey → Option Linked
 found entries key = lookup (λ (k : FrameKey). same_key (key_of key) (key_of k)) entries
 
--- the group of a key stands at this place of the map
+-- the group of a key is at this place of the map
 abbrev pub StandsAt : Entries → FrameKey → ℕ → Type 0
 StandsAt entries key at = (at < length entries) × (slice_get (keys_of entries) at ≡ Some key)
 
@@ -29,7 +29,7 @@ StandsAt entries key at = (at < length entries) × (slice_get (keys_of entries) 
 abbrev pub item : FrameKey × Linked → FrameKey × OpenGroup
 item e = (e.0, e.1.group)
 
--- and of that at a place
+-- the key and the group of the entry at a place
 abbrev pub item_in : Entries → ℕ → Option (FrameKey × OpenGroup)
 item_in entries at = option_map item (slice_get entries at)
 
@@ -40,7 +40,7 @@ item_at g = item_in g.groups.entries
 abbrev pub IsPlace : ℕ → ℕ → Type 0
 IsPlace count at = (at < count) ⊎ (at ≡ nowhere)
 
--- the place that stands beside another, on a side: where there is no group, that end's, or its own
+-- the place beside another, on one side; without a group there, the end of that side, or the place itself
 abbrev pub beside : (Linked → ℕ) → ℕ → Entries → ℕ → ℕ
 beside side end entries at =
     if at == nowhere then end
@@ -52,7 +52,7 @@ behind_of g = beside (λ l. l.behind) g.first g.groups.entries
 abbrev pub before_of : OpenGroups → ℕ → ℕ
 before_of g = beside (λ l. l.before) g.last g.groups.entries
 
--- at most so many places from one on, each behind the other
+-- at most so many places from one on, each after the other
 abbrev pub places_from : Entries → ℕ → ℕ → List ℕ
 places_from entries zero at = []
 places_from entries (suc n) at =
@@ -82,7 +82,7 @@ pub record IsKept (next : ℕ) (g : OpenGroups) : Type 0 where
   pub counted : length (places g) ≡ length g.groups.entries
   pub rise : RiseBelow 1 next (listed g)
 
--- the groups stay in their places, and these stand behind each and before it
+-- the groups stay in their places, and `f` and `g` give the places after and before each
 pub record AreRelinked (old new : OpenGroups) (f g : ℕ → ℕ) : Type 0 where
   pub count : length new.groups.entries ≡ length old.groups.entries
   pub items : (at : ℕ) → item_at new at ≡ item_at old at

@@ -1,11 +1,11 @@
--- Places in a list: what stands behind each and before it.
+-- Places in a list: which place is after each and before it.
 use Rattle.std.specs.Prelude.{◌≡◌, ℕ, ◌+◌, ◌-◌, ◌^◌, ◌<◌, ◌==◌, if◌then◌else◌, List, [], ◌∷◌}
 
--- the place of none: it stands behind the last and before the first
+-- no place: it is after the last and before the first
 abbrev pub nowhere : ℕ
 nowhere = 2 ^ 64 - 1
 
--- going behind, these places are met between those two
+-- the places between two, in order
 abbrev pub Path : (ℕ → ℕ) → ℕ → List ℕ → ℕ → Type 0
 Path behind from [] to = behind from ≡ to
 Path behind from (p ∷ ps) to = (behind from ≡ p) × Path behind p ps to
@@ -15,8 +15,8 @@ abbrev pub times : ℕ → List ℕ → ℕ
 times at [] = 0
 times at (p ∷ ps) = (if p == at then 1 else 0) + times at ps
 
--- The places below a count, but for one, are a list: each is in it once, it is what is met going behind, and a place
--- stands before the one behind it.
+-- The places below a count, except one, are a list: each is in it once, in this order, and a place is before the place
+-- after it.
 pub record AreLinked (count but : ℕ) (behind before : ℕ → ℕ) (order : List ℕ) : Type 0 where
   pub path : Path behind nowhere order nowhere
   pub back : (at : ℕ) → (at ≡ but → ⊥) → (before (behind at) ≡ at) × (behind at ≡ but → ⊥)
@@ -24,6 +24,6 @@ pub record AreLinked (count but : ℕ) (behind before : ℕ → ℕ) (order : Li
   pub within : (at : ℕ) → 0 < times at order → (at < count) × (at ≡ but → ⊥)
   pub once : (at : ℕ) → at < count → (at ≡ but → ⊥) → times at order ≡ 1
 
--- another place stands beside one
+-- `at` gets the place `to` beside it
 abbrev pub put : ℕ → ℕ → (ℕ → ℕ) → ℕ → ℕ
 put at to side j = if j == at then to else side j

@@ -34,7 +34,7 @@ piece_tokens (Some p) = tokens_of (piece_tree p)
 abbrev pub frames_tokens : List Piece → List Token
 frames_tokens ps = Token.key (codes "frames") ∷ tokens_of (list (map piece_tree ps))
 
--- the members of a group behind its frames
+-- the members of a group after its frames
 abbrev pub key_tokens : Key → List Token
 key_tokens key =
     count_tokens (codes "pgn") key.pgn ++ count_tokens (codes "seq") key.sequence ++ count_tokens (codes "src") key.src
@@ -46,7 +46,7 @@ groups_tokens gs = flat_map (λ g. tokens_of (group_tree g)) gs
 abbrev pub open_tokens : List Group → List Token
 open_tokens gs = Token.key (codes "groups") ∷ tokens_of (list (map group_tree gs))
 
--- the members before them, and those behind them
+-- the members of the state before `groups`
 abbrev pub front_tokens : Bool → Counts → List Token
 front_tokens with_window c =
     count_tokens (codes "bad") c.bad ++ count_tokens (codes "broken") c.broken
@@ -55,7 +55,7 @@ front_tokens with_window c =
 abbrev pub table_tokens : List ℕ → List Token
 table_tokens id = Token.key (codes "table") ∷ Token.string (encode_lower id) ∷ []
 
--- the last of them, where the format has it
+-- the member `window`, if the format has it
 abbrev pub window_tokens : Bool → ℕ → List Token
 window_tokens with_window window = if with_window then count_tokens (codes "window") window else []
 
@@ -64,7 +64,7 @@ back_tokens with_window id window c =
     count_tokens (codes "lines") c.lines ++ count_tokens (codes "messages") c.messages ++ table_tokens id
     ++ count_tokens (codes "unknown") c.unknown ++ window_tokens with_window window
 
--- these tokens were written behind those from before, and nothing else changed
+-- these tokens were appended, and nothing else changed
 pub record AppendsTokens {E : Type 0} (result : Result (Unit {0}) E) (old new : Written) (added : List Token)
     : Type 0 where
   pub tokens : OnOk result (new.tokens ≡ old.tokens ++ added)

@@ -1,4 +1,4 @@
--- What the code keeps, as the definitions see it.
+-- The code's data as the definitions see them.
 use Rattle.std.specs.Prelude.{ℕ, ◌≡◌, ◌<◌, ◌≤◌, Bool, List, [], ◌∷◌, ◌++◌, length, if◌then◌else◌, Option, Some, None}
 use Rattle.std.specs.Prelude.{filter_map, find, option_to_list}
 use Rattle.n2k_join.specs.declared.step.Broken.{Broken}
@@ -36,7 +36,7 @@ frame_of line packet frame = record {
 abbrev pub AreSequences : List (Stream × ℕ) → Type 0
 AreSequences held = (stream : Stream) → sequences held stream < most_sequences
 
--- what is kept of these frames: a sequence of three bits, and how many they are, one to 32
+-- the properties of `Frames`: a sequence of three bits, and one to 32 frames
 pub record AreFrames (sequence count : ℕ) (frames : List PacketParts) : Type 0 where
   pub small : sequence < most_sequences
   pub counted : count ≡ length frames
@@ -49,26 +49,25 @@ pub record AreFrames (sequence count : ℕ) (frames : List PacketParts) : Type 0
 abbrev pub with_frame : Group → Frame → Group
 with_frame o x = record { first = o.first; key = o.key; pieces = pieces_of (held_of o ++ x ∷ []) }
 
--- the message of frames, where the last completes them
+-- the message of frames, if the last completes them
 abbrev pub message_if : Frame → List Frame → Option PacketParts
 message_if x group = if complete group then Some (message_of x group) else None
 
--- A group has no place for a number: it is in it, or, where messages are sent in order, it isn't greater than each of
--- its own.
+-- A group has no place for a number: the group has it or, in order, the number is not greater than each of the group's.
 abbrev pub rejects : Bool → ℕ → Group → Bool
 rejects in_order number o = if in_order then has_from number (held_of o) else has_number number (held_of o)
 
--- what stays open of a group of the frame's key
+-- the open group that remains of a group of the frame's key
 abbrev pub joined : Bool → Frame → Group → Option Group
 joined in_order x o =
     if rejects in_order x.number o then None
     else (if complete (held_of o ++ x ∷ []) then None else Some (with_frame o x))
 
--- what stays open of a group
+-- the open group that remains of a group
 abbrev pub taken : Bool → Frame → Group → Option Group
 taken in_order x o = if same_key x.key o.key then joined in_order x o else Some o
 
--- the group that a frame begins, where it doesn't complete it
+-- the group that a frame opens, if the frame doesn't complete it
 abbrev pub started : Frame → Option Group
 started x = if complete (x ∷ []) then None else Some (group_of x.key (x ∷ []))
 
@@ -76,7 +75,7 @@ started x = if complete (x ∷ []) then None else Some (group_of x.key (x ∷ []
 abbrev pub of_the_key : Key → List Group → Option Group
 of_the_key key groups = find (λ (o : Group). same_key key o.key) groups
 
--- the group that a frame opens, where this is the open one of its key
+-- the group that a frame opens, given the open group of its key
 abbrev pub opened : Bool → Frame → Option Group → Option Group
 opened in_order x None = started x
 opened in_order x (Some o) = if rejects in_order x.number o then started x else None
@@ -86,7 +85,7 @@ unfoldable pub groups_after : Bool → List Group → Frame → List Group
 groups_after in_order groups x =
     filter_map (taken in_order x) groups ++ option_to_list (opened in_order x (of_the_key x.key groups))
 
--- the message that a frame completes, where this is the open group of its key
+-- the message that a frame completes, given the open group of its key
 abbrev pub gained : Bool → Frame → Option Group → Option PacketParts
 gained in_order x None = message_if x (x ∷ [])
 gained in_order x (Some o) =
@@ -97,7 +96,7 @@ abbrev pub lost : Bool → Frame → Option Group → Option Broken
 lost in_order x None = None
 lost in_order x (Some o) = if rejects in_order x.number o then Some (broken_of x.key (held_of o)) else None
 
--- What a line gives, by its frame. Without one that is a message alone, or a cause.
+-- The result of a line, by its frame. Without a frame it is a message alone, or a cause.
 abbrev pub gives_by : Bool → Option PacketParts → Option BadCause → List Group → Option Frame → Given
 gives_by in_order alone cause groups None = record { message = alone; cause = cause; broken = [] }
 gives_by in_order alone cause groups (Some x) =

@@ -9,7 +9,7 @@ ghost use Rattle.n2k_join.specs.Resumed.{is_name, state_names};
 pub(crate) enum StateFormat {
     /// Format 1, which has no member `window`.
     WithoutWindow,
-    /// Format 2, which has one.
+    /// Format 2, which has a member `window`.
     WithWindow,
 }
 
@@ -37,7 +37,7 @@ fn is_of_state(name: &str) -> bool
 }
 
 impl Object {
-    /// Whether it has a member of that name.
+    /// Whether the object has a member of that name.
     pub(crate) fn has(self, name: &str) -> bool
         ensures { result ≡ is_name self name.now }
     {

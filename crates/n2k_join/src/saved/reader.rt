@@ -104,7 +104,7 @@ fn read_id(value: &Value) -> Result<[u8; 32], StateFault>
     digits_of::<32>(required("table", value)?)
 }
 
-/// The window of a state: that which is handed in, where the state doesn't tell one.
+/// The window of a state, or the given one if the state has no window.
 fn read_window(format: StateFormat, window: u32, value: &Value) -> Result<u64, StateFault>
     ensures { Gives (λ n. n) result (read_window format window (view value.now)) }
 {

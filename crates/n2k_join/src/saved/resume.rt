@@ -27,7 +27,7 @@ use n2k_table::Table;
 use serde_json::Value;
 use std::alloc::Global;
 
-/// The group of these frames, where they can be a group's.
+/// The group of these frames, if they can be a group's.
 #[tactic(auto, unfolding(crate::specs::Resumed::pieces_rise))]
 fn stored_pieces(first: u64, pieces: &[SpelledPiece]) -> Option<OpenGroup>
     ensures value { (key : Key) → SomeUnder (group_in key) result (pieces_rise 0 pieces.now)
@@ -61,7 +61,7 @@ fn stored_key(key: &SpelledKey) -> FrameKey
     }
 }
 
-/// An open group with its key, where it can be one under the table.
+/// An open group with its key, if it is valid under the table.
 #[tactic(auto, unfolding(crate::specs::Resumed::group_holds, crate::specs::Resumed::key_holds))]
 fn stored_group(table: &Table, group: &SpelledGroup) -> Option<(FrameKey, OpenGroup)>
     ensures value { SomeUnder group_at result (group_holds (kind table.now) group.now) group.now }
@@ -77,7 +77,7 @@ fn stored_group(table: &Table, group: &SpelledGroup) -> Option<(FrameKey, OpenGr
     Some((stored_key(&group.key), stored))
 }
 
-/// The open groups, where they can be those of a state under the table: each by itself, and no two of one key.
+/// The open groups, if they are valid under the table: each by itself, and no two of one key.
 #[tactic(auto, unfolding(crate::specs::Inner::Apart::each_new))]
 pub(crate) fn stored_groups(
     alloc: Global,

@@ -21,7 +21,7 @@ use crate::window::is_waiting;
 use n2k_table::{Kind, Table};
 use n2k_wire::{GREATEST_ADDRESS, GREATEST_PGN};
 
-/// Whether these can be the counts of lines. No sum of them wraps.
+/// Whether these can be the counts of lines. The sums can't overflow.
 #[tactic(auto, unfolding(crate::specs::Resumed::counts_hold))]
 fn counts_hold(counts: &Counts, held: u64) -> bool
     ensures value { result ≡ counts_hold (record counts.now { held = held }) }
@@ -50,7 +50,7 @@ fn firsts_rise(lines: u64, groups: &[SpelledGroup]) -> bool
     true
 }
 
-/// Whether the counts and the lines that opened the groups can be those of one state.
+/// Whether the counts and the first lines of the groups can be of one state.
 pub(crate) fn rules_hold(counts: &Counts, groups: &[SpelledGroup]) -> bool
     ensures { result ≡ numbers_hold counts.now groups.now }
 {
@@ -64,7 +64,7 @@ fn are_waiting(state: &SpelledState) -> bool
     state.groups.iter().all(|group| is_waiting(group.first, state.window, state.counts.lines))
 }
 
-/// Whether no group's window has ended, where the state has its window.
+/// Whether no group's window has ended, if the state has its window.
 pub(crate) fn waits_hold(format: StateFormat, state: &SpelledState) -> bool
     ensures { result ≡ waits_hold format state.now }
 {
@@ -93,14 +93,14 @@ pub(crate) fn key_holds(table: &Table, key: &SpelledKey) -> bool
                 && (key.dst <= GREATEST_ADDRESS && key.sequence < u64::from(MOST_SEQUENCES))))
 }
 
-/// Whether a frame has a total that isn't too large, where it has the number 0.
+/// Whether the total of a frame 0 is not too large. True for other frames.
 fn total_holds(number: u64, bytes: &[u8; 7]) -> bool
     ensures { result ≡ total_holds number bytes.now }
 {
     number != 0 || bytes[0] <= LONGEST_MESSAGE
 }
 
-/// What the type says of bytes.
+/// The type guarantees bytes.
 fn know_bytes(bytes: &[u8])
     ensures { AllByRecursion (λ byte. byte < 256) bytes.now }
 {}
@@ -119,7 +119,7 @@ fn piece_of_parts(number: u8, bytes: &[u8; 7]) -> StoredPiece
     }
 }
 
-/// A frame as a group keeps it, where its number is from `least` to the greatest and its total isn't too large.
+/// A frame as a group keeps it, if its number is from `least` to the greatest and its total is not too large.
 pub(crate) fn stored_piece(least: u8, piece: &SpelledPiece) -> Option<StoredPiece>
     ensures value { SomeUnder piece_of result (piece_holds least piece.now) piece.now }
     ensures parts { IfSome result (λ stored. IsPiece (piece_of stored)) }

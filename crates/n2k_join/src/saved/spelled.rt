@@ -1,4 +1,4 @@
-//! What a text spells as a state, before the rules of a valid state are tested: its numbers may be any.
+//! The content of a state's text, before the rules of a valid state are tested: its numbers may be any.
 
 use crate::counts::Counts;
 use std::marker::Model;
@@ -18,7 +18,7 @@ impl Model for SpelledPiece {
     ghost view = { λ p. record { number = p.number; bytes = p.bytes } };
 }
 
-/// What the frames of a group have in common.
+/// The key of a group's frames.
 #[derive(Drop)]
 pub(crate) struct SpelledKey {
     pub(crate) src: u64,
@@ -51,8 +51,8 @@ impl Model for SpelledGroup {
     ghost view = { λ g. record { first = g.first; key = g.key; pieces = g.pieces.items } };
 }
 
-/// A state. The count of open groups is their number. Where its text has no window, that is the one which is handed
-/// in, as the order of frames always is.
+/// A state. The count of open groups is their number. If its text has no window, the window is the given one; the frame
+/// order always is.
 #[derive(Drop)]
 pub(crate) struct SpelledState {
     pub(crate) id: [u8; 32],

@@ -64,7 +64,7 @@ fn push_piece(number: u8, bytes: &[u8; 7], out: &mut Writer) -> Result<(), Alloc
     out.end_array()
 }
 
-/// Writes the frame of a number, where the group has it.
+/// Writes the frame with a number, if the group has one.
 fn push_numbered(group: &OpenGroup, number: u8, out: &mut Writer) -> Result<(), AllocError>
     requires { number < most_frames }
     ensures { AppendsTokens result out.old out.new (piece_tokens (piece_at (slot_of group.now) number)) }
@@ -95,7 +95,7 @@ fn push_frames(group: &OpenGroup, out: &mut Writer) -> Result<(), AllocError>
     out.end_array()
 }
 
-/// Writes what the frames of a group have in common, but for the destination.
+/// Writes the key of a group's frames except the destination.
 fn push_key(key: &FrameKey, out: &mut Writer) -> Result<(), AllocError>
     ensures { AppendsTokens result out.old out.new (key_tokens (key_of key.now)) }
 {
@@ -163,7 +163,7 @@ fn push_table(id: &[u8; 32], out: &mut Writer) -> Result<(), AllocError>
     push_digits::<32, 64>(id, out)
 }
 
-/// Writes the member `window`, where the state has it.
+/// Writes the member `window`, if the state has it.
 fn push_window(with_window: bool, window: u32, out: &mut Writer) -> Result<(), AllocError>
     ensures { AppendsTokens result out.old out.new (window_tokens with_window window) }
 {
@@ -174,7 +174,7 @@ fn push_window(with_window: bool, window: u32, out: &mut Writer) -> Result<(), A
     }
 }
 
-/// Writes the members behind `groups`.
+/// Writes the members after `groups`.
 fn push_back(
     with_window: bool,
     id: &[u8; 32],
@@ -203,7 +203,7 @@ fn are_waiting(window: Window, lines: u64, groups: &OpenGroups) -> bool
     }
 }
 
-/// Writes a state: with its window, where no group's has ended.
+/// Writes a state, with its window if no group's window has ended.
 fn push_state(
     id: &[u8; 32],
     window: Window,

@@ -1,4 +1,4 @@
-//! One value of a saved state: whether it is there, and of which kind it is.
+//! One value of a saved state: whether it is present, and its type.
 ghost use Rattle.std.specs.Prelude.{◌≡◌, map};
 ghost use Rattle.serde_json.specs.View.{view, members_view};
 ghost use Rattle.n2k_wire.specs.Views.{Gives};
@@ -16,7 +16,7 @@ fn has_only(members: &Map<String, Value>, object: Object) -> bool
     members.keys().all(|name| object.has(name.as_str()))
 }
 
-/// Refuses a value that is no object, or that has a member which the object hasn't.
+/// Refuses a value that is not an object, or that has an unknown member.
 pub(crate) fn members_at(object: Object, value: &Value) -> Result<(), StateFault>
     ensures { Gives (λ done. done) result (members_at object (view value.now)) }
 {
@@ -27,14 +27,14 @@ pub(crate) fn members_at(object: Object, value: &Value) -> Result<(), StateFault
     Ok(())
 }
 
-/// The member of that name, which has to be there.
+/// The required member of that name.
 pub(crate) fn required<'a>(name: &str, value: &'a Value) -> Result<&'a Value, StateFault>
     ensures { Gives (λ found. view found.now) result (required name.now (view value.now)) }
 {
     value.get(name).ok_or(StateFault::Shape)
 }
 
-/// The whole number that a value is.
+/// A value as a whole number.
 pub(crate) fn as_int(value: &Value) -> Result<u64, StateFault>
     ensures { Gives (λ number. number) result (or_cause StateFault.Shape (as_int (view value.now))) }
 {

@@ -1,6 +1,6 @@
-//! A fast path: the counts and the groups of a text as `save` writes it, found without a tree of its values. Nothing is
-//! promised of what is found: `Join::resume_written` makes a join of it and writes that, and takes it where it is the
-//! text. `reader.rt` reads any text; that is the file to read first.
+//! A fast path: finds the counts and the groups in a text of the form that `save` writes, without a tree of values.
+//! Nothing is promised of the result: `Join::resume_written` saves the join made from it, and accepts it only if the
+//! text is the same. Read `reader.rt` first, which reads any text.
 ghost use Rattle.std.specs.Prelude.{◌≤◌, length, IfSome, IfOk};
 
 use crate::counts::Counts;
@@ -8,7 +8,7 @@ use crate::saved::spelled::{SpelledGroup, SpelledKey, SpelledPiece};
 use crate::window::{Window, is_waiting};
 use std::alloc::{AllocError, Global};
 
-/// The whole number at the front of a text, without zeros before it, and what stands behind it.
+/// The whole number at the start of a text, without leading zeros, and the rest of the text.
 fn number_in(text: &[u8]) -> Option<(u64, &[u8])>
     ensures { IfSome result (λ r. length r.1.now ≤ length text.now) }
 {
@@ -30,14 +30,14 @@ fn number_in(text: &[u8]) -> Option<(u64, &[u8])>
     Some((number, rest))
 }
 
-/// The whole number behind a label.
+/// The whole number after a label.
 fn number_behind<'a>(label: &[u8], text: &'a [u8]) -> Option<(u64, &'a [u8])>
     ensures { IfSome result (λ r. length r.1.now ≤ length text.now) }
 {
     number_in(text.strip_prefix(label)?)
 }
 
-/// The bytes that the digits at the front of a text spell.
+/// The bytes that the digits at the start of a text spell.
 fn bytes_in(text: &[u8]) -> Option<([u8; 7], &[u8])>
     ensures { IfSome result (λ r. length r.1.now ≤ length text.now) }
 {
@@ -47,7 +47,7 @@ fn bytes_in(text: &[u8]) -> Option<([u8; 7], &[u8])>
     Some((bytes, rest))
 }
 
-/// The frame at the front of a text.
+/// The frame at the start of a text.
 fn piece_in(text: &[u8]) -> Option<(SpelledPiece, &[u8])>
     ensures { IfSome result (λ r. length r.1.now ≤ length text.now) }
 {
@@ -57,7 +57,7 @@ fn piece_in(text: &[u8]) -> Option<(SpelledPiece, &[u8])>
     Some((SpelledPiece { number, bytes }, rest))
 }
 
-/// The frames at the front of a text, a comma between each.
+/// The frames at the start of a text, separated by commas.
 fn pieces_in(alloc: Global, text: &[u8]) -> Result<Option<(Vec<SpelledPiece>, &[u8])>, AllocError>
     ensures { IfOk result (λ found. IfSome found (λ r. length r.1.now ≤ length text.now)) }
 {
@@ -73,7 +73,7 @@ fn pieces_in(alloc: Global, text: &[u8]) -> Result<Option<(Vec<SpelledPiece>, &[
     Ok(None)
 }
 
-/// The destination and the first line of the group at the front of a text.
+/// The destination and the first line of the group at the start of a text.
 fn group_front(text: &[u8]) -> Option<(u64, u64, &[u8])>
     ensures { IfSome result (λ r. length r.2.now ≤ length text.now) }
 {
@@ -83,7 +83,7 @@ fn group_front(text: &[u8]) -> Option<(u64, u64, &[u8])>
     Some((dst, first, rest))
 }
 
-/// What stands behind the frames of a group, with its destination: its key.
+/// The key of a group, from the destination and the text after its frames.
 fn group_key(dst: u64, text: &[u8]) -> Option<(SpelledKey, &[u8])>
     ensures { IfSome result (λ r. length r.1.now ≤ length text.now) }
 {
@@ -100,7 +100,7 @@ fn group_key(dst: u64, text: &[u8]) -> Option<(SpelledKey, &[u8])>
     Some((key, rest))
 }
 
-/// The group at the front of a text.
+/// The group at the start of a text.
 fn group_in(alloc: Global, text: &[u8]) -> Result<Option<(SpelledGroup, &[u8])>, AllocError>
     ensures { IfOk result (λ found. IfSome found (λ r. length r.1.now ≤ length text.now)) }
 {
@@ -116,7 +116,7 @@ fn group_in(alloc: Global, text: &[u8]) -> Result<Option<(SpelledGroup, &[u8])>,
     Ok(Some((SpelledGroup { first, key, pieces }, rest)))
 }
 
-/// The groups at the front of a text, a comma between each, of which there may be none.
+/// The groups at the start of a text, separated by commas. There may be none.
 fn groups_in(alloc: Global, text: &[u8]) -> Result<Option<(Vec<SpelledGroup>, &[u8])>, AllocError> {
     let mut groups = Vec::new(alloc);
     if text.first() == Some(&b']') {
@@ -133,7 +133,7 @@ fn groups_in(alloc: Global, text: &[u8]) -> Result<Option<(Vec<SpelledGroup>, &[
     Ok(None)
 }
 
-/// The counts of bad lines and broken groups at the front of a text, up to its groups.
+/// The counts of bad lines and broken groups at the start of a text, up to its groups.
 fn counts_front(text: &[u8]) -> Option<(u64, u64, &[u8])> {
     let (bad, rest) = number_behind(b"{\"bad\":", text)?;
     let (broken, rest) = number_behind(b",\"broken\":", rest)?;
@@ -141,8 +141,8 @@ fn counts_front(text: &[u8]) -> Option<(u64, u64, &[u8])> {
     Some((bad, broken, rest))
 }
 
-/// The counts behind the groups of a text, where it is of that table and that window and ends there: of lines, messages,
-/// and lines of unknown PGNs.
+/// The counts of lines, messages and unknown PGNs after the groups of a text, if the text has this table and window and
+/// ends there.
 fn counts_behind(id: &[u8; 32], window: Window, text: &[u8]) -> Option<(u64, u64, u64)> {
     let (lines, rest) = number_behind(b"],\"lines\":", text)?;
     let (messages, rest) = number_behind(b",\"messages\":", rest)?;
@@ -158,8 +158,8 @@ fn counts_behind(id: &[u8; 32], window: Window, text: &[u8]) -> Option<(u64, u64
     Some((lines, messages, unknown))
 }
 
-/// Whether the window of the first of some groups has not ended, if there is one. Their lines have to rise: so there are
-/// no more groups than the window has lines.
+/// Whether the first of some groups still waits, or there is none. First lines must rise, so there are then at most as
+/// many groups as the window has lines.
 fn is_first_waiting(window: Window, lines: u64, groups: &[SpelledGroup]) -> bool {
     match groups.first() {
         Some(group) => is_waiting(group.first, u64::from(window.get()), lines),
@@ -167,7 +167,7 @@ fn is_first_waiting(window: Window, lines: u64, groups: &[SpelledGroup]) -> bool
     }
 }
 
-/// The counts and the groups of a text, where it seems to be one that `save` wrote.
+/// The counts and the groups of a text, if `save` seems to have written it.
 pub(crate) fn written_parts(
     alloc: Global,
     id: &[u8; 32],

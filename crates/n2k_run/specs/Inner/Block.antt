@@ -1,4 +1,4 @@
--- A block: its places in order, and what each private step of it does.
+-- A block: its places in order, and its private steps.
 use Rattle.std.specs.Prelude.{◌≡◌, ◌⊎◌, ◌<◌, ◌≤◌, ◌+◌, ◌-◌, ℕ, Bool, true, false, List, [], ◌∷◌, ◌++◌, length, take}
 use Rattle.std.specs.Prelude.{drop, slice_range, Option, MatchOption, Result, Ok, Err}
 use Rattle.std.specs.Io.KnownBytes.{IsAtEnd}
@@ -24,7 +24,7 @@ pub record EndsAt (bytes : List ℕ) (end : ℕ) : Type 0 where
 abbrev pub FindsEnd : List ℕ → Option ℕ → Type 0
 FindsEnd bytes found = MatchOption found (HasNoFeed bytes) (EndsAt bytes)
 
--- the places of a block: the line that was answered last, the bytes that weren't yet, and the first line feed in these
+-- the places of a block: the line returned last, the bytes not yet returned, and the first line feed in these
 pub record HasPlaces (block : Inside) : Type 0 where
   pub line_ends : block.line_start ≤ block.line_end
   pub line_within : block.line_end ≤ block_bytes
@@ -43,24 +43,24 @@ block_view block = record {
   room = block_bytes - block.end;
 }
 
--- some of the unanswered bytes became the line that is answered
+-- some of the bytes not yet returned became the line found
 abbrev pub Judges : Bool → List ℕ → List ℕ → Found → Type 0
 Judges was_passing text line Line = (was_passing ≡ false) × (line ≡ text) × (length text ≤ longest_line)
 Judges was_passing text line Long = (was_passing ≡ true) ⊎ (longest_line < length text)
 Judges was_passing text line End = ⊥
 
--- Room was made: the unanswered bytes stayed, or they were too many for a line and were let go.
+-- Room was made: the bytes not yet returned stayed, or they were too many for a line and were discarded.
 abbrev pub MakesRoom : List ℕ → List ℕ → Type 0
 MakesRoom old new = (new ≡ old) ⊎ ((longest_line + 1 < length old) × (new ≡ passed))
 
--- what an answer is, where the line that it lends is beside it
+-- a result whose line is in `new.line`
 abbrev pub FindsLine : List ℕ → Held → Option (List ℕ) → Found → Type 0
 FindsLine whole new left Line =
     FirstLine whole new.line (unanswered new) new.has_ended left × (length new.line ≤ longest_line)
 FindsLine whole new left Long = FirstLong whole (unanswered new) new.has_ended left
 FindsLine whole new left End = IsAtEnd left × (new.has_ended ≡ true) × (whole ≡ []) × (unanswered new ≡ [])
 
--- an answer whose line is lent later
+-- a result of finding; the line is returned later
 abbrev pub GivesFound : List ℕ → Held → Option (List ℕ) → Result Found Failed → Type 0
 GivesFound whole new left (Ok found) = FindsLine whole new left found
 GivesFound whole new left (Err failed) = HasNoFeed whole × Stays whole (unanswered new)
@@ -69,7 +69,7 @@ abbrev pub AnswersFound : Held → Held → Option (List ℕ) → Option (List �
 AnswersFound old new left₀ left calls₀ calls result =
     Came (idle_calls new.has_ended result) old new left₀ left calls₀ calls (λ whole. GivesFound whole new left result)
 
--- what came while no answer was found, by calls of which so many gave nothing
+-- the bytes that came while no line was found, by calls, so many of which gave none
 abbrev pub Reads : ℕ → Held → Held → Option (List ℕ) → Option (List ℕ) → ℕ → ℕ → Type 0
 Reads idle old new left₀ left calls₀ calls =
     Came idle old new left₀ left calls₀ calls (λ whole. Stays whole (unanswered new))

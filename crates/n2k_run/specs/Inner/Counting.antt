@@ -1,4 +1,4 @@
--- Runs that only count what they took.
+-- Runs whose only state is their counts.
 use Rattle.std.specs.Prelude.{◌≤◌, ◌+◌, ℕ, Bool, if◌then◌else◌, List, length, count_by}
 use Rattle.n2k_wire.specs.declared.entry.Entry.{Entry}
 use Rattle.n2k_join.specs.declared.counts.Counts.{Counts}
@@ -7,7 +7,7 @@ use Rattle.n2k_run.specs.Entries.{is_bad}
 use Rattle.n2k_run.specs.Fold.{Fold}
 use Rattle.n2k_run.specs.Reports.{bad_report}
 
--- no count is above that of the lines, and no more lines are counted than there can be
+-- no count is above the number of lines, which is within the limit
 pub record AreLineCounts (c : Counts) : Type 0 where
   pub few : c.lines ≤ most_lines
   pub messages : c.messages ≤ c.lines
@@ -32,7 +32,7 @@ all_line_counts_after is_message is_unknown c es = record c {
   unknown = c.unknown + count_by is_unknown es;
 }
 
--- each entry gives its text alone, and a report where it is bad
+-- each entry gives its own text, and a report if it is bad
 abbrev pub counting_fold : (Entry → List ℕ) → (Entry → Bool) → (Entry → Bool) → Fold Counts
 counting_fold text is_message is_unknown = record {
   text = λ c e. text e;

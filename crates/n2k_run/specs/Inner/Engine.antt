@@ -1,4 +1,4 @@
--- The engine of the runs between two lines, and what each step of it does.
+-- The engine of the runs between two lines, and its steps.
 use Rattle.std.specs.Prelude.{◌≡◌, ◌⊎◌, ◌<◌, ◌+◌, ℕ, true, false, if◌then◌else◌, List, [], ◌++◌, length, Option, Result}
 use Rattle.std.specs.Prelude.{Ok, Err}
 use Rattle.std.specs.Io.{IsEmptyOrEndsWith}
@@ -33,7 +33,7 @@ pub record Unmoved {S : Type 0} (s s' : S) (text text' report report' : List ℕ
   pub same_text : text' ≡ text
   pub same_report : report' ≡ report
 
--- what a handler answers on an entry
+-- the result of a handler for an entry
 abbrev pub TakesEntry : {S T : Type 0} → Fold S → S → S → Entry → List ℕ → List ℕ → List ℕ → List ℕ → Result T RunFault
     → Type 0
 TakesEntry m s s' x text text' report report' (Ok y) = MovesOn m s s' x text text' report report'
@@ -65,7 +65,7 @@ pub record FailsNext (old : Held) (left₀ left : Option (List ℕ)) : Type 0 wh
   pub given : Consumes left₀ left came
   pub none : HasNoFeed (unanswered old ++ came)
 
--- what is done at the next line
+-- the step at the next line
 abbrev pub TakesNext : {S T : Type 0} → Fold S → Packing → S → S → Held → Held → Option (List ℕ) → Option (List ℕ)
     → List ℕ → List ℕ → List ℕ → List ℕ → Result T RunFault → Type 0
 TakesNext m packing s s' old new left₀ left text text' report report' (Ok y) =
@@ -79,14 +79,14 @@ TakesNext m packing s s' old new left₀ left text text' report report' (Err Rea
 TakesNext m packing s s' old new left₀ left text text' report report' (Err Memory) = Unit {0}
 TakesNext m packing s s' old new left₀ left text text' report report' _ = ⊥
 
--- the source's failures at it: none where a line or the end was found, also where the handler refuses the line
+-- the source's failures at the next line: none if a line or the end was found, even if the handler refuses the line
 abbrev pub ReadsNext : {T : Type 0} → Held → ℕ → ℕ → Result T RunFault → Type 0
 ReadsNext new failed₀ failed (Err Read) = HasFailed failed₀ failed ⊎ ((new.reads ≡ most_reads) × (failed ≡ failed₀))
 ReadsNext new failed₀ failed (Err Write) = Unit {0}
 ReadsNext new failed₀ failed (Err Report) = Unit {0}
 ReadsNext new failed₀ failed _ = failed ≡ failed₀
 
--- what is pending is written, the reports first; a sink that fails had something to write
+-- the pending texts are written, the reports first; a sink that fails had something to write
 abbrev pub WritesPending : {T : Type 0} → List ℕ → List ℕ → Option (List ℕ) → Option (List ℕ) → Option (List ℕ)
     → Option (List ℕ) → Result T RunFault → Type 0
 WritesPending text report w w' e e' (Ok x) = Appends w w' text × Appends e e' report
@@ -94,15 +94,15 @@ WritesPending text report w w' e e' (Err Report) = (w' ≡ w) × AppendsFront e 
 WritesPending text report w w' e e' (Err Write) = AppendsFront w w' text × Appends e e' report × (0 < length text)
 WritesPending text report w w' e e' _ = ⊥
 
--- the sinks' failures at it
+-- the sinks' failures when the pending texts are written
 abbrev pub FailsPending : {T : Type 0} → ℕ → ℕ → ℕ → ℕ → Result T RunFault → Type 0
 FailsPending writes₀ writes reports₀ reports (Ok x) = (writes ≡ writes₀) × (reports ≡ reports₀)
 FailsPending writes₀ writes reports₀ reports (Err Write) = HasFailed writes₀ writes × (reports ≡ reports₀)
 FailsPending writes₀ writes reports₀ reports (Err Report) = HasFailed reports₀ reports × (writes ≡ writes₀)
 FailsPending writes₀ writes reports₀ reports _ = ⊥
 
--- What was made of these entries: of the first of them the texts and reports are written to the sinks, of the others
--- they are kept.
+-- The output of these entries: the texts and reports of the first entries are written to the sinks, those of the others
+-- are pending.
 pub record Made {S : Type 0} (m : Fold S) (s₀ s : S) (es : List Entry) (text report : List ℕ)
     (w₀ w e₀ e : Option (List ℕ)) : Type 0 where
   pub written : List Entry
@@ -116,12 +116,12 @@ pub record Made {S : Type 0} (m : Fold S) (s₀ s : S) (es : List Entry) (text r
   pub counted : m.lines s ≡ m.lines s₀ + length es
   pub numbered : AreNumbered (m.lines s₀) es
 
--- The engine between two lines: what came of the log is what was taken and what the block holds.
+-- The engine between two lines: the bytes that came of the log are the taken lines and the block's bytes.
 pub record BetweenLines {S : Type 0} (m : Fold S) (packing : Packing) (s₀ s : S) (held : Held) (text report : List ℕ)
     (before now : Devices) : Type 0 where
   pub front : List ℕ
   pub came : Consumes before.left now.left (front ++ unanswered held)
-  -- what was taken ends with a line, unless the log has ended
+  -- the taken bytes end with a line, unless the log has ended
   pub whole : held.has_ended ≡ false → IsEmptyOrEndsWith front line_feed
   pub end : held.has_ended ≡ true → (unanswered held ≡ []) × IsAtEnd now.left
   pub made : Made m s₀ s (entries packing front) text report before.written now.written before.reported now.reported

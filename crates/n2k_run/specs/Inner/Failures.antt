@@ -13,7 +13,7 @@ abbrev pub last_of : Option Failures → Option Error
 last_of None = None
 last_of (Some failures) = Some failures.last
 
--- those after a call that answered this
+-- the failures after a call with this result
 abbrev pub noted : Result ℕ Error → Option Failures → Option Failures
 noted (Ok count) failures = failures
 noted (Err error) failures = Some (record { last = error; before = count_of failures })

@@ -1,4 +1,4 @@
--- What it does to the next step that the groups are broken first whose window ends at its line.
+-- The next step after the groups were broken whose window ends at its line.
 use Rattle.std.specs.Prelude.{◌≡◌, ℕ, List, ◌++◌, Option}
 use Rattle.std.specs.List.{flat_map}
 use Rattle.n2k_wire.specs.declared.entry.Entry.{Entry}
@@ -7,9 +7,8 @@ use Rattle.n2k_join.specs.Counts.{most_lines}
 use Rattle.n2k_join.specs.State.{State, next_line, step_after, step_given}
 use Rattle.n2k_run.specs.Reports.{broken_text}
 
--- The join goes from `s` to `t`, no line is counted, and the groups are reported that are broken. The step from `t`
--- leads to the same state as that from `s`, and gives the same, but for these groups. At the most lines nothing
--- moves.
+-- The join goes from `s` to `t`, counting no line, and the broken groups are reported. The step from `t` leads to the
+-- same state as the step from `s`, and gives the same except for these groups. At the most lines nothing changes.
 pub record BreaksOverdue (s t : State) (report report' : List ℕ) : Type 0 where
   pub after : (kind : ℕ → Option Kind) (e : Entry) → step_after kind s e ≡ step_after kind t e
   pub message : (kind : ℕ → Option Kind) (e : Entry) → (step_given kind s e).message ≡ (step_given kind t e).message

@@ -1,4 +1,4 @@
--- What the steps of a run of a part answer, and the source of a part that lies in memory.
+-- The results of the steps of a part's run, and the source of a part in memory.
 use Rattle.std.specs.Prelude.{◌≡◌, ℕ, List, Option, Result, Ok, Err}
 use Rattle.n2k_table.specs.declared.definition.Kind.{Kind}
 use Rattle.n2k_join.specs.Resumed.{resumed}
@@ -10,7 +10,7 @@ use Rattle.n2k_run.specs.declared.part.PartFault.{PartFault}
 use Rattle.n2k_run.specs.declared.part.PartFault.TheVariants.{State as Refused, Stopped, Run, Memory}
 use Rattle.n2k_run.specs.Parts.{EndsAtLine}
 
--- a part that lies in memory: the bytes that are left of it, and the calls that were made of its source
+-- a part in memory: its remaining bytes, and the calls that were made of its source
 pub record PartLeft : Type 0 where
   pub left : List ℕ
   pub calls : ℕ
@@ -27,7 +27,7 @@ HasSaved (Ok part) s = Saves s part
 HasSaved (Err (Stopped fault part)) s = Saves s part
 HasSaved _ s = Unit {0}
 
--- what is answered after a run
+-- the result after a run
 abbrev pub Finishes : Result Part PartFault → Result (Unit {0}) RunFault → Type 0
 Finishes (Ok part) ran = ran ≡ Ok tt
 Finishes (Err (Stopped fault part)) ran = ran ≡ Err fault

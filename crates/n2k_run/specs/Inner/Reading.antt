@@ -1,4 +1,4 @@
--- What is taken from a source into a vector.
+-- Bytes taken from a source into a vector.
 use Rattle.std.specs.Prelude.{◌≡◌, ℕ, List, ◌++◌, Option}
 use Rattle.std.specs.Io.KnownBytes.{Consumes}
 

@@ -1,4 +1,4 @@
--- Messages that are sent one after the other, by what is known of those before.
+-- Messages that are sent in order, each by the sequences of the messages before.
 use Rattle.std.specs.Prelude.{◌≡◌, ◌≤◌, ◌+◌, ℕ, if◌then◌else◌, List, [], ◌++◌, Option, Some, None, Result, Ok}
 use Rattle.std.specs.Option.{is_none}
 use Rattle.n2k_wire.specs.declared.entry.BadCause.{BadCause}
@@ -18,7 +18,7 @@ use Rattle.n2k_run.specs.FramesOut.{frame_texts, is_refused, is_written, line_ca
 use Rattle.n2k_run.specs.Fold.{Fold}
 use Rattle.n2k_run.specs.Reports.{cause_report}
 
--- what is known of the lines before: the sequence of each stream's next message, and what was counted
+-- the state after the lines before: the sequence of each stream's next message, and the counts
 pub record Sent : Type 0 where
   pub held : Sequences
   pub counts : Counts
@@ -34,7 +34,7 @@ abbrev pub frame_line : Option (List ℕ) → PacketParts → Result (List ℕ) 
 frame_line None frame = Ok (plain_text frame)
 frame_line (Some interface) frame = candump_text interface frame
 
--- what becomes of a message, by why it isn't written
+-- the outcome of a message, by why it isn't written
 abbrev pub outcome_by : Option BadCause → Outcome
 outcome_by None = Written
 outcome_by (Some cause) = Bad cause
@@ -45,18 +45,18 @@ outcome kind interface (lines.Bad cause) = Bad cause
 outcome kind interface (lines.Frame packet) = outcome_by (line_cause kind interface (lines.Frame packet))
 outcome kind interface (lines.Whole packet) = outcome_by (message_cause kind interface packet)
 
--- what is written of a message
+-- the text of a message
 abbrev pub message_text : (ℕ → Option Kind) → Option (List ℕ) → Sequences → PacketParts → List ℕ
 message_text kind interface held m =
     if is_none (message_cause kind interface m)
     then frame_texts interface (pieces_by kind m (held (stream_of m.id)))
     else []
 
--- the sequences after it: it takes one where it is split
+-- the sequences after the message: it takes one if it is split
 abbrev pub held_after_message : (ℕ → Option Kind) → Sequences → PacketParts → Sequences
 held_after_message kind held m = if is_none (refusal (kind m.id.pgn) m) then raised kind held (stream_of m.id) else held
 
--- what is written of a line
+-- the text of a line
 abbrev pub line_text : (ℕ → Option Kind) → Option (List ℕ) → Sequences → Entry → List ℕ
 line_text kind interface held lines.Skip = []
 line_text kind interface held (lines.Bad cause) = []
@@ -91,7 +91,7 @@ frame_counts_after kind interface c e = record c {
   bad = c.bad + (if is_refused kind interface e then 1 else 0);
 }
 
--- each line gives the lines of its message's frames, and a report where it is bad
+-- each line gives the lines of its message's frames, and a report if it is bad
 abbrev pub sending_fold : (ℕ → Option Kind) → Option (List ℕ) → Fold Sent
 sending_fold kind interface = record {
   text = λ s e. line_text kind interface s.held e;

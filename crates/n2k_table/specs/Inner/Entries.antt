@@ -21,7 +21,7 @@ map_entries names = map entry_pair names.entries
 abbrev pub HasNoneAbove : {R : Type 0} → List (ℕ × R) → ℕ → Type 0
 HasNoneAbove entries most = (value : ℕ) → most < value → value_at (nat_eq value) entries ≡ None
 
--- each lookup stands by its name; how a lookup is seen is given
+-- each lookup is found by its name; how a lookup is seen is given
 abbrev pub AreNamed : {R : Type 0} → (R → LookupParts) → List (String Global × R) → Type 0
 AreNamed value entries = AllByRecursion (λ e. string_bytes e.0 ≡ (value e.1).name) entries
 

@@ -1,4 +1,4 @@
--- What a field shows, as the code answers it with what a line needs of it.
+-- What a field shows, as the code returns it for a line.
 use Rattle.std.specs.Prelude.{ℕ, Bool, false, List, [], ◌∷◌, Option, Some, None}
 use Rattle.n2k_table.specs.declared.field_value.FieldValue.{FieldValue}
 use Rattle.n2k_table.specs.declared.field_value.FieldValue.TheVariants as code
@@ -11,7 +11,7 @@ use Rattle.n2k_table.specs.Shown.{lies_inside}
 use Rattle.n2k_table.specs.declared.string_place.Step.{Step}
 use Rattle.n2k_table.specs.Inner.Number.{value_of}
 
--- the answer as parts, and none where few fields show such
+-- the result as parts, and none if its kind is rare
 abbrev pub value_parts : FieldValue → Option ShownParts
 value_parts code.Absent = Some absent
 value_parts (code.Number n) = Some (number (value_of n) n.resolution.decimals)
@@ -20,7 +20,7 @@ value_parts (code.Text t) = Some (text t.now)
 value_parts (code.Bytes b) = Some (bytes b.now)
 value_parts code.Seldom = None
 
--- the field stands behind no string, and lies wholly inside the data
+-- no string precedes the field, and it lies wholly inside the data
 abbrev pub inside_behind : List Step → FieldParts → List ℕ → Bool
 inside_behind [] f payload = lies_inside f payload
 inside_behind (s ∷ ss) f payload = false

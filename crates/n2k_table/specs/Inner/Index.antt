@@ -14,7 +14,7 @@ use Rattle.n2k_table.specs.Inner.Glance.{IsGlance}
 abbrev pub pgns : List DefinitionParts → List ℕ
 pgns ds = map (λ (d : DefinitionParts). d.pgn) ds
 
--- where a number stands among numbers, of which the first has the place i
+-- the place of a number among numbers, of which the first has the place i
 abbrev pub places_from : ℕ → ℕ → List ℕ → List ℕ
 places_from i number [] = []
 places_from i number (n ∷ ns) = if n == number then i ∷ places_from (suc i) number ns else places_from (suc i) number ns
@@ -39,7 +39,7 @@ pub record AreOfPgn (number : ℕ) (ds : List DefinitionParts) (cs : List Candid
   pub places : places_of cs ≡ places number (pgns ds)
   pub asked : All (IsOfPlace ds) cs
 
--- one map has the candidates of the other, and one more of a PGN, behind those before it
+-- one map has the candidates of the other, and one more of a PGN, after its earlier candidates
 abbrev pub GainsCandidate :
     List (ℕ × Vec Candidate Global) → List (ℕ × Vec Candidate Global) → ℕ → Candidate → Type 0
 GainsCandidate old new number candidate =

@@ -41,7 +41,7 @@ least_bits kind = if has_bits kind then 1 else 0
 abbrev pub HasBits : FieldKind → ℕ → Type 0
 HasBits kind bits = (least_bits kind ≤ bits) × (bits ≤ most_bits kind)
 
--- how many bytes the data must have for a field to lie inside them, and where it stands behind strings more than any
+-- how many bytes the data must have for a field to lie inside them; if strings precede the field, more than any
 -- data have
 abbrev pub bytes_needed : List Step → ℕ → ℕ → ℕ
 bytes_needed [] at bits = (at + bits + 7) / 8
@@ -52,7 +52,7 @@ abbrev pub left_beside : ℕ → Option ℕ → Option ℕ
 left_beside room None = None
 left_beside room (Some n) = if nat_le n room then Some (room - n) else None
 
--- What the code keeps of each field: what stands before its value too, and a place that a message can have.
+-- What the code keeps of each field: also the text before its value, and a place that a message can have.
 pub record IsKept (name before_value : List ℕ) (at bits needed : ℕ) (behind : List Step) (meaning : CodeMeaning)
     (match_value : Option ℕ) : Type 0 where
   pub key : before_value ≡ key_json true name

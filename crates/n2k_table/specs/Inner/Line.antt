@@ -9,7 +9,7 @@ use Rattle.n2k_table.specs.declared.line.AbsentFields.TheVariants.{LeftOut, Null
 use Rattle.n2k_table.specs.Text.{text_json}
 use Rattle.n2k_table.specs.Json.{comma, colon}
 
--- a byte that stands for itself in a JSON text, neither below the space nor a quote nor a backslash
+-- a byte that JSON writes as it is: not below the space, not a quote, not a backslash
 abbrev pub is_plain : ℕ → Bool
 is_plain b = nat_le 32 b && not (b == 34) && not (b == 92)
 
@@ -26,7 +26,7 @@ unfoldable pub sender_json : Id → List ℕ
 sender_json id =
     codes ",\"prio\":" ++ decimal id.prio ++ codes ",\"src\":" ++ decimal id.src ++ codes ",\"dst\":" ++ decimal id.dst
 
--- what stands before the PGN
+-- the text before the PGN
 unfoldable pub before_pgn_json : PacketParts → List ℕ
 before_pgn_json m = codes "{\"timestamp\":" ++ text_json m.stamp ++ sender_json m.id
 
@@ -40,12 +40,12 @@ abbrev pub are_null : AbsentFields → Bool
 are_null LeftOut = false
 are_null Null = true
 
--- a member stands before the next
+-- a member precedes the next
 abbrev pub has_members : List (List ℕ) → Bool
 has_members [] = false
 has_members (m ∷ ms) = true
 
--- what stands before the value of a member, with a comma where a member stands before
+-- the text before the value of a member, with a comma if a member precedes
 abbrev pub key_json : Bool → List ℕ → List ℕ
 key_json later key = (if later then comma ∷ [] else []) ++ (text_json key ++ colon ∷ [])
 

@@ -5,7 +5,7 @@ use Rattle.std.specs.Prelude.{◌≡◌, ◌≤◌, ℕ, nat_le, List, take, len
 abbrev pub padded_text : ℕ → List ℕ → List ℕ → List ℕ
 padded_text len front long = if nat_le len 32 then take len front else long
 
--- The text has so many bytes, and where the front has room for them, it begins with them.
+-- The text has so many bytes, and if the front has room for them, it begins with them.
 pub record IsPadded (len : ℕ) (front long : List ℕ) : Type 0 where
   pub size : length (padded_text len front long) ≡ len
   pub begins : len ≤ 33 → take len front ≡ padded_text len front long

@@ -1,9 +1,10 @@
 //! Examples of `n2k_run`.
 use n2k_join::{Broken, Counts, Join, Window};
 use n2k_run::{
-    Blocks, BytesFault, Failed, MemorySink, MemorySource, Next, Options, Sink, Source, StdSink,
-    StdSource, bad_text, broken_text, read_bytes, run, run_frames, run_frames_counted, run_more,
-    run_part, run_parts, run_plain, run_plain_counted, summary_text, write_all, write_summary,
+    Blocks, BytesFault, Failed, MemorySink, MemorySource, Next, Options, RunRoom, Sink, Source,
+    StdSink, StdSource, bad_text, broken_text, read_bytes, run, run_frames, run_frames_counted,
+    run_more, run_part, run_parts, run_plain, run_plain_counted, summary_text, write_all,
+    write_summary,
 };
 use n2k_table_tests::samples::sample as sample_table;
 use n2k_wire::{BadCause, Packing, is_interface};
@@ -63,15 +64,33 @@ fn more(rt: HostRuntime) -> Result<(), Fail> {
     let mut join = Join::new(alloc, &table, options.window);
     let mut out = MemorySink::new(alloc, 4096, 0);
     let mut err = MemorySink::new(alloc, 4096, 0);
+    let mut room = RunRoom::new(alloc);
     let monday = "(11.0) can0 1DFF0405#4120202020202020\n".as_bytes();
     run_more(
-        alloc, &table, &mut join, options, monday, &mut out, &mut err,
+        alloc, &table, &mut join, options, monday, &mut room, &mut out, &mut err,
     )?;
     let tuesday = "(12.0) can0 1DFF0405#400DA39903444546\n".as_bytes();
     run_more(
-        alloc, &table, &mut join, options, tuesday, &mut out, &mut err,
+        alloc, &table, &mut join, options, tuesday, &mut room, &mut out, &mut err,
     )?;
     assert_eq!(rt; (join.counts().lines, join.counts().messages), (2, 1));
+    Ok(())
+}
+
+// RunRoom::new
+#[test]
+fn room(rt: HostRuntime) -> Result<(), Fail> {
+    let alloc = rt.alloc();
+    let (table, options) = (sample_table(alloc)?, usual_options());
+    let mut join = Join::new(alloc, &table, options.window);
+    let mut out = MemorySink::new(alloc, 4096, 0);
+    let mut err = MemorySink::new(alloc, 4096, 0);
+    let log = "(11.0) can0 1DFF0405#4120202020202020\n".as_bytes();
+    let mut room = RunRoom::new(alloc);
+    run_more(
+        alloc, &table, &mut join, options, log, &mut room, &mut out, &mut err,
+    )?;
+    assert_eq!(rt; join.counts().lines, 1);
     Ok(())
 }
 

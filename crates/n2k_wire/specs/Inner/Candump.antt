@@ -7,17 +7,17 @@ use Rattle.n2k_wire.specs.Candump.{stamped, framed, identifier}
 use Rattle.n2k_wire.specs.Digits.{decimal_number}
 use Rattle.n2k_wire.specs.Stamp.{most_fraction_digits, moment, three_digits, utc_text}
 
--- the frame of a candump line as its entry, where none is a line to skip
+-- the frame of a candump line as its entry; None is a line to skip
 abbrev pub candump_entry : Option CandumpFrame → Entry
 candump_entry None = entries.Skip
 candump_entry (Some frame) = entries.Frame (record { stamp = frame.stamp; id = frame.id; payload = frame.«data».items })
 
--- the UTC text of a candump line's stamp, and what follows the stamp
+-- the UTC text of a candump line's stamp, and the text after the stamp
 unfoldable pub stamp_behind : List ℕ → Option (List ℕ × List ℕ)
 stamp_behind line =
     option_and_then (λ outer. option_and_then (λ seen. Some (utc_text seen, outer.1)) (moment outer.0)) (stamped line)
 
--- a line that begins with this front, a fraction and the closing parenthesis is of this second
+-- a line that begins with `front`, a fraction and the closing parenthesis is of this second
 abbrev pub IsSecondFront : List ℕ → ℕ → Type 0
 IsSecondFront front seconds =
     (fraction rest : List ℕ) (f m : ℕ) → decimal_number most_fraction_digits fraction ≡ Some f
@@ -25,6 +25,6 @@ IsSecondFront front seconds =
     → stamp_behind (front ++ (fraction ++ (41 ∷ rest)))
     ≡ Some (utc_text (record { seconds = seconds; millis = m }), rest)
 
--- behind an interface stand the digits of this identifier, and behind the `#` the rest
+-- the digits of this identifier come after an interface, and the rest after the `#`
 abbrev pub IsFramed : List ℕ → ℕ → List ℕ → Type 0
 IsFramed text n rest = (digits : List ℕ) × (framed text ≡ Some (digits, rest)) × (identifier digits ≡ Ok (Some n))

@@ -12,12 +12,12 @@ use Rattle.n2k_wire.specs.Plain.{Header, greatest_address, number_to, packed, pa
 use Rattle.n2k_wire.specs.Packet.{greatest_pgn, greatest_priority}
 use Rattle.n2k_wire.specs.declared.identifier.Id.{Id}
 
--- the columns of the text that is left of a plain line, if there is any
+-- the columns of the remaining text of a plain line, if there is any
 abbrev pub columns_left : Option (Bor (List ℕ)) → List (List ℕ)
 columns_left None = []
 columns_left (Some text) = columns text.now
 
--- the columns behind a stamp, of which the code holds the last as one text
+-- the columns after a stamp; the code keeps the last ones as one text
 abbrev pub plain_header : headers_of_code.Header → Header
 plain_header h =
     record {
@@ -29,12 +29,13 @@ plain_header h =
       more = columns_left h.more;
     }
 
--- the first column of a text is this number, up to a limit, and the columns behind it are those of the rest
+-- the first column of a text is this number, up to a limit, and the columns after it are the columns of the rest
 abbrev pub IsNumberBefore : ℕ → List ℕ → ℕ → List ℕ → Type 0
 IsNumberBefore limit text n rest =
     (column : List ℕ) × (columns text ≡ column ∷ columns rest) × (number_to limit column ≡ Some n)
 
--- the first four columns of a text are the numbers of an identifier, and the columns behind them are those of the rest
+-- the first four columns of a text are the numbers of an identifier, and the columns after them are the columns of the
+-- rest
 abbrev pub IsIdBefore : List ℕ → Id → List ℕ → Type 0
 IsIdBefore text id rest =
     (pgn src dst : List ℕ) × IsNumberBefore greatest_priority text id.prio pgn
@@ -57,7 +58,7 @@ pub record AreSpelled (text bytes : List ℕ) : Type 0 where
   pub count : length digits ≡ 16
   pub bytes_are : result_ok (decode_of digits) ≡ Some bytes
 
--- these columns begin with those of these bytes, and more follow
+-- these columns are the columns of these bytes, followed by more
 pub record AreRead (all : List (List ℕ)) (bytes : List ℕ) (more : List (List ℕ)) : Type 0 where
   pub count : length all ≡ length bytes + length more
   pub read : pairs all ≡ option_map (λ others. bytes ++ others) (pairs more)

@@ -24,7 +24,7 @@ plain_moment m = record { seconds = m.seconds; millis = m.millis }
 abbrev pub second_front : ℕ → List ℕ
 second_front seconds = codes "(" ++ second_digits seconds ++ codes "."
 
--- what stands in a candump line between the milliseconds and the identifier
+-- the text of a candump line between the milliseconds and the identifier
 abbrev pub behind_millis : List ℕ → List ℕ
 behind_millis interface = codes "000) " ++ interface ++ codes " "
 
@@ -37,7 +37,7 @@ abbrev pub IsStampText : Option Moment → List ℕ → Type 0
 IsStampText found text =
     (seen : Moment) × (found ≡ Some seen) × (text ≡ second_front seen.seconds ++ millis_digits seen.millis)
 
--- The stamps that begin so are those of one second, and its candump lines begin so.
+-- All stamps that begin with `stamp` are of one second, whose candump lines begin with `line`.
 pub record IsSecond (stamp line : List ℕ) : Type 0 where
   pub shared : (behind : List ℕ) → length behind ≡ 4 → are_millis behind ≡ true
       → IsStampText (utc_moment (stamp ++ behind)) (line ++ take 3 behind)

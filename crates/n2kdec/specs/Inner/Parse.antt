@@ -3,15 +3,15 @@ use Rattle.std.specs.Prelude.{◌≡◌, ◌≢◌, ◌⊎◌, Option, None, IfS
 use Rattle.clap.specs.Words.{Text}
 use Rattle.clap.specs.declared.error.kind.ErrorKind.{ErrorKind}
 use Rattle.clap.specs.declared.error.kind.ErrorKind.TheVariants.{DisplayHelp, DisplayVersion, OutOfMemory}
-use Rattle.n2kdec.specs.declared.asked.Request.{Request}
-use Rattle.n2kdec.specs.declared.asked.Request.TheVariants.{Help, Command, Refused}
+use Rattle.n2kdec.specs.declared.command_line.asked.ParsedArgs.{ParsedArgs}
+use Rattle.n2kdec.specs.declared.command_line.asked.ParsedArgs.TheVariants.{Help, Command, Refused}
 use Rattle.n2kdec.specs.declared.fault.Fault.TheVariants as fault
-use Rattle.n2kdec.specs.Asked.{HasLines}
-use Rattle.n2kdec.specs.Words.{version_text}
+use Rattle.n2kdec.specs.CommandLine.Asked.{HasLines}
+use Rattle.n2kdec.specs.CommandLine.Words.{version_text}
 
--- By its kind, and by the text that it shows, where that is known: a request for help, which gets that text, or for the
+-- By its kind, and by the text that it shows, if known: a request for help, which gets that text, or for the
 -- version, or a fault.
-abbrev pub AnswersKind : ErrorKind → Option Text → Request → Type 0
+abbrev pub AnswersKind : ErrorKind → Option Text → ParsedArgs → Type 0
 AnswersKind kind shown (Help text) =
     ((kind ≡ DisplayHelp) × IfSome shown (λ help. text ≡ help)) ⊎ ((kind ≡ DisplayVersion) × (text ≡ version_text))
 AnswersKind kind shown (Command command) = ⊥

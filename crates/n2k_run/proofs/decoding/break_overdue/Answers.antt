@@ -3,7 +3,7 @@ use Rattle.n2k_join.specs.declared.counts.Counts.{Counts}
 use Rattle.n2k_run.proofs.Overdue.{lines_stay, one_broken}
 use Rattle.n2k_run.proofs.decoding.break_overdue.Goals as goal
 
--- the lines that are counted after a round are those before it
+-- a round counts no line
 pub overflow_add-line : goal.overflow_add-line
 overflow_add-line c = grind (arith, lines_stay)
 

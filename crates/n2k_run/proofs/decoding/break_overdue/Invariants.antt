@@ -1,4 +1,4 @@
--- What was reported so far is what the groups are that were broken; each round leaves fewer groups.
+-- The reports so far are those of the broken groups; each round leaves fewer groups.
 use Rattle.std.proofs.Common.{length}
 use Rattle.n2k_run.specs.Inner.Overdue.{BreaksOverdue}
 use Rattle.n2k_run.proofs.decoding.break_overdue.Given as goal

@@ -10,7 +10,7 @@ use Rattle.n2k_run.proofs.engine.run_entries.Goals.{After-take_next, then-not-ha
 abbrev devices : (g : Over) → g.row.R.Denot → g.row.W.Denot → g.row.E.Denot → Devices
 devices g = seen g.R.Source g.W.Sink g.E.Sink
 
--- where the next line is taken
+-- the next line is taken here
 stood : (g : Over) (c : After-take_next g) → BetweenLines (g.H.EntryHandler.fold c.args.handler.now) c.args.packing (g.H.EntryHandler.known c.args.state.now) (g.H.EntryHandler.known c.lines.state) c.lines.blocks c.if-not-has_line.pending.text.items c.if-not-has_line.pending.report.items (devices g c.args.reader.now c.args.writer.now c.args.reporter.now) (devices g c.lines.reader c.if-not-has_line.writer c.if-not-has_line.reporter)
 stood g c = elim c.if-not-has_line.branch [
   | then-not-has_line+in_ok-write w ↦
@@ -20,7 +20,7 @@ stood g c = elim c.if-not-has_line.branch [
 ]
 
 pub lines-init : goal.lines-init
-lines-init g c = record { stands = begins _ _ _ _ _ _ _ c.new-blocks.ensures c.new-pending.ensures.text c.new-pending.ensures.report; ready = c.requires }
+lines-init g c = record { stands = begins _ _ _ _ _ _ _ c.restart.ensures c.clear.ensures.text c.clear.ensures.report; ready = c.requires }
 
 pub returns-in_err-write-clause-runs : goal.returns-in_err-write-clause-runs
 returns-in_err-write-clause-runs g c =

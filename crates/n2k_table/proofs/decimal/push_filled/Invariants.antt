@@ -1,4 +1,4 @@
--- As many zeros as rounds, behind what stood before.
+-- As many zeros as rounds, after the earlier text.
 use Rattle.std.proofs.Common.{◌≡◌, ◌∷◌, ◌++◌, replicate}
 use Rattle.n2k_table.proofs.decimal.push_filled.Given as goal
 

@@ -1,4 +1,4 @@
--- Two are the same among the fields that are left where two are among all.
+-- Two are the same among the fields left if two are among all.
 use Rattle.std.proofs.Common.{◌≡◌, length}
 use Rattle.n2k_table.specs.Duplicate.{has_duplicate}
 use Rattle.n2k_table.specs.Fields.{is_same_field}

@@ -1,4 +1,4 @@
--- The bytes so far and those that are left are usual where all are.
+-- The bytes so far and the bytes left are usual if all are.
 use Rattle.std.proofs.Common.{◌≡◌, ◌&&◌, drop}
 use Rattle.std.specs.List.{list_all}
 use Rattle.n2k_table.specs.Inner.Line.{is_usual}

@@ -1,4 +1,4 @@
--- One of the definitions that are left differs where one of all does.
+-- One of the definitions left differs if one of all does.
 use Rattle.std.proofs.Common.{◌≡◌, drop}
 use Rattle.std.specs.List.{list_any}
 use Rattle.n2k_table.specs.Inner.Index.{differs}

@@ -1,4 +1,4 @@
--- The lookups so far and those that are left are all, each stands by its name, and no name stands twice so far.
+-- The lookups so far and the lookups left are all, each is found by its name, and no name comes twice so far.
 use Rattle.std.proofs.Common.{◌≡◌, ◌++◌, false}
 use Rattle.std.specs.Vec.Iter.{into_iter_items}
 use Rattle.n2k_table.specs.Duplicate.{has_duplicate}

@@ -1,4 +1,4 @@
--- The entries so far and those that are left are all, and no value stands twice so far.
+-- The entries so far and the entries left are all, and no value comes twice so far.
 use Rattle.std.proofs.Common.{◌≡◌, ◌++◌, false, map, nat_eq}
 use Rattle.std.specs.Vec.Iter.{into_iter_items}
 use Rattle.n2k_table.specs.Duplicate.{has_duplicate}

@@ -1,4 +1,4 @@
--- What is behind the strings that are left is what is behind all of them.
+-- The data after the strings left are the data after all of them.
 use Rattle.std.proofs.Common.{◌≡◌, drop}
 use Rattle.n2k_table.specs.Strings.{data_behind}
 use Rattle.n2k_table.proofs.string_place.data_behind.Given as goal

@@ -1,4 +1,4 @@
--- What stands for the bytes so far is written, and that for the others is left.
+-- The text of the bytes so far is written, and that of the others is left.
 use Rattle.std.proofs.Common.{◌≡◌, true, ◌++◌, drop}
 use Rattle.std.specs.List.{flat_map}
 use Rattle.json.specs.Print.{escape_byte}

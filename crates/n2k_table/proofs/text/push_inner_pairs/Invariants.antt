@@ -1,4 +1,4 @@
--- The pairs so far are written, and the others are left, each behind a space.
+-- The pairs so far are written, and the others are left, each after a space.
 use Rattle.std.proofs.Common.{◌≡◌, true, ◌++◌, drop}
 use Rattle.n2k_table.specs.Inner.LineBuffer.{begins}
 use Rattle.n2k_table.specs.Text.{hex_pairs}

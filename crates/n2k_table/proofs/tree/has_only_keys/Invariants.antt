@@ -1,4 +1,4 @@
--- The keys that are left pass where all pass.
+-- The keys left pass if all pass.
 use Rattle.std.proofs.Common.{◌≡◌, string_bytes}
 use Rattle.std.specs.List.{list_all}
 use Rattle.toml.specs.View.{table_view}

@@ -12,7 +12,7 @@ returns-in_err-left-clause-value c =
     let few : length (columns_left c.args.more) ≡ c.loop.counter = omega (arith, rw none at c.loop.invariant.columns) in
     rw c.from_residual.ensures (bytes_of-other c.args.len (columns_left c.args.more) (λ e. omega arith))
 
--- a column is no byte
+-- a column is not a byte
 pub returns-in_err-byte-clause-value : goal.returns-in_err-byte-clause-value
 returns-in_err-byte-clause-value c =
     let first : columns_left c.loop.left ≡ c.first_column.result.0.now ∷ columns_left c.first_column.result.1 = ap columns_left c.in_ok-left.was ∙ c.first_column.ensures in

@@ -1,5 +1,5 @@
 -- The command is that of the definition, and so its matches and its faults are.
-use Rattle.n2kdec.proofs.AskedLemmas.{kinds_as_defined, matches_as_defined, taken_as_defined}
+use Rattle.n2kdec.proofs.run.AskedLemmas.{kinds_as_defined, matches_as_defined, taken_as_defined}
 use Rattle.n2kdec.proofs.command_line.matches_of.Goals as goal
 
 pub returns-clause-matches : goal.returns-clause-matches

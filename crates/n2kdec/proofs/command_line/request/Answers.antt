@@ -1,7 +1,7 @@
 -- The parse is that of the definition, so the lemmas on the definition say what is asked.
 use Rattle.std.proofs.Common.{rules, Some, Ok, Err}
 use Rattle.n2kdec.specs.declared.fault.Fault.TheVariants as fault
-use Rattle.n2kdec.proofs.AskedLemmas.{asked_by_refusal, asked_command, asked_fault, asked_words, named_by_matches}
+use Rattle.n2kdec.proofs.run.AskedLemmas.{asked_by_refusal, asked_command, asked_fault, asked_words, named_by_matches}
 use Rattle.n2kdec.proofs.command_line.request.Goals as goal
 
 pub returns-in-Ok-command_of-clause-asked : goal.returns-in-Ok-command_of-clause-asked

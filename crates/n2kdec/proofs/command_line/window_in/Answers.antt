@@ -6,7 +6,7 @@ use Rattle.std.specs.Result.{result_ok}
 use Rattle.std.specs.Str.Parse.{AllDigits, ParsesUnsigned}
 use Rattle.std.proofs.lemmas.Bool.Decides.{nat_tests}
 use Rattle.n2k_join.specs.Window.{Window}
-use Rattle.n2kdec.specs.Words.{lines_in}
+use Rattle.n2kdec.specs.CommandLine.Words.{lines_in}
 use Rattle.n2kdec.proofs.command_line.window_in.Goals as goal
 
 all_digits : (text : List ℕ) → list_all is_ascii_digit text ≡ true → AllDigits 10 text

@@ -6,7 +6,7 @@ use Rattle.n2k_join.specs.State.{State}
 use Rattle.n2k_join.proofs.ReadStates.{valid-fast}
 use Rattle.n2k_join.proofs.join.Join.resume_written.Goals as goal
 
--- what is valid is given
+-- a valid state is returned
 given-parts : (b : Bool) (t s : State) → valid_if b t ≡ Ok s → (b ≡ true) × (t ≡ s)
 given-parts b t s e = grind arith
 

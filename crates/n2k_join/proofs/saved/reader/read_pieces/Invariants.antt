@@ -1,4 +1,4 @@
--- The pieces so far, and what reading gives for the values that are left.
+-- The pieces so far, and the result for the remaining values.
 use Rattle.std.proofs.Common.{◌≡◌, drop, map}
 use Rattle.serde_json.specs.View.{view}
 use Rattle.n2k_join.specs.Resumed.{each, read_piece}

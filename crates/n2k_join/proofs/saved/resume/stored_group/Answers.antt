@@ -14,7 +14,7 @@ use Rattle.n2k_join.proofs.saved.resume.stored_group.Goals as goal
 pub returns-in_err-stored-clause-value : goal.returns-in_err-stored-clause-value
 returns-in_err-stored-clause-value c = grind (arith, pieces-refused (kind c.args.table.now) c.args.group.now (ap (pieces_rise 0) (ap (λ (h : Group). h.pieces) (sym c.group.view_is) ∙ sym c.deref.ensures.value) ∙ c.in_err-stored.ensures.value c.args.group.now.key))
 
--- the group that is stored under a key is the one that is read
+-- the group stored under a key is the group that was read
 is_read : (first : ℕ) (key : Key) (ps items : List Piece) (stored g : Group) → stored ≡ record { first = first; key = key; pieces = ps } → ps ≡ items → record { first = first; key = key; pieces = items } ≡ g → stored ≡ g
 is_read first key ps items stored g is same view = is ∙ ap (λ ps. let h : Group = record { first = first; key = key; pieces = ps } in h) same ∙ view
 

@@ -1,5 +1,5 @@
--- The groups so far, and those that are left: all hold where those that are left do, with keys that are new. The first
--- lines of those that are left follow the ones so far.
+-- The groups so far, and the remaining groups: all hold if the remaining ones do, with new keys. The first lines of the
+-- remaining groups follow the ones so far.
 use Rattle.std.proofs.Common.{◌≡◌, ◌≤◌, ◌+◌, ℕ, true, take, drop}
 use Rattle.std.specs.List.{AllByRecursion}
 use Rattle.n2k_table.specs.Table.{kind}

@@ -1,4 +1,4 @@
--- The frames so far, by rising number, and those that are left, which rise where all rise.
+-- The frames so far, by rising number, and the remaining frames, which rise if all rise.
 use Rattle.std.proofs.Common.{◌≡◌, ◌≤◌, ◌<◌, take, drop}
 use Rattle.std.specs.List.{AllByRecursion}
 use Rattle.n2k_join.specs.Frames.{Key}

@@ -1,4 +1,4 @@
--- The groups that are left rise where all rise.
+-- The remaining groups rise if all rise.
 use Rattle.std.proofs.Common.{◌≡◌, ◌≤◌, ◌+◌, drop}
 use Rattle.n2k_join.specs.Resumed.{firsts_rise}
 use Rattle.n2k_join.proofs.saved.rules.firsts_rise.Given as goal

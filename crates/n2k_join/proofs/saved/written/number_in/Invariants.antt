@@ -1,4 +1,4 @@
--- What is left is a part of the text, and each round leaves less.
+-- The rest is a part of the text, and each round makes it shorter.
 use Rattle.std.proofs.Common.{length, ◌≤◌}
 use Rattle.n2k_join.proofs.saved.written.number_in.Given as goal
 

@@ -14,7 +14,7 @@ none_taken None new keeps = tt
 none_taken (Some bytes) None keeps = absurd keeps
 none_taken (Some bytes) (Some rest) keeps = sym keeps
 
--- where no byte came, what is kept stays
+-- if no byte came, the kept bytes are unchanged
 same_kept : (b ys : List ℕ) (s e k n : ℕ) → s ≤ e → e + k ≡ length b → length ys ≡ k → n ≡ 0 → slice_range (put_mid e k b ys) s (e + n) ≡ slice_range b s e
 same_kept b ys s e k n in_order whole size none = rw none (range_grown b ys s e k 0 in_order whole size (omega arith) ∙ append-nil (slice_range b s e))
 

@@ -1,0 +1,62 @@
+//! A line whose bytes come by several reads.
+ghost use Rattle.std.specs.Prelude.{◌≡◌, ◌<◌, ◌≤◌, ◌+◌, ◌++◌, length, take, drop, OnOk};
+ghost use Rattle.n2k_wire.specs.Entry.{is_skipped};
+ghost use Rattle.n2k_run.specs.Inner.Block.{FindsEnd};
+ghost use Rattle.n2k_run.specs.Lines.{without_return};
+ghost use Rattle.n2k_encode_run.specs.Inner.Taking.{most_kept};
+
+use std::alloc::AllocError;
+
+const LINE_FEED: u8 = b'\n';
+
+const RETURN: u8 = b'\r';
+
+/// The most bytes that are kept of a line: two more than the longest line, for a carriage return and one byte too many.
+const MOST_KEPT: usize = 65_538;
+
+/// The place of the first LF.
+pub(crate) fn line_end(bytes: &[u8]) -> Option<usize>
+    ensures { FindsEnd bytes.now result }
+{
+    memchr::memchr(LINE_FEED, bytes)
+}
+
+/// The bytes before the LF at `end`, and the bytes after it.
+pub(crate) fn split_line(bytes: &[u8], end: usize) -> (&[u8], &[u8])
+    requires { end < length bytes.now }
+    ensures line { result.0.now ≡ take end bytes.now }
+    ensures rest { result.1.now ≡ drop (end + 1) bytes.now }
+    ensures shorter { length result.1.now < length bytes.now }
+{
+    (bytes.split_at(end).0, bytes.split_at(end + 1).1)
+}
+
+/// The bytes without one carriage return at their end.
+pub(crate) fn without_return(piece: &[u8]) -> &[u8]
+    ensures { result.now ≡ without_return piece.now }
+{
+    match piece {
+        [line @ .., RETURN] => line,
+        _ => piece,
+    }
+}
+
+/// Whether a line is empty or begins with `#`.
+pub(crate) fn is_skipped(line: &[u8]) -> bool
+    ensures { result ≡ is_skipped line.now }
+{
+    match line {
+        [] => true,
+        [first, ..] => *first == b'#',
+    }
+}
+
+/// Appends bytes to the start of their line. Of a line that is too long only a prefix is kept.
+#[tactic(auto, using(crate::proofs::Parts::kept_more))]
+pub(crate) fn keep(kept: &mut Vec<u8>, bytes: &[u8]) -> Result<(), AllocError>
+    requires { length kept.old.items ≤ most_kept }
+    ensures { OnOk result (kept.new.items ≡ take most_kept (kept.old.items ++ bytes.now)) }
+{
+    let room = MOST_KEPT - kept.len();
+    kept.extend_from_slice(&bytes[..room.min(bytes.len())])
+}

@@ -1,8 +1,0 @@
-pub mod AskedLemmas
-pub mod Finding
-pub mod MachineLemmas
-pub mod Making
-pub mod Replacing
-pub mod Rows
-pub mod CommandLemmas
-pub mod WorkedFolders

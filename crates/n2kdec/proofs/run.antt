@@ -1,0 +1,4 @@
+pub mod AskedLemmas
+pub mod CommandLemmas
+pub mod EncodeLemmas
+pub mod MachineLemmas

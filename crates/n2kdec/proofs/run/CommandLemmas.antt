@@ -1,0 +1,243 @@
+-- From the run of a command and its closing to what the command leaves.
+use Rattle.std.proofs.Common.{◌≡◌, ◌++◌, true, arith, ℕ, List, [], Option, None, Some, Ok, Err, Result, IfOk, IfErr, IfSome, ap, inl, subst, sym, append_assoc, refl, false, ◌≢◌, Contains}
+use Rattle.std.proofs.KnownBytes.{Appends-trans}
+use Rattle.std.specs.Io.KnownBytes.{Appends}
+use Rattle.clap.specs.Words.{Text}
+use Rattle.n2k_wire.specs.declared.entry.Entry.{Entry}
+use Rattle.n2k_table.specs.Table.{TableParts, faults, kind, table as table_of}
+use Rattle.n2k_table.specs.declared.fault.TableFault.{TableFault}
+use Rattle.n2k_table.specs.declared.fault.TableFault.TheVariants as table_faults
+use Rattle.n2k_join.specs.declared.counts.Counts.{Counts}
+use Rattle.n2k_join.specs.State.{State as StateOf, state}
+use Rattle.n2k_run.specs.Decoded.{join_fold, output_after}
+use Rattle.n2k_run.specs.Fold.{after_all}
+use Rattle.n2k_run.specs.FramesOut.{frame_counts_of, frames_output}
+use Rattle.n2k_run.specs.Parts.{EndsAtLine, Continues, HasPart, IsOfKind, IsPartOf, RefusedByMemory, RunsFrom, TellsRun}
+use Rattle.n2k_run.specs.Plain.{plain_counts_of, plain_output}
+use Rattle.n2k_run.specs.Reports.{summary_text}
+use Rattle.n2k_run.specs.Runs.{Devices, Output, ReportsFirst, Runs, output_from}
+use Rattle.n2k_run.specs.declared.fault.RunFault.{RunFault}
+use Rattle.n2k_run.specs.declared.fault.RunFault.TheVariants as run
+use Rattle.n2k_run.specs.declared.options.Options.{Options}
+use Rattle.n2k_run.specs.declared.part.Part.{Part}
+use Rattle.n2k_run.specs.declared.part.PartFault.{PartFault}
+use Rattle.n2k_run.specs.declared.part.PartFault.TheVariants as part_faults
+use Rattle.n2k_run.proofs.Parting.{line_fronts, told_ok, told_stopped}
+use Rattle.n2k_run.proofs.Running.{known_more}
+use Rattle.n2kdec.specs.CommandLine.Asked.{save_name}
+use Rattle.n2kdec.specs.Run.Commands.{ClosesWhole, Decodes, Effect, Ends, EndsByTable, EndsUnlessRefused, IsSaved, IsStopped, IsUntouched, IsWrittenUnlessFailed, SaveAttempt, Performs, Place, PrintsRest, Replaces, StoreView, SumsUpPart, decode_from, decode_to, entries_for, frames_effect, no_saving, place, shelf}
+use Rattle.n2kdec.specs.Fault.{fault_of_run}
+use Rattle.n2kdec.specs.Inner.Closing.{Closes, ClosesPart, IsOfEnd}
+use Rattle.n2kdec.specs.Run.Told.{Counts as CountsOf, Tells, Told}
+use Rattle.n2kdec.specs.declared.command_line.asked.Subcommand.{Subcommand}
+use Rattle.n2kdec.specs.declared.command_line.asked.Subcommand.TheVariants.{Plain, Decode, Frames}
+use Rattle.n2kdec.specs.declared.run.ending.CommandOutcome.{CommandOutcome}
+use Rattle.n2kdec.specs.declared.fault.Fault.{Fault}
+use Rattle.n2kdec.specs.declared.fault.Fault.TheVariants.{Memory, Read, Table}
+use Rattle.n2kdec.specs.declared.fault.InputFile.TheVariants as reading
+use Rattle.n2kdec.specs.declared.save.keeper.SaveError.{SaveError}
+
+-- a text follows what was written first
+more_after : (old mid new : Option (List ℕ)) (text more : List ℕ) → (rest : List ℕ) × Appends old mid (text ++ rest) → Appends mid new more → (rest : List ℕ) × Appends old new (text ++ rest)
+more_after old mid new text more first then = (first.0 ++ more, rw append_assoc at (Appends-trans old mid new (text ++ first.0) more first.1 then))
+
+-- what is reported of a run's fault: after a failed read the state was kept, or could not be for this
+abbrev told_so : Option SaveError → RunFault → ℕ → Fault
+told_so unkept run.Read lines = Read lines None unkept
+told_so unkept f lines = fault_of_run f lines
+
+-- a command made its run, which left the devices so except the errors, which then took a summary or a prefix of it
+module _ (before after : Devices) (errors : Place) where
+  abbrev mid : Devices
+  mid = record after { reported = errors.text; failed_reports = errors.failed }
+
+  abbrev summed : Place
+  summed = place after.reported after.failed_reports
+
+  module _ (c : Effect) (stands : List Entry → Type 0) where
+    -- nothing is written, and nothing is saved
+    abbrev IsLeft : Type 0
+    IsLeft = (summed ≡ errors) × IsUntouched c.saving
+
+    -- what follows the fault of a run: the summary of the lines that it has taken, or nothing
+    abbrev Follows : Option SaveError → RunFault → Type 0
+    Follows unkept run.Read = (es : List Entry) → stands es → SumsUpPart c.sums_up_a_part errors summed (summary_text (c.counts es))
+        × Replaces c.saving.before c.saving.after (c.saving.state es) errors.text unkept
+    Follows unkept run.TooManyLines = (es : List Entry) → stands es → SumsUpPart c.sums_up_a_part errors summed (summary_text (c.counts es))
+        × IsUntouched c.saving
+    Follows unkept _ = IsLeft
+
+    still_first : (more : List ℕ) × Appends errors.text after.reported more → IfSome before.left (ReportsFirst c.output before mid) → IfSome before.left (ReportsFirst c.output before after)
+    still_first then = known_more before.left _ _ (λ log first. record {
+      taken = first.taken;
+      left = first.left;
+      lines_taken = first.lines_taken;
+      printed = first.printed;
+      reported = more_after before.reported errors.text after.reported (c.output.reports first.taken) then.0 first.reported then.1;
+    })
+
+    -- a run's fault stops a command
+    stopped_by_run : {T : Type 0} (unkept : Option SaveError) (f : RunFault) (lines : ℕ) → Runs {T = T} c.output stands before mid (Err f) → Follows unkept f → (more : List ℕ) × Appends errors.text after.reported more
+        → IsStopped c before after (told_so unkept f lines)
+    stopped_by_run unkept f lines ran follows then = grind (arith, still_first)
+
+    left_at_line : (ran : Result (Unit {0}) RunFault) → EndsAtLine ran → c.sums_up_a_part ≡ true → Runs c.output stands before mid ran → IsLeft → IsStopped c before after (Memory (Some reading.Log))
+    left_at_line ran line part runs left = grind (arith, line_fronts)
+
+    -- a run came to its end, and what is saved and summed up is what the command saves and counts
+    module _ {T : Type 0} (x : T) (text : List ℕ) (counts : Counts) (ran : Runs {T = T} c.output stands before mid (Ok x))
+        (counted : (counts ≡ c.counts (entries_for c ran.ends.came)) × (text ≡ c.saving.state (entries_for c ran.ends.came))) where
+      saved : (unkept : Option SaveError) → Replaces c.saving.before c.saving.after text errors.text unkept → IsSaved c before unkept (entries_for c ran.ends.came)
+      saved unkept keeps = (errors.text, ran.ends.gained.reported, subst (λ t. Replaces c.saving.before c.saving.after t errors.text unkept) counted.1 keeps)
+
+      first : IsWrittenUnlessFailed errors summed (summary_text counts) → IfSome before.left (ReportsFirst c.output before after)
+      first said = grind (arith, still_first)
+
+      ended_by_closing : (r : Result CommandOutcome Fault) → Closes c.saving.before c.saving.after errors summed text counts r → Ends c before after r
+      ended_by_closing r closes = grind (arith, saved, Appends-trans, first)
+
+  -- the run of a whole log, which is then closed: no state is saved
+  module _ (output : Output) (counts_of : List Entry → Counts) where
+    abbrev whole_effect : Effect
+    whole_effect = record { output = output; counts = counts_of; saving = no_saving; sums_up_a_part = false }
+
+    ended_whole : (counts : Counts) (ended : Result (Unit {0}) RunFault) (r : Result CommandOutcome Fault) → Runs output (λ es. counts ≡ counts_of es) before mid ended
+        → ClosesWhole errors summed counts ended r → Ends whole_effect before after r
+    ended_whole counts (Ok x) r runs closes = ended_by_closing whole_effect (λ es. counts ≡ counts_of es) x [] counts runs (runs.ends.holds, refl) r (inl ((refl, refl), closes))
+    ended_whole counts (Err fault) r runs closes = grind arith
+
+  -- the run of a part, which is then closed
+  module _ (o : Output) (stands_at : List Entry → StateOf) (t : TableParts) (options : Options) (keeper kept : StoreView) where
+    abbrev c : Effect
+    c = decode_to o stands_at keeper kept
+
+    summary_of : (part : Part) (es : List Entry) → IsPartOf t options (stands_at es) part → IsWrittenUnlessFailed errors summed (summary_text part.counts)
+        → IsWrittenUnlessFailed errors summed (summary_text (c.counts es))
+    summary_of part es is written = subst (λ n. IsWrittenUnlessFailed errors summed (summary_text n)) is.counted written
+
+    saved_so : (part : Part) (es : List Entry) (unkept : Option SaveError) → IsPartOf t options (stands_at es) part → Replaces keeper kept part.state.items errors.text unkept
+        → Replaces keeper kept (c.saving.state es) errors.text unkept
+    saved_so part es unkept is keeps = subst (λ s. Replaces keeper kept s errors.text unkept) is.saved keeps
+
+    -- no command that has begun ends by a refusal
+    unless : (r : Result CommandOutcome Fault) → Ends c before after r → EndsUnlessRefused c before after r
+    unless r done = grind arith
+
+    closed : (of : Told) (ended : Result Part PartFault) (r : Result CommandOutcome Fault) → IsOfKind ended → RefusedByMemory ended
+        → TellsRun o (λ es. HasPart t options ended (stands_at es)) before mid ended → ClosesPart of keeper kept errors summed ended r → EndsUnlessRefused c before after r
+    closed of (Ok part) r kind memory told closes =
+        unless r (ended_by_closing c _ tt part.state.items part.counts (told_ok o before mid _ part told) (grind arith) r closes)
+    closed of (Err (part_faults.Stopped run.Read part)) r kind memory told closes =
+        grind (arith, stopped_by_run c _ closes.0 run.Read part.counts.lines (told_stopped o before mid _ run.Read part told), summary_of, saved_so)
+    closed of (Err (part_faults.Stopped run.TooManyLines part)) r kind memory told closes =
+        grind (arith, stopped_by_run c _ None run.TooManyLines part.counts.lines (told_stopped o before mid _ run.TooManyLines part told), summary_of)
+    closed of (Err (part_faults.Stopped _ part)) r kind memory ran closes = grind arith
+    closed of (Err (part_faults.Run fault)) r kind memory told closes = grind arith
+    closed of (Err (part_faults.State fault)) r kind memory ran closes = grind arith
+    closed of (Err part_faults.Memory) r kind memory told closes = grind (arith, left_at_line c _ told.ran told.ended refl told.runs)
+
+  -- by a table that is taken
+  module _ (bytes : List ℕ) (o : Options) (handed : Option (List ℕ)) (keeper kept : StoreView) where
+    abbrev t : TableParts
+    t = table_of bytes
+
+    rest_of : (front : List ℕ) (of : Told) (ended : Result Part PartFault) (r : Result CommandOutcome Fault) → Continues t o front before mid ended → ClosesPart of keeper kept errors summed ended r
+        → IfOk r (λ ending. IfSome before.left (λ log. PrintsRest t o front log before after keeper kept ending.status))
+    rest_of front of ended r goes closes = grind (arith, known_more, Appends-trans)
+
+    decoded : (of : Told) (ended : Result Part PartFault) (r : Result CommandOutcome Fault) → faults bytes ≡ [] → RunsFrom t o handed before mid ended → ClosesPart of keeper kept errors summed ended r
+        → Decodes bytes o handed before after keeper kept r
+    decoded of ended r none runs closes = record {
+      judged = grind arith;
+      steps = λ s is. grind (arith, closed (output_from (join_fold t o.empty) o.packing s) (after_all (join_fold t o.empty) s) t o keeper kept);
+      log = λ front is. grind (arith, closed (output_after t o front) (λ es. state t.id o.window (kind t) (front ++ es)) t o keeper kept);
+      headline = λ front is. rest_of front of ended r (runs.headline front is) closes;
+    }
+
+-- the lines that are counted after a failed read are those of what came
+counts_read : {t : TableParts} (o : Options) (s : StateOf) (part : Part) (before after : Devices) (errors : Place)
+    → TellsRun (output_from (join_fold t o.empty) o.packing s) (λ es. HasPart t o (Err (part_faults.Stopped run.Read part)) (after_all (join_fold t o.empty) s es)) before (mid before after errors) (Err (part_faults.Stopped run.Read part))
+    → CountsOf (decode_from t o s (shelf None None) (shelf None None)) before.left after.left part.counts.lines
+counts_read o s part before after errors told =
+    let runs = told_stopped _ before (mid before after errors) _ run.Read part told in
+    (runs.ends.came, runs.ends.given, ap (λ (n : Counts). n.lines) runs.ends.holds.counted)
+
+-- what `decode` tells is so
+told_part : (bytes : List ℕ) (handed : Option (List ℕ)) (before after : Devices) (errors : Place) (o : Options) (save : Option Text) (of : Told) (keeper kept : StoreView) (ended : Result Part PartFault) (r : Result CommandOutcome Fault)
+    → RunsFrom (table_of bytes) o handed before (mid before after errors) ended → IsOfEnd (table_of bytes).id o handed ended of → ClosesPart of keeper kept errors (summed before after errors) ended r
+    → IfErr r (Tells (Decode o save) bytes handed before.left after.left)
+told_part bytes handed before after errors o save of keeper kept (Ok part) r runs of_end closes = grind arith
+told_part bytes handed before after errors o save of keeper kept (Err (part_faults.Stopped run.Read part)) r runs of_end closes =
+    subst (λ r. IfErr r (Tells (Decode o save) bytes handed before.left after.left)) (sym closes.1) (λ s begun. counts_read o s part before after errors (runs.steps s begun))
+told_part bytes handed before after errors o save of keeper kept (Err (part_faults.Stopped fault part)) r runs of_end closes = grind arith
+told_part bytes handed before after errors o save of keeper kept (Err (part_faults.State fault)) r runs of_end closes = grind arith
+told_part bytes handed before after errors o save of keeper kept (Err (part_faults.Run fault)) r runs of_end closes = grind arith
+told_part bytes handed before after errors o save of keeper kept (Err part_faults.Memory) r runs of_end closes = grind arith
+
+-- a command that has no state ends so by a table that is taken
+by_table : (found : List TableFault) (c : Effect) (before after : Devices) (r : Result CommandOutcome Fault) → found ≡ [] → Ends c before after r → EndsByTable found c before after r
+by_table found c before after (Ok ending) none done = (none, done)
+by_table found c before after (Err fault) none stopped = grind arith
+
+-- The command that was named does what its run and the closing say, and what it tells is so.
+module _ (task : Subcommand) (bytes : List ℕ) (handed : Option (List ℕ)) (before after : Devices) (errors : Place) (r : Result CommandOutcome Fault) where
+  abbrev performs_with : Option (List SaveAttempt) → Option (List SaveAttempt) → Subcommand → Type 0
+  performs_with had has k = Performs k bytes handed before after (shelf (save_name k) had) (shelf (save_name k) has) r
+
+  abbrev tells_by : Subcommand → Type 0
+  tells_by k = IfErr r (Tells k bytes handed before.left after.left)
+
+  module _ (had : Option (List SaveAttempt)) (counts : Counts) (ended : Result (Unit {0}) RunFault) (closes : ClosesWhole errors (summed before after errors) counts ended r) where
+    module _ (is : task ≡ Plain) (runs : Runs plain_output (λ es. counts ≡ plain_counts_of es) before (mid before after errors) ended) where
+      pub performs_plain : performs_with had had task
+      performs_plain = subst (performs_with had had) (sym is) (refl, ended_whole before after errors plain_output plain_counts_of counts ended r runs closes)
+
+      told_plain : tells_by Plain
+      told_plain = grind arith
+
+      pub tells_plain : tells_by task
+      tells_plain = subst tells_by (sym is) told_plain
+
+    module _ (interface told : Option Text) (t : TableParts) (is : task ≡ Frames interface) (is_told : told ≡ interface) (read : (faults bytes ≡ []) × (t ≡ table_of bytes))
+        (ran : Runs (frames_output t told) (λ es. counts ≡ frame_counts_of (kind t) told es) before (mid before after errors) ended) where
+      abbrev runs_by : TableParts → Option Text → Type 0
+      runs_by t i = Runs (frames_output t i) (λ es. counts ≡ frame_counts_of (kind t) i es) before (mid before after errors) ended
+
+      ran_frames : runs_by (table_of bytes) interface
+      ran_frames = subst (runs_by (table_of bytes)) is_told (subst (λ t. runs_by t told) read.1 ran)
+
+      pub performs_frames : performs_with had had task
+      performs_frames = subst (performs_with had had) (sym is) (
+        refl,
+        by_table (faults bytes) (frames_effect (table_of bytes) interface) before after r read.0
+            (ended_whole before after errors (frames_output (table_of bytes) interface) (frame_counts_of (kind (table_of bytes)) interface) counts ended r ran_frames closes),
+      )
+
+      told_frames : runs_by (table_of bytes) interface → tells_by (Frames interface)
+      told_frames its = grind arith
+
+      pub tells_frames : tells_by task
+      tells_frames = subst tells_by (sym is) (told_frames ran_frames)
+
+  module _ (had has : Option (List SaveAttempt)) (o : Options) (save : Option Text) (of : Told) (ended : Result Part PartFault) (t : TableParts) (is : task ≡ Decode o save) (read : (faults bytes ≡ []) × (t ≡ table_of bytes))
+      (ran : RunsFrom t o handed before (mid before after errors) ended) (closes : ClosesPart of (shelf save had) (shelf save has) errors (summed before after errors) ended r) where
+    ran_part : RunsFrom (table_of bytes) o handed before (mid before after errors) ended
+    ran_part = subst (λ t. RunsFrom t o handed before (mid before after errors) ended) read.1 ran
+
+    pub performs_decode : performs_with had has task
+    performs_decode = subst (performs_with had has) (sym is) (decoded before after errors bytes o handed (shelf save had) (shelf save has) of ended r read.0 ran_part closes)
+
+    pub tells_decode : IsOfEnd t.id o handed ended of → tells_by task
+    tells_decode of_end = subst tells_by (sym is) (told_part bytes handed before after errors o save of (shelf save had) (shelf save has) ended r ran_part
+        (subst (λ t. IsOfEnd t.id o handed ended of) read.1 of_end) closes)
+
+-- the table is refused
+module _ (task : Subcommand) (bytes : List ℕ) (handed : Option (List ℕ)) (at : Devices) (had : Option (List SaveAttempt)) (fault : TableFault) (stands : fault ≢ table_faults.Memory → Contains (faults bytes) fault) where
+  abbrev refuses : Subcommand → Type 0
+  refuses k = Performs k bytes handed at at (shelf (save_name k) had) (shelf (save_name k) had) (Err (Table fault))
+
+  pub decode_refused : (o : Options) (save : Option Text) → task ≡ Decode o save → refuses task
+  decode_refused o save is = subst refuses (sym is) (record { judged = stands; steps = λ s begun. tt; log = λ front begun. tt; headline = λ front begun. tt })
+
+  pub frames_refused : (interface : Option Text) → task ≡ Frames interface → refuses task
+  frames_refused interface is = subst refuses (sym is) (refl, (stands, refl))

@@ -1,0 +1,4 @@
+pub mod Destination
+pub mod Folder
+pub mod StateStore
+pub mod Replacement

@@ -1,0 +1,70 @@
+-- Which states are kept, and why others are not.
+use Rattle.std.specs.Prelude.{◌≡◌, ◌⊎◌, ◌&&◌, ◌||◌, List, ℕ, Bool, true, false, Option, Some, None, IfSome, codes}
+use Rattle.std.specs.Prelude.{Result, Ok, Err}
+use Rattle.clap.specs.Words.{Text}
+use Rattle.n2k_wire.specs.Steps.{◌>>=◌}
+use Rattle.n2kdec.specs.Save.Destination.{destination, feeds, leads}
+use Rattle.n2kdec.specs.System.Disk.{Acts, Answers, IsError, IsOfMemory, Why}
+use Rattle.n2kdec.specs.Save.Replacement.{KeepsText}
+use Rattle.n2kdec.specs.declared.command_line.asked.Files.{Files}
+use Rattle.n2kdec.specs.declared.save.destination.Destination.{Destination}
+use Rattle.n2kdec.specs.declared.save.destination.Kind.{Kind}
+use Rattle.n2kdec.specs.declared.save.destination.Kind.TheVariants.{Special}
+use Rattle.n2kdec.specs.declared.save.keeper.SaveError.{SaveError}
+use Rattle.n2kdec.specs.declared.save.keeper.SaveError.TheVariants.{Harm, Unfound, Failed}
+
+-- ---- what would be harmed
+
+-- the file and what this path leads to, if one is given, are one regular file or one pipe
+abbrev pub meets : Answers → Text → Option Text → Bool
+meets a own None = false
+meets a own (Some path) = feeds a own path
+
+-- the path of the log: without one that of standard input
+abbrev pub read_log : Option Text → Text
+read_log None = codes "/dev/stdin"
+read_log (Some path) = path
+
+-- a file is the table, the log or standard error, to which the summary goes later
+abbrev pub meets_files : Answers → Text → Files → Bool
+meets_files a own files =
+    meets a own files.table || feeds a own (read_log files.log) || leads a own (codes "/dev/stderr")
+
+-- a text that is kept there takes the place of what the file has; to a special file it is appended
+abbrev pub replaces : Kind → Bool
+replaces Special = false
+replaces _ = true
+
+-- The name's own file is one of these; or standard output, if it is replaced.
+abbrev pub harms_target : Answers → Destination → Files → Bool
+harms_target a to files = meets_files a to.target files || (replaces to.kind && leads a to.target (codes "/dev/stdout"))
+
+-- The new file is one of these; or the state to go on from, or standard output.
+abbrev pub harms_temp : Answers → Text → Files → Bool
+harms_temp a own files = meets_files a own files || meets a own files.state || leads a own (codes "/dev/stdout")
+
+-- whether a state of this name would harm what is read or printed to
+unfoldable pub harms : Answers → Text → Files → Result Bool Why
+harms a name files = do
+  to ← destination a name
+  Ok (harms_target a to files || harms_temp a to.temp files)
+
+-- A state is admitted only if its place is found and nothing would be harmed there. It is refused as Harm only if
+-- something would be harmed there, and as Unfound only if the place can't be found out, by this error, or memory is
+-- refused.
+abbrev pub Admits : {T : Type 0} → Option Answers → Text → Files → Result T SaveError → Type 0
+Admits answers name files (Ok done) = IfSome answers (λ a. harms a name files ≡ Ok false)
+Admits answers name files (Err Harm) = IfSome answers (λ a. harms a name files ≡ Ok true)
+Admits answers name files (Err (Unfound error)) =
+    IfSome answers (λ a. IsError (harms a name files) error ⊎ IsOfMemory error)
+Admits answers name files (Err (Failed error)) = ⊥
+
+-- the result whether a state of a name may be kept by a run of these files, if known
+abbrev pub Admission : Type 0
+Admission = Text → Files → Option (Result (Unit {0}) SaveError)
+
+-- a state is kept as a text is, and a failure is the error of that
+abbrev pub KeepsState : Option Answers → Acts → Acts → Text → List ℕ → Result (Unit {0}) SaveError → Type 0
+KeepsState answers old new name state (Ok kept) = KeepsText answers old new name state (Ok kept)
+KeepsState answers old new name state (Err (Failed error)) = KeepsText answers old new name state (Err error)
+KeepsState answers old new name state (Err _) = ⊥

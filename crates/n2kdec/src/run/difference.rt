@@ -1,0 +1,128 @@
+//! What a state is of that is refused for it.
+ghost use Rattle.std.specs.Prelude.{◌≡◌, IfOk, option_map};
+ghost use Rattle.hex.specs.Hex.{encode_lower};
+ghost use Rattle.serde_json.specs.View.{view};
+ghost use Rattle.n2k_join.specs.Resumed.{parsed};
+ghost use Rattle.n2kdec.specs.Run.Told.{Differs, digits_in, number_in, tables, tables_in, text_in, windows, windows_in};
+
+use n2k_join::StateFault;
+use n2k_run::Options;
+use n2k_table::Table;
+use serde_json::Value;
+use std::alloc::{AllocError, Global};
+
+/// What a state is of that is refused for it.
+#[derive(Clone, Copy, Debug, PartialEq, Eq)]
+pub enum StateMismatch {
+    /// The SHA-256 of the table with which it was saved, as the state has it, and of the given table, in digits.
+    Tables([u8; 64], [u8; 64]),
+    /// The lines of the window that it was saved under, and those of the window that was asked for.
+    Windows(u64, u64),
+}
+
+/// The value of a state, if it is JSON.
+fn parsed(alloc: Global, state: &[u8]) -> Result<Option<Value>, AllocError>
+    ensures { IfOk result (λ value. option_map (λ v. view v) value ≡ parsed state.now) }
+{
+    match Value::from_slice(alloc, state) {
+        Ok(value) => Ok(Some(value)),
+        Err(error) if error.is_memory() => Err(AllocError),
+        Err(_) => Ok(None),
+    }
+}
+
+/// The text of a member.
+fn text_in<'a>(name: &str, value: &'a Value) -> Option<&'a str>
+    ensures { option_map (λ text. text.now) result ≡ text_in name.now (view value.now) }
+{
+    value.get(name)?.as_str()
+}
+
+/// The whole number of a member.
+fn number_in(name: &str, value: &Value) -> Option<u64>
+    ensures { result ≡ number_in name.now (view value.now) }
+{
+    value.get(name)?.as_u64()
+}
+
+/// The digits of a SHA-256, if they are as many.
+fn digits_of(text: &str) -> Option<[u8; 64]>
+    ensures { option_map (λ digits. digits) result ≡ digits_in text.now }
+{
+    let mut digits = [0; 64];
+    if text.len() != digits.len() {
+        return None;
+    }
+    digits.copy_from_slice(text.as_bytes());
+    Some(digits)
+}
+
+/// The digits of a table's SHA-256.
+fn id_of(table: &Table) -> [u8; 64]
+    ensures { result ≡ encode_lower table.now.id }
+{
+    let mut digits = [0; 64];
+    let _ = hex::encode_to_slice(table.id(), &mut digits);
+    digits
+}
+
+/// The table that the state of this value was saved under, and the table.
+fn tables_in(table: &Table, value: &Value) -> Option<StateMismatch>
+    ensures { result ≡ tables_in table.now.id (view value.now) }
+{
+    let saved = digits_of(text_in("table", value)?)?;
+    Some(StateMismatch::Tables(saved, id_of(table)))
+}
+
+/// The window that the state of this value was saved under, and this one.
+fn windows_in(options: &Options, value: &Value) -> Option<StateMismatch>
+    ensures { result ≡ windows_in options.now.window.lines (view value.now) }
+{
+    let saved = number_in("window", value)?;
+    Some(StateMismatch::Windows(saved, u64::from(options.window.get())))
+}
+
+/// The table that a state was saved under, and the table.
+fn tables(alloc: Global, table: &Table, state: &[u8]) -> Result<Option<StateMismatch>, AllocError>
+    ensures { IfOk result (λ is. is ≡ tables table.now.id state.now) }
+{
+    match parsed(alloc, state)? {
+        Some(value) => Ok(tables_in(table, &value)),
+        None => Ok(None),
+    }
+}
+
+/// The window that a state was saved under, and this one.
+fn windows(
+    alloc: Global,
+    options: &Options,
+    state: &[u8],
+) -> Result<Option<StateMismatch>, AllocError>
+    ensures { IfOk result (λ is. is ≡ windows options.now.window.lines state.now) }
+{
+    match parsed(alloc, state)? {
+        Some(value) => Ok(windows_in(options, &value)),
+        None => Ok(None),
+    }
+}
+
+/// What a state that is refused by this fault was saved under, and what this run has. None if it is refused for another
+/// cause. An error if memory to find it out is refused.
+pub fn difference_of(
+    alloc: Global,
+    table: &Table,
+    options: &Options,
+    state: Option<&[u8]>,
+    fault: StateFault,
+) -> Result<Option<StateMismatch>, AllocError>
+    ensures { Differs table.now.id options.now (option_map (λ bytes. bytes.now) state.entry) fault result }
+{
+    let Some(state) = state else {
+        return Ok(None);
+    };
+    match fault {
+        StateFault::TableDiffers => tables(alloc, table, state),
+        StateFault::WindowDiffers => windows(alloc, options, state),
+        _ => Ok(None),
+    }
+}

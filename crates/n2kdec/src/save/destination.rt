@@ -1,0 +1,269 @@
+//! Where a state goes: the file to which a name leads, what that is, and the new file beside it.
+ghost use Rattle.std.specs.Prelude.{◌≡◌, suc, IfSome, IfOk, string_bytes};
+ghost use Rattle.std.specs.declared.io.ErrorKind.TheVariants.{InvalidFilename as Nameless};
+ghost use Rattle.n2k_wire.specs.Steps.{or_cause};
+ghost use Rattle.n2kdec.specs.Save.Destination.{are_one, are_one_file, are_one_input, behind, destination, feeds, folder_of};
+ghost use Rattle.n2kdec.specs.Save.Destination.{is_file, is_folder, is_missing, is_no_link};
+ghost use Rattle.n2kdec.specs.Save.Destination.{is_of_proc, is_open_file, is_shared, leads, linked, linked_path, new_path};
+ghost use Rattle.n2kdec.specs.Save.Destination.{if_there, target_of};
+ghost use Rattle.n2kdec.specs.System.Disk.{IsAnswer, IsAnswerUnlessMemory, OfKind};
+
+use crate::command_line::words::Word;
+use crate::system::disk::{Disk, Found};
+use std::alloc::{AllocError, Global};
+use std::io;
+use std::io::{Error, ErrorKind};
+use std::path::Path;
+
+/// What has a name.
+#[derive(Clone, Copy, Debug, PartialEq, Eq)]
+pub enum Kind {
+    /// A regular file of this name alone, or none.
+    Alone,
+    /// A regular file that has other names too.
+    Shared,
+    /// Not a regular file, for example a pipe or a device, or a path of an open file.
+    Special,
+}
+
+/// Where a state goes. The new file beside `boat` is `.boat.n2kdec-new`.
+#[derive(Drop)]
+pub struct Destination {
+    /// The path after all links, or the name itself if it is special.
+    pub target: Word,
+    /// That of the new file beside it.
+    pub temp: Word,
+    /// What is there.
+    pub kind: Kind,
+    /// Who may read, write and run it, if it is there.
+    pub mode: Option<u32>,
+}
+
+/// As many links are followed, one to the next, as the system follows.
+const MOST_LINKS: usize = 40;
+
+/// Those bits of a mode that say who may read, write and run a file.
+const PERMISSIONS: u32 = 0o777;
+
+/// The path of the folder in which a path lies, as it is written: `.` if it names none.
+pub fn folder_of(path: &str) -> &str
+    ensures { result.now ≡ folder_of path.now }
+{
+    match Path::new(path).parent() {
+        Some(folder) if !folder.as_str().is_empty() => folder.as_str(),
+        _ => ".",
+    }
+}
+
+/// The path to which a link at this path leads, by the text of the link.
+fn linked_path(alloc: Global, path: &str, link: &str) -> Result<Word, AllocError>
+    ensures { IfOk result (λ next. next ≡ linked_path path.now link.now) }
+{
+    let folder = Path::new(path).parent().unwrap_or(Path::new(""));
+    Ok(Word::of(folder.join(alloc, link)?.into_string()))
+}
+
+/// The path of the new file beside that of this path: hidden, with the program's name, and the same for each run. An error
+/// if the path doesn't end with a name, as `boat/` doesn't.
+fn new_path(alloc: Global, path: &str) -> io::Result<Word>
+    ensures { IsAnswerUnlessMemory (λ new. new) (or_cause (OfKind Nameless) (new_path path.now)) result }
+{
+    let path = Path::new(path);
+    let name = match path.file_name() {
+        Some(name) if path.as_str().as_bytes().ends_with(name.as_bytes()) => name,
+        _ => return Err(Error::from(ErrorKind::InvalidFilename)),
+    };
+    let hidden = format!(in alloc; ".{name}.n2kdec-new")?;
+    Ok(Word::of(path.with_file_name(alloc, hidden.as_str())?.into_string()))
+}
+
+/// Whether nothing is there.
+pub fn is_missing(why: ErrorKind) -> bool
+    ensures { result ≡ is_missing why }
+{
+    matches!(why, ErrorKind::NotFound)
+}
+
+/// Whether it is something other than a link.
+fn is_no_link(why: ErrorKind) -> bool
+    ensures { result ≡ is_no_link why }
+{
+    matches!(why, ErrorKind::InvalidInput | ErrorKind::NotFound)
+}
+
+/// Whether a folder of this path, after all links, is in `/proc`.
+#[tactic(auto, unfolding(crate::specs::Save::Destination::is_of_proc))]
+fn is_of_proc(folder: &str) -> bool
+    ensures { result ≡ is_of_proc folder.now }
+{
+    folder == "/proc" || folder.as_bytes().starts_with(b"/proc/")
+}
+
+/// Whether a path names an open file: its folder is one of `/proc`, as the folder of `/dev/fd/3` is. An error if the folder
+/// is missing.
+#[tactic(auto, unfolding(crate::specs::Save::Destination::is_open_file))]
+fn is_open_file<D: Disk>(disk: &D, path: &str) -> io::Result<bool>
+    ensures { IfSome (D.answers disk.now) (λ a. IsAnswerUnlessMemory (λ is_open. is_open) (is_open_file a path.now) result) }
+{
+    let folder = disk.canonicalize(folder_of(path))?;
+    Ok(is_of_proc(folder.as_str()))
+}
+
+/// The path to which the link at this path leads; none if it is not a link.
+fn follow<D: Disk>(alloc: Global, disk: &D, path: &str) -> io::Result<Option<Word>>
+    ensures { IfSome (D.answers disk.now) (λ a. IsAnswerUnlessMemory (λ next. next)
+        (linked path.now (a.link path.now)) result) }
+{
+    match disk.read_link(path) {
+        Ok(link) => Ok(Some(linked_path(alloc, path, link.as_str())?)),
+        Err(error) if is_no_link(error.kind()) => Ok(None),
+        Err(error) => Err(error),
+    }
+}
+
+/// The path after all links, of which so many are looked at, one after the other; none if one on the way leads to
+/// an open file.
+#[tactic(auto, using(crate::proofs::save::Finding::links))]
+fn behind<D: Disk>(alloc: Global, disk: &D, path: &str, looks: usize) -> io::Result<Option<Word>>
+    ensures { IfSome (D.answers disk.now) (λ a. IsAnswerUnlessMemory (λ path. path) (behind looks a path.now) result) }
+{
+    if looks == 0 {
+        return Err(Error::from(ErrorKind::FilesystemLoop));
+    }
+    if is_open_file(disk, path)? {
+        return Ok(None);
+    }
+    match follow(alloc, disk, path)? {
+        Some(next) => behind(alloc, disk, next.as_str(), looks - 1),
+        None => Ok(Some(Word::new(alloc, path)?)),
+    }
+}
+
+/// What is at a name, over links; none if nothing is there.
+fn look<D: Disk>(disk: &D, name: &str) -> io::Result<Option<Found>>
+    ensures { IfSome (D.answers disk.now) (λ a. IsAnswer (λ found. found) (if_there (a.found name.now)) result) }
+{
+    match disk.metadata(name) {
+        Ok(found) => Ok(Some(found)),
+        Err(error) if is_missing(error.kind()) => Ok(None),
+        Err(error) => Err(error),
+    }
+}
+
+/// Whether nothing is there, or a regular file.
+fn is_file(was: &Option<Found>) -> bool
+    ensures { result ≡ is_file was.now }
+{
+    match was {
+        Some(found) => found.is_file,
+        None => true,
+    }
+}
+
+/// Whether a name is that of a folder.
+fn is_folder(was: &Option<Found>) -> bool
+    ensures { result ≡ is_folder was.now }
+{
+    match was {
+        Some(found) => found.is_folder,
+        None => false,
+    }
+}
+
+/// Whether it has other names too.
+fn is_shared(was: &Option<Found>) -> bool
+    ensures { result ≡ is_shared was.now }
+{
+    match was {
+        Some(found) => found.links > 1,
+        None => false,
+    }
+}
+
+/// The path after the links at a name, which had this, and its kind. An error if it is a folder.
+#[tactic(auto, unfolding(crate::specs::Save::Destination::target_of))]
+fn target_of<D: Disk>(
+    alloc: Global,
+    disk: &D,
+    name: &str,
+    was: &Option<Found>,
+) -> io::Result<(Word, Kind)>
+    ensures { IfSome (D.answers disk.now) (λ a. IsAnswerUnlessMemory (λ to. to) (target_of a name.now was.now) result) }
+{
+    if is_folder(was) {
+        return Err(Error::from(ErrorKind::IsADirectory));
+    }
+    if is_file(was)
+        && let Some(target) = behind(alloc, disk, name, MOST_LINKS + 1)?
+    {
+        return Ok((
+            target,
+            if is_shared(was) {
+                Kind::Shared
+            } else {
+                Kind::Alone
+            },
+        ));
+    }
+    Ok((Word::new(alloc, name)?, Kind::Special))
+}
+
+/// Finds the destination of a state of this name.
+#[tactic(auto, unfolding(crate::specs::Save::Destination::destination))]
+pub fn find<D: Disk>(alloc: Global, disk: &D, name: &str) -> io::Result<Destination>
+    ensures { IfSome (D.answers disk.now) (λ a. IsAnswerUnlessMemory (λ to. to) (destination a name.now) result) }
+{
+    let was = look(disk, name)?;
+    let (target, kind) = target_of(alloc, disk, name, &was)?;
+    let temp = new_path(alloc, target.as_str())?;
+    let mode = was.map(|was| was.mode & PERMISSIONS);
+    Ok(Destination {
+        target,
+        temp,
+        kind,
+        mode,
+    })
+}
+
+/// Whether both have one device and number, and so are one file of any kind.
+fn are_one(one: &Found, other: &Found) -> bool
+    ensures { result ≡ are_one one.now other.now }
+{
+    one.device == other.device && one.number == other.number
+}
+
+/// Whether both are one regular file.
+fn are_one_file(one: &Found, other: &Found) -> bool
+    ensures { result ≡ are_one_file one.now other.now }
+{
+    one.is_file && other.is_file && are_one(one, other)
+}
+
+/// Whether both are one regular file or one pipe, so that what is written to the one is read from the other.
+fn are_one_input(one: &Found, other: &Found) -> bool
+    ensures { result ≡ are_one_input one.now other.now }
+{
+    are_one_file(one, other) || one.is_pipe && other.is_pipe && are_one(one, other)
+}
+
+/// Whether both paths lead to one regular file or one pipe. If one of them can't be looked at, the paths are compared.
+#[tactic(auto, unfolding(crate::specs::Save::Destination::feeds))]
+pub fn feeds<D: Disk>(disk: &D, own: &str, path: &str) -> bool
+    ensures { IfSome (D.answers disk.now) (λ a. result ≡ feeds a own.now path.now) }
+{
+    match (disk.metadata(own), disk.metadata(path)) {
+        (Ok(one), Ok(other)) => are_one_input(&one, &other),
+        _ => path == own,
+    }
+}
+
+/// Whether both paths lead to one regular file. If one of them can't be looked at, the paths are compared.
+#[tactic(auto, unfolding(crate::specs::Save::Destination::leads))]
+pub fn leads<D: Disk>(disk: &D, own: &str, path: &str) -> bool
+    ensures { IfSome (D.answers disk.now) (λ a. result ≡ leads a own.now path.now) }
+{
+    match (disk.metadata(own), disk.metadata(path)) {
+        (Ok(one), Ok(other)) => are_one_file(&one, &other),
+        _ => own == path,
+    }
+}
