@@ -11,25 +11,25 @@ use Rattle.n2k_table.specs.Repeat.{RepeatParts}
 use Rattle.n2k_encode.specs.Refusal.{CauseParts, field, value}
 use Rattle.n2k_encode.specs.Steps.{first_of}
 
--- `null` is the same as nothing
+-- a given value; `null` counts as not given
 abbrev pub if_any : Option Json → Option Json
 if_any None = None
 if_any (Some j) = if is_null j then None else Some j
 
--- what a line gives for a field
+-- the value that a line gives for a field
 abbrev pub given : List ℕ → Json → Option Json
 given name fields = if_any (get name fields)
 
--- a field has the name, or it is that of the sets, if there are any
+-- the name of a field, or `list` if the definition has sets
 abbrev pub is_name : List FieldParts → Bool → List ℕ → Bool
 is_name fields has_list name = list_any (has_name name) fields || (has_list && bytes_eq name list_name)
 
--- the members of an object, and none of another value
+-- the members of an object; none of any other value
 abbrev pub members_in : Option Members → Members
 members_in None = no_members
 members_in (Some ms) = ms
 
--- the name of the first member that is given and does not pass
+-- the name of the first given member that fails the test
 abbrev pub first_failing : (List ℕ → Bool) → Members → Option (List ℕ)
 first_failing p no_members = None
 first_failing p (member k j ms) = if is_null j || p k then first_failing p ms else Some k
@@ -37,16 +37,16 @@ first_failing p (member k j ms) = if is_null j || p k then first_failing p ms el
 abbrev pub first_unknown : (List ℕ → Bool) → Json → Option (List ℕ)
 first_unknown p j = first_failing p (members_in (as_object j))
 
--- each name that is given is one of these
+-- each given name is the name of a field, or `list` if the definition has sets
 abbrev pub names_known : List FieldParts → Bool → Json → Bool
 names_known fields has_list j = is_none (first_unknown (is_name fields has_list) j)
 
--- the first name in these sets that no field of a set has
+-- the first given name in these sets that no field of the set has
 abbrev pub first_in_sets : List FieldParts → Items → Option (List ℕ)
 first_in_sets fields no_items = None
 first_in_sets fields (item j js) = first_of (first_unknown (is_name fields false) j) (first_in_sets fields js)
 
--- the sets, none if no list is given
+-- the given sets: none without `list`, `None` if `list` is not an array
 abbrev pub sets_of : Option Json → Option Items
 sets_of None = Some no_items
 sets_of (Some null) = None
@@ -63,8 +63,8 @@ abbrev pub are_objects : Items → Bool
 are_objects no_items = true
 are_objects (item j js) = is_some (as_object j) && are_objects js
 
--- What is wrong with the names that are given, those of the definition first, and then those of its sets. What stands at
--- `list` has to be an array of objects.
+-- The first fault of the given names: those of the definition first, then those of its sets. `list` must be an array of
+-- objects.
 abbrev pub wrong_in_sets : List FieldParts → Option Items → Option CauseParts
 wrong_in_sets fields None = Some (value list_name)
 wrong_in_sets fields (Some js) =

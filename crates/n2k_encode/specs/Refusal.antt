@@ -1,11 +1,11 @@
--- Why a line cannot be encoded: the causes with their numbers, and the names that they carry.
+-- Why a line cannot be encoded: the causes, their numbers and the names in them.
 use Rattle.std.specs.Prelude.{ℕ, Bool, true, false, List, [], ⊤}
 use Rattle.n2k_encode.specs.declared.refusal.EncodeError.{EncodeError}
 use Rattle.n2k_encode.specs.declared.refusal.EncodeError.TheVariants.{Memory, Refused}
 use Rattle.n2k_encode.specs.declared.refusal.Refusal.{Refusal}
 use Rattle.n2k_encode.specs.declared.refusal.Refusal.TheVariants.{Long, Json, Member, Unknown, Address, Description, Field, Value, Size, Data}
 
--- a cause, with the name of the field from B16 on, except B9
+-- a cause; B16, B17 and B18 have the name of a field
 pub data CauseParts : Type 0 where
   long : CauseParts
   not_json : CauseParts
@@ -18,7 +18,7 @@ pub data CauseParts : Type 0 where
   size : CauseParts
   none_shows : List ℕ → CauseParts
 
--- the cause that the code answers
+-- the cause that a refusal of the code means
 abbrev pub cause : Refusal → CauseParts
 cause Long = long
 cause Json = not_json
@@ -55,7 +55,7 @@ name_of (Value name) = name.now
 name_of Size = []
 name_of (Data name) = name.now
 
--- Causes that come after all names are known: a value, the size, or that no data show all that is given.
+-- Causes that are possible only if all names are known: a value, the size, or no data that show everything given.
 abbrev pub is_late : CauseParts → Bool
 is_late long = false
 is_late not_json = false
@@ -68,7 +68,7 @@ is_late (value name) = true
 is_late size = true
 is_late (none_shows name) = true
 
--- what holds of the cause, where memory was not refused
+-- this is true of the cause, unless memory was refused
 abbrev pub IfRefused : EncodeError → (CauseParts → Type 0) → Type 0
 IfRefused Memory holds = ⊤
 IfRefused (Refused refusal) holds = holds (cause refusal)

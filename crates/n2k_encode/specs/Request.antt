@@ -1,4 +1,4 @@
--- What a line asks for: who sends which fields to whom.
+-- The requested message: timestamp, identifier, description and fields.
 use Rattle.std.specs.Prelude.{ℕ, nat_lt, nat_le, Bool, true, false, ◌&&◌, ◌||◌, codes, List, Option, Some, None}
 use Rattle.std.specs.Prelude.{option_map, unwrap_or, if◌then◌else◌}
 use Rattle.std.specs.Str.{bytes_eq}
@@ -12,26 +12,26 @@ use Rattle.n2k_encode.specs.Numeral.{is_negative, digits_of, scaled, multiples}
 use Rattle.n2k_encode.specs.Refusal.{CauseParts, not_json, member as bad_member}
 use Rattle.n2k_encode.specs.Steps.{◌>>=◌}
 
--- what a line asks for: its timestamp, who sends what to whom, the description if it gives one, and the object `fields`
+-- the requested message: timestamp, identifier, the description if the line gives one, and the object `fields`
 pub record RequestParts : Type 0 where
   pub stamp : List ℕ
   pub id : Id
   pub description : Option (List ℕ)
   pub fields : Json
 
--- the names of a line's members
+-- the members that a line may have
 abbrev pub is_member : List ℕ → Bool
 is_member name =
     bytes_eq name (codes "pgn") || bytes_eq name (codes "fields") || bytes_eq name (codes "timestamp")
     || bytes_eq name (codes "prio") || bytes_eq name (codes "src") || bytes_eq name (codes "dst")
     || bytes_eq name (codes "description")
 
--- each member has one of them
+-- each member is known
 abbrev pub has_known : Members → Bool
 has_known no_members = true
 has_known (member k j ms) = is_member k && has_known ms
 
--- an object, each member of which has one of them
+-- an object whose members are all known
 abbrev pub members_known : Json → Bool
 members_known null = false
 members_known (boolean b) = false
@@ -40,18 +40,18 @@ members_known (string s) = false
 members_known (array js) = false
 members_known (object ms) = has_known ms
 
--- a number that is not below 0
+-- the number, unless it is negative
 abbrev pub not_below : Bool → ℕ → Option ℕ
 not_below negative n = if negative && nat_lt 0 n then None else Some n
 
--- a JSON number that is a whole number from 0 on, however it is written
+-- the value of a JSON number that is whole and not negative, in any spelling
 unfoldable pub whole_number : List ℕ → Option ℕ
 whole_number text = do
   size ← scaled 1 (scan (digits_of text))
   n ← multiples false 0 10 size
   not_below (is_negative text) n
 
--- a whole number up to a limit
+-- the value of a JSON value that is a whole number from 0 to the limit
 unfoldable pub whole_to : ℕ → Json → Option ℕ
 whole_to limit j = do
   text ← as_number j
@@ -68,12 +68,12 @@ greatest_priority = 7
 abbrev pub greatest_address : ℕ
 greatest_address = 255
 
--- the number of a member, or another if it is missing
+-- the number of a member, or the default if it is missing
 abbrev pub number_or : ℕ → ℕ → Option Json → Option ℕ
 number_or other limit None = Some other
 number_or other limit (Some j) = whole_to limit j
 
--- the PGN has to be there; the priority is 6, the source 0 and the destination all if the line has none
+-- The PGN is required. Defaults are priority 6, source 0 and destination 255 (all).
 unfoldable pub id_of : Json → Option Id
 id_of j = do
   d ← get (codes "pgn") j
@@ -83,12 +83,12 @@ id_of j = do
   dst ← number_or 255 greatest_address (get (codes "dst") j)
   Some (record { prio = prio; pgn = pgn; src = src; dst = dst })
 
--- the text of a member, if it is there
+-- the text of a member, if the line has the member
 abbrev pub optional_text : Option Json → Option (Option (List ℕ))
 optional_text None = Some None
 optional_text (Some j) = option_map Some (as_str j)
 
--- the timestamp of a line without one
+-- the default timestamp
 abbrev pub first_stamp : List ℕ
 first_stamp = codes "1970-01-01T00:00:00.000Z"
 
@@ -105,17 +105,17 @@ is_object (string s) = false
 is_object (array js) = false
 is_object (object ms) = true
 
--- the object at `fields`
+-- the member `fields`, if it is an object
 unfoldable pub fields_of : Json → Option Json
 fields_of j = do
   d ← get (codes "fields") j
   some_if (is_object d) d
 
--- why a value asks for nothing
+-- the cause if a value requests no message
 abbrev pub no_request : Json → CauseParts
 no_request j = if is_object j then bad_member else not_json
 
--- what the object of a line asks for
+-- the message that the object of a line requests
 unfoldable pub request : Json → Option RequestParts
 request j = do
   known ← some_if (members_known j) j

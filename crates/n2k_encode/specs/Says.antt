@@ -1,4 +1,4 @@
--- Whether what a field shows is what a line gives for it.
+-- Whether a field shows the value that a line gives.
 use Rattle.std.specs.Prelude.{ℕ, zero, suc, ℤ, pos, negsuc, ◌+◌, ◌-◌, ◌*◌, ◌==◌, nat_le, nat_lt, Bool, true, false, not, ◌&&◌, ◌||◌}
 use Rattle.std.specs.Prelude.{List, [], ◌∷◌, length, take, drop, Option, Some, None, if◌then◌else◌}
 use Rattle.std.specs.Char.Utf16.{utf16_lossy_chars}
@@ -29,8 +29,8 @@ has_sign negative (pos zero) = true
 has_sign negative (pos (suc n)) = not negative
 has_sign negative (negsuc n) = negative
 
--- The number x / 10 ^ e is the one that a text writes: exactly if the slack is 0, and else at most so many tenths of its
--- last decimal away from it.
+-- A text writes the number x / 10 ^ e: exactly if the slack is 0, otherwise to within `slack` tenths of the last
+-- decimal.
 unfoldable pub number_is : ℕ → ℤ → ℕ → List ℕ → Bool
 number_is slack x e text =
     has_sign (is_negative text) x && is_some_with (is_near slack (10 * unsigned_abs x)) (scaled (e + 1) (scan (digits_of text)))
@@ -44,7 +44,7 @@ half_unit _ = 0
 abbrev pub slack : Bool → Meaning → ℕ
 slack nearest meaning = if nearest then half_unit meaning else 0
 
--- what is left of a text that begins with these bytes
+-- the rest of a text that begins with these bytes
 abbrev pub after : List ℕ → List ℕ → Option (List ℕ)
 after front text = if bytes_eq (take (length front) text) front then Some (drop (length front) text) else None
 
@@ -52,12 +52,12 @@ abbrev pub is_empty : List ℕ → Bool
 is_empty [] = true
 is_empty (b ∷ bs) = false
 
--- a text has exactly the pieces of these numbers, one after the other
+-- a text consists of the pieces of these numbers, in order, and nothing else
 abbrev pub has_pieces : (ℕ → List ℕ) → List ℕ → List ℕ → Bool
 has_pieces piece [] text = is_empty text
 has_pieces piece (n ∷ ns) text = is_some_with (has_pieces piece ns) (after (piece n) text)
 
--- pairs of hexadecimal digits with a space between
+-- a space and a pair of hexadecimal digits
 abbrev pub later_pair : ℕ → List ℕ
 later_pair b = space ∷ hex_pair b
 
@@ -65,7 +65,7 @@ abbrev pub has_pairs : List ℕ → List ℕ → Bool
 has_pairs [] text = is_empty text
 has_pairs (b ∷ bs) text = is_some_with (has_pieces later_pair bs) (after (hex_pair b) text)
 
--- a value is the bit, by its name or its number
+-- a value names the bit: by its name, or by its number if it has no name
 abbrev pub is_flag : FlagParts → Json → Bool
 is_flag (flag_name n) j = is_some_with (λ text. bytes_eq text n) (as_str j)
 is_flag (flag_bit i) j = is_some_with (number_is 0 (pos i) 0) (as_number j)
@@ -78,14 +78,14 @@ abbrev pub count_items : Items → ℕ
 count_items no_items = 0
 count_items (item j js) = suc (count_items js)
 
--- each bit is among the values, and there are so many bits
+-- each bit is among the values, and their number is that of the bits
 abbrev pub are_among : List FlagParts → ℕ → Items → Bool
 are_among [] zero js = true
 are_among [] (suc n) js = false
 are_among (f ∷ fs) zero js = false
 are_among (f ∷ fs) (suc n) js = any_item (is_flag f) js && are_among fs n js
 
--- what a field shows is this value
+-- a field shows this value
 unfoldable pub says : ℕ → ShownParts → Json → Bool
 says slack shows.absent j = false
 says slack (shows.number x e) j = is_some_with (number_is slack x e) (as_number j)

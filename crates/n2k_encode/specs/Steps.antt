@@ -1,4 +1,4 @@
--- Steps that may find nothing, one after another.
+-- Steps that may find no value, in sequence.
 use Rattle.std.specs.Prelude.{◌≡◌, Bool, Option, Some, None, Result, Ok, Err}
 use Rattle.n2k_encode.specs.declared.refusal.Refusal.{Refusal}
 use Rattle.n2k_encode.specs.Refusal.{CauseParts, cause}
@@ -8,17 +8,17 @@ abbrev pub ◌>>=◌ : {A B : Type 0} → Option A → (A → Option B) → Opti
 (Some x) >>= f = f x
 None >>= f = None
 
--- what a test finds of a value, and false of none
+-- the result of a test of a value; false if there is none
 abbrev pub is_some_with : {A : Type 0} → (A → Bool) → Option A → Bool
 is_some_with p None = Bool.false
 is_some_with p (Some x) = p x
 
--- A value that was answered is the one that the definition gives, and a refusal means that it gives none.
+-- If the code returns a value, the definition gives the same; if the code refuses, the definition gives none.
 abbrev pub Yields : {X Y E : Type 0} → (X → Y) → Result X E → Option Y → Type 0
 Yields view (Ok x) said = said ≡ Some (view x)
 Yields view (Err cause) said = said ≡ None
 
--- the first of two that is there
+-- the first value, or the second if there is no first
 abbrev pub first_of : {A : Type 0} → Option A → Option A → Option A
 first_of None other = other
 first_of (Some x) other = Some x

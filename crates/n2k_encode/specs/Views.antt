@@ -1,4 +1,4 @@
--- What contracts see of the code's values.
+-- The views of the code's values, for contracts.
 use Rattle.std.specs.Prelude.{option_map}
 use Rattle.json.specs.Value.{value_view}
 use Rattle.n2k_encode.specs.declared.request.Request.{Request}
@@ -7,7 +7,7 @@ use Rattle.n2k_encode.specs.declared.value.Code.TheVariants as code
 use Rattle.n2k_encode.specs.Request.{RequestParts}
 use Rattle.n2k_encode.specs.Value.{CodeParts, bits, bytes}
 
--- what a line asks for, as such parts
+-- the parts of a request
 abbrev pub request_parts : Request → RequestParts
 request_parts r = record {
   stamp = r.stamp.now;
@@ -16,7 +16,7 @@ request_parts r = record {
   fields = value_view r.fields.now;
 }
 
--- what a field is set to, as such a part
+-- the parts of a code: the bits or bytes to which a field is set
 abbrev pub code_parts : Code → CodeParts
 code_parts (code.Bits raw) = bits raw
 code_parts (code.Bytes bs) = bytes bs.items

@@ -12,7 +12,7 @@ use crate::refusal::Refusal;
 use json::Value;
 use n2k_table::{Definition, Field};
 
-/// What a line gives for a field; `null` is the same as nothing.
+/// The value that a line gives for a field. `null` counts as not given.
 pub(crate) fn given<'v, 'a>(fields: &'v Value<'a>, name: &str) -> Option<&'v Value<'a>>
     ensures { option_map (λ v. value_view v.now) result ≡ given name.now (value_view fields.now) }
 {
@@ -20,21 +20,21 @@ pub(crate) fn given<'v, 'a>(fields: &'v Value<'a>, name: &str) -> Option<&'v Val
     if value.is_null() { None } else { Some(value) }
 }
 
-/// Whether one of these fields has this name.
+/// Whether a field has this name.
 fn has_name(fields: &[Field], name: &str) -> bool
     ensures { result ≡ list_any (has_name name.now) fields.now }
 {
     fields.iter().any(|field| name == field.name())
 }
 
-/// Whether a name is that of one of these fields, or that of the sets, if there are any.
+/// Whether a name is a field's, or, if the definition has sets, `list`.
 fn is_name(fields: &[Field], has_list: bool, name: &str) -> bool
     ensures { result ≡ is_name fields.now has_list name.now }
 {
     has_name(fields, name) || has_list && name == "list"
 }
 
-/// The members of an object, or none of another value.
+/// The members of an object; none if the value is not an object.
 fn members<'v, 'a>(object: &'v Value<'a>) -> &'v [(&'a str, Value<'a>)]
     ensures { members_view result.now ≡ members_in (as_object (value_view object.now)) }
 {
@@ -44,7 +44,7 @@ fn members<'v, 'a>(object: &'v Value<'a>) -> &'v [(&'a str, Value<'a>)]
     }
 }
 
-/// The first given member with a name that none of these fields has.
+/// The name of the first given member that is not the name of a field.
 fn unknown_name<'a>(fields: &[Field], has_list: bool, object: &Value<'a>) -> Option<&'a str>
     ensures { option_map (λ name. name.now) result
         ≡ first_unknown (is_name fields.now has_list) (value_view object.now) }
@@ -57,7 +57,7 @@ fn unknown_name<'a>(fields: &[Field], has_list: bool, object: &Value<'a>) -> Opt
     None
 }
 
-/// The first given member with another name than this one.
+/// The name of the first given member that differs from `name`.
 pub(crate) fn unknown_beside<'a>(name: &str, object: &Value<'a>) -> Option<&'a str>
     ensures { option_map (λ name. name.now) result
         ≡ first_unknown (λ k. bytes_eq k name.now) (value_view object.now) }
@@ -70,7 +70,7 @@ pub(crate) fn unknown_beside<'a>(name: &str, object: &Value<'a>) -> Option<&'a s
     None
 }
 
-/// The first given member of a set with a name that no field of a set has.
+/// The name of the first given member of a set that is not the name of a field of the set.
 fn unknown_in_sets<'a>(fields: &[Field], sets: &[Value<'a>]) -> Option<&'a str>
     ensures { option_map (λ name. name.now) result ≡ first_in_sets fields.now (items_view sets.now) }
 {
@@ -89,7 +89,7 @@ fn no_sets<'v, 'a>() -> &'v [Value<'a>]
     &[]
 }
 
-/// The sets that a line gives, none if it gives no list. `None` if it gives another value.
+/// The sets that a line gives: none if `list` is missing, `None` if `list` is not an array.
 pub(crate) fn given_sets<'v, 'a>(object: &'v Value<'a>) -> Option<&'v [Value<'a>]>
     ensures { option_map (λ sets. items_view sets.now) result ≡ given_sets (value_view object.now) }
 {
@@ -114,7 +114,7 @@ fn are_objects(sets: &[Value<'_>]) -> bool
     true
 }
 
-/// Refuses sets with a name that no field of a set has, and then what is not an array of objects.
+/// Refuses a name in a set that no field of the set has; then a `list` that is not an array of objects.
 fn check_sets<'a>(fields: &[Field], object: &Value<'a>) -> Result<(), Refusal<'a>>
     ensures { refusal_in result ≡ wrong_in_sets fields.now (given_sets (value_view object.now)) }
 {
@@ -131,7 +131,7 @@ fn check_sets<'a>(fields: &[Field], object: &Value<'a>) -> Result<(), Refusal<'a
     }
 }
 
-/// Refuses a name that a definition has no field for.
+/// Refuses a name that no field of the definition has.
 pub(crate) fn check_names<'a>(
     definition: &Definition<'_>,
     object: &Value<'a>,

@@ -1,4 +1,4 @@
-//! Lines of JSON as messages again.
+//! Encodes lines of JSON, in the form that `decode` prints, as messages.
 //!
 //! ```rust
 //! let table = sample_table(alloc)?;
@@ -9,17 +9,17 @@
 //! assert_eq!(rt; packet.data(), data.as_slice());
 //! ```
 //!
-//! - `encode_line` gives the message that a line of JSON asks for, in the form that `json_line` of `n2k_table` prints.
-//! - It answers a `Refusal` if there is no such message: for what the line lacks, for a name or a value that the table does
-//!   not have, or since no data show all that is given.
+//! - `encode_line` returns the message of a line of JSON in the form that `json_line` of `n2k_table` prints.
+//! - It returns a `Refusal` if there is no such message: if the line lacks a member, if the table does not have a name or
+//!   a value, or if no data show everything that the line gives.
 //!
-//! What is given reads back. The message has the timestamp and the identifier of the line. The definition that the table
+//! The message reads back as the line. It has the timestamp and the identifier of the line. The definition that the table
 //! chooses for its data shows each field and set exactly as the line gives it, and shows nothing else, except values that
-//! the definition asks for. A number is compared digit by digit: nothing is rounded. If the caller asks for the nearest
-//! number, each number is at most half a unit of its field away from the given one.
+//! the definition fixes with `match`. Numbers are compared digit by digit, without rounding. With `nearest` each number is
+//! at most half a unit of its field away from the given one.
 //!
-//! Each example is a test of `n2k_encode_tests`, in the same words. In them `rt` is the runtime that `main` or a test is
-//! handed, `alloc` its allocator, `rt.alloc()`, and `sample_table` reads a table of three messages.
+//! Each example is a test of `n2k_encode_tests`, in the same words. `rt` is the runtime that `main` and each test
+//! receive, `alloc` is `rt.alloc()`, and `sample_table` reads a table of three messages.
 #![tactic(auto)]
 
 mod coded;

@@ -1,4 +1,4 @@
-//! Where the bits and bytes of fields go.
+//! The places of the bits and bytes of fields.
 ghost use Rattle.std.specs.Prelude.{◌≡◌, ◌≤◌, length, IfSome};
 ghost use Rattle.n2k_table.specs.Bits.{has_bit};
 ghost use Rattle.n2k_encode.specs.Place.{end_of, put_bits, put_bytes, put_code, set_bit, start};
@@ -7,10 +7,10 @@ ghost use Rattle.n2k_encode.specs.Views.{code_parts};
 use crate::value::Code;
 use n2k_table::Field;
 
-/// The most bytes of a message.
+/// The greatest number of bytes in a message.
 pub(crate) const MOST_DATA: usize = 223;
 
-/// Sets a bit, if the data have it.
+/// Sets a bit, unless it lies outside the data.
 fn set_bit(data: &mut [u8], at: usize, one: bool)
     ensures { «data».new ≡ set_bit «data».old at one }
 {
@@ -34,7 +34,7 @@ pub(crate) fn has_bit(raw: u64, bit: u32) -> bool
     (raw >> bit) % 2 == 1
 }
 
-/// Sets so many bits from one on to a raw value.
+/// Sets the `bits` bits that begin at bit `at` to a raw value.
 fn put_bits(data: &mut [u8], at: usize, bits: u32, raw: u64)
     requires room { bits ≤ 64 }
     requires place { at ≤ 100000 }
@@ -45,7 +45,7 @@ fn put_bits(data: &mut [u8], at: usize, bits: u32, raw: u64)
     }
 }
 
-/// Sets bytes from one on, those that the data have.
+/// Sets the bytes that begin at byte `at`, as far as they lie inside the data.
 #[tactic(auto, using(crate::proofs::Places::past_end))]
 pub(crate) fn put_bytes(data: &mut [u8], at: usize, bytes: &[u8])
     ensures { «data».new ≡ put_bytes «data».old at bytes.now }
@@ -60,7 +60,7 @@ pub(crate) fn put_bytes(data: &mut [u8], at: usize, bytes: &[u8])
     }
 }
 
-/// The byte from which a field's place counts, if each string before it has an end.
+/// The byte from which the place of a field counts, unless a string before it has no end.
 fn start(field: &Field, data: &[u8]) -> Option<usize>
     ensures value { result ≡ start field.now «data».now }
     ensures inside { IfSome result (λ start. start ≤ length «data».now) }
@@ -69,7 +69,7 @@ fn start(field: &Field, data: &[u8]) -> Option<usize>
     Some(data.len().saturating_sub(rest.len()))
 }
 
-/// Sets a field to a code, if its place is known.
+/// Sets a field to a code, if the place of the field is known.
 pub(crate) fn put_code(field: &Field, code: &Code, data: &mut [u8])
     requires { length «data».old ≤ 223 }
     ensures { «data».new ≡ put_code field.now (code_parts code.now) «data».old }
@@ -84,7 +84,7 @@ pub(crate) fn put_code(field: &Field, code: &Code, data: &mut [u8])
     }
 }
 
-/// The byte after a field of that code, if its place is known.
+/// The end of a field with this code, in bytes, if the place of the field is known.
 pub(crate) fn end_of(field: &Field, code: &Code, data: &[u8]) -> Option<usize>
     requires { length «data».now ≤ 223 }
     ensures value { result ≡ end_of field.now (code_parts code.now) «data».now }

@@ -1,4 +1,4 @@
-//! Whether data read back as what a line gives.
+//! Whether data read back as the fields that a line gives.
 ghost use Rattle.std.specs.Prelude.{◌≡◌, option_map};
 ghost use Rattle.json.specs.Value.{value_view, items_view};
 ghost use Rattle.n2k_table.specs.Repeat.{sets};
@@ -10,12 +10,12 @@ use crate::shows::shows;
 use json::Value;
 use n2k_table::{Definition, Field, Repeat, Shown};
 
-/// How data are read back.
+/// The rules by which data are compared with a line.
 #[derive(Clone, Copy)]
 pub(crate) struct Reading {
     /// Whether a number may be the nearest that its field can show.
     pub(crate) nearest: bool,
-    /// Whether fields that ask for a value may show it without being given.
+    /// Whether a field with `match` may show its value although the line does not give it.
     pub(crate) adding: bool,
 }
 
@@ -29,7 +29,7 @@ fn is_absent(shown: Shown<'_>) -> bool
 impl Reading {
     ghost use Rattle.n2k_encode.specs.Reading.{field_shows, fields_show, first_wrong, given_sets_show, repeat_shows, sets_show, shows_all};
 
-    /// Whether a field shows what is given for it, or nothing.
+    /// Whether a field shows its given value, or nothing if none is given.
     #[tactic(auto, unfolding(crate::specs::Reading::field_shows))]
     fn field_shows(self, field: &Field, object: &Value<'_>, data: &[u8]) -> bool
         ensures { result ≡ field_shows self (value_view object.now) «data».now field.now }
@@ -41,7 +41,7 @@ impl Reading {
         }
     }
 
-    /// The first of these fields that does not show what is given for it.
+    /// The first field that does not show its given value.
     pub(crate) fn first_wrong<'t>(
         self,
         fields: &'t [Field],
@@ -55,7 +55,7 @@ impl Reading {
             .find(|field| !self.field_shows(field, object, data))
     }
 
-    /// Whether each of these fields shows what is given for it.
+    /// Whether each field shows its given value.
     fn fields_show(self, fields: &[Field], object: &Value<'_>, data: &[u8]) -> bool
         ensures { result ≡ fields_show self (value_view object.now) «data».now fields.now }
     {
@@ -64,7 +64,7 @@ impl Reading {
             .all(|field| self.field_shows(field, object, data))
     }
 
-    /// Whether the sets in the data are as many as are given, and show what is given.
+    /// Whether the data have as many sets as the line gives, and each set shows the given values.
     fn sets_show(self, repeat: &Repeat, wanted: &[Value<'_>], data: &[u8]) -> bool
         ensures { result ≡ sets_show self repeat.now.fields (items_view wanted.now) (sets repeat.now «data».now) }
     {
@@ -81,7 +81,7 @@ impl Reading {
         repeat.split_set(rest).is_none()
     }
 
-    /// Whether what repeats shows the given sets.
+    /// Whether the sets in the data, if the definition has any, show the given sets.
     fn repeat_shows(self, repeat: Option<&Repeat>, object: &Value<'_>, data: &[u8]) -> bool
         ensures { result ≡ repeat_shows self (option_map (λ r. r.now) repeat.entry) (value_view object.now) «data».now }
     {
@@ -94,7 +94,7 @@ impl Reading {
         }
     }
 
-    /// Whether data show exactly the given fields and sets under a definition.
+    /// Whether data show exactly the given fields and sets, by this definition.
     #[tactic(auto, unfolding(crate::specs::Reading::shows_all))]
     pub(crate) fn shows_all(
         self,

@@ -1,8 +1,8 @@
 //! Why a line cannot be encoded.
 ghost use Rattle.std.specs.Prelude.{◌≡◌};
 
-/// Why a line cannot be encoded. The number is what reports print. A name is that of the field, from the line or the
-/// table.
+/// Why a line cannot be encoded. Each cause has the number that reports print. A name is the name of a field, from the
+/// line or the table.
 #[derive(Clone, Copy, Debug, PartialEq, Eq)]
 pub enum Refusal<'a> {
     /// 1: over 65,536 bytes.
@@ -13,13 +13,13 @@ pub enum Refusal<'a> {
     Member,
     /// 8: the table has no definition of the PGN.
     Unknown,
-    /// 12: no CAN identifier has this PGN and destination.
+    /// 12: this PGN and destination cannot form a CAN identifier.
     Address,
     /// 15: no definition of the PGN has this description.
     Description,
     /// 16: the definition has no such field.
     Field(&'a str),
-    /// 17: a value that its field cannot show.
+    /// 17: the field cannot show this value.
     Value(&'a str),
     /// 9: more than 8 bytes in a single frame, or more than 223 in a fast packet.
     Size,
@@ -68,7 +68,7 @@ impl<'a> Refusal<'a> {
     }
 }
 
-/// Why a call gives no message.
+/// Why a call returns no message.
 #[derive(Clone, Copy, Debug, PartialEq, Eq)]
 pub enum EncodeError<'a> {
     /// Memory was refused.

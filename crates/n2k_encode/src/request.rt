@@ -1,4 +1,4 @@
-//! What a line asks for: who sends which fields to whom.
+//! The requested message: timestamp, identifier, description and fields.
 ghost use Rattle.std.specs.Prelude.{◌≡◌, ◌≤◌, true, option_map, is_ok, IfErr, IfOk, IfSome};
 ghost use Rattle.json.specs.Value.{value_view, members_view};
 ghost use Rattle.n2k_wire.specs.Packet.{is_stamp};
@@ -22,7 +22,7 @@ const GREATEST_PRIORITY: u128 = 7;
 /// The greatest address, which means all.
 const GREATEST_ADDRESS: u128 = 255;
 
-/// What a line asks for.
+/// The requested message.
 #[derive(Clone, Copy)]
 pub(crate) struct Request<'v, 'a> {
     pub(crate) stamp: &'a str,
@@ -58,7 +58,7 @@ fn has_known(members: &[(&str, Value<'_>)]) -> bool
     true
 }
 
-/// Refuses what is not an object, or has another member.
+/// Refuses a value that is not an object, and an object with an unknown member.
 fn check_members<'a>(object: &Value<'a>) -> Result<(), Refusal<'a>>
     ensures known { is_ok result ≡ members_known (value_view object.now) }
     ensures object { IfOk result (λ _. is_object (value_view object.now) ≡ true) }
@@ -71,7 +71,7 @@ fn check_members<'a>(object: &Value<'a>) -> Result<(), Refusal<'a>>
     }
 }
 
-/// A JSON number that is a whole number from 0 on.
+/// The value of a JSON number, if it is a whole number and not negative.
 #[tactic(auto, unfolding(crate::specs::Request::whole_number))]
 pub(crate) fn whole_number(text: &[u8]) -> Option<u128>
     ensures { result ≡ whole_number text.now }
@@ -83,7 +83,7 @@ pub(crate) fn whole_number(text: &[u8]) -> Option<u128>
     Some(number)
 }
 
-/// A value that is a whole number up to a limit.
+/// The value of a JSON value, if it is a whole number from 0 to `limit`.
 #[tactic(auto, unfolding(crate::specs::Request::whole_to))]
 fn whole_to(limit: u128, value: &Value<'_>) -> Option<u128>
     ensures value { result ≡ whole_to limit (value_view value.now) }
@@ -93,7 +93,7 @@ fn whole_to(limit: u128, value: &Value<'_>) -> Option<u128>
     if number > limit { None } else { Some(number) }
 }
 
-/// The number of a member, or another if the member is missing.
+/// The number of a member, or `other` if the member is missing.
 fn number_or(other: u128, limit: u128, member: Option<&Value<'_>>) -> Option<u128>
     requires { other ≤ limit }
     ensures value { result ≡ number_or other limit (option_map (λ v. value_view v.now) member.entry) }
@@ -105,7 +105,7 @@ fn number_or(other: u128, limit: u128, member: Option<&Value<'_>>) -> Option<u12
     }
 }
 
-/// The identifier that a line asks for.
+/// The requested identifier.
 #[tactic(auto, unfolding(crate::specs::Request::id_of))]
 fn id_of(object: &Value<'_>) -> Option<Id>
     ensures value { result ≡ id_of (value_view object.now) }
@@ -124,7 +124,7 @@ fn id_of(object: &Value<'_>) -> Option<Id>
     })
 }
 
-/// The text of a member, if the member is there. `None` if it is not a text.
+/// The text of a member, if the line has the member. `None` if its value is not a text.
 fn optional_text<'a>(member: Option<&Value<'a>>) -> Option<Option<&'a str>>
     ensures { option_map (λ text. option_map (λ t. t.now) text) result
         ≡ optional_text (option_map (λ v. value_view v.now) member.entry) }
@@ -135,7 +135,7 @@ fn optional_text<'a>(member: Option<&Value<'a>>) -> Option<Option<&'a str>>
     }
 }
 
-/// Whether a text is a timestamp, for a packet with this identifier.
+/// Whether a packet can have this text as its timestamp.
 fn is_stamp(text: &[u8], id: Id) -> bool
     requires prio { id.prio ≤ 7 }
     requires pgn { id.pgn ≤ 131071 }
@@ -144,7 +144,7 @@ fn is_stamp(text: &[u8], id: Id) -> bool
     Packet::new(text, id, &[]).is_some()
 }
 
-/// The timestamp that a line asks for.
+/// The requested timestamp, or the default.
 #[tactic(auto, unfolding(crate::specs::Request::stamp_of))]
 fn stamp_of<'a>(object: &Value<'a>, id: Id) -> Option<&'a str>
     requires prio { id.prio ≤ 7 }
@@ -180,7 +180,7 @@ fn fields_of<'v, 'a>(object: &'v Value<'a>) -> Option<&'v Value<'a>>
     }
 }
 
-/// What the object of a line asks for.
+/// The message that the object of a line requests.
 #[tactic(auto, unfolding(crate::specs::Request::request))]
 pub(crate) fn request_of<'v, 'a>(object: &'v Value<'a>) -> Result<Request<'v, 'a>, Refusal<'a>>
     ensures asked { Yields request_parts result (request (value_view object.now)) }

@@ -24,7 +24,7 @@ pub record Takes (t : TableParts) (nearest : Bool) (before after : Devices) (cou
   pub reported : Appends before.reported after.reported (reports_from 1 outcomes)
   pub counted : counts ≡ counts_of outcomes
 
--- the source was read to its end, and all its lines were taken
+-- the source was read to its end, and all lines were taken
 pub record IsWhole (t : TableParts) (nearest : Bool) (before after : Devices) (counts : Counts) : Type 0 where
   pub came : List ℕ
   pub given : Consumes before.left after.left came
@@ -47,9 +47,9 @@ pub record IsFull (t : TableParts) (nearest : Bool) (before after : Devices) (co
   pub full : counts.lines ≡ most_lines
   pub taken : Takes t nearest before after counts front
 
--- After Write, Report and Memory: of the log's first lines, the errors have gained all reports up to some line, and
--- more of them. The output has gained a prefix of the texts up to that line: no text is written if the report of its
--- own line or of an earlier one is missing.
+-- After Write, Report and Memory: the errors have gained all reports up to some line, and perhaps a prefix of the later
+-- ones. The output has gained a prefix of the texts up to that line: no text is written if the report of its own line
+-- or of an earlier one is missing.
 pub record BreaksOff (t : TableParts) (nearest : Bool) (before after : Devices) : Type 0 where
   pub taken : List (List ℕ)
   pub lead : IfSome before.left (λ log. (more : List (List ℕ)) × (lines log ≡ taken ++ more))
@@ -74,5 +74,5 @@ pub record Encodes {T : Type 0} (t : TableParts) (nearest : Bool) (before after 
     (result : Result T RunFault) : Type 0 where
   pub ends : EncodingEnds t nearest before after counts result
   pub device : IsOfDevice before after result
-  -- no more calls were made of the source than bytes came of it, and one
+  -- the source was called at most once more than the number of bytes that it gave
   pub reads : ReadsBytes 1 before.left after.left before.calls after.calls

@@ -22,7 +22,7 @@ use std::alloc::Global;
 /// The number of bytes of one read.
 const BLOCK: usize = 4096;
 
-/// The parts that stay the same over a run.
+/// The parts that do not change during a run.
 #[derive(Drop)]
 struct Encoder<'a> {
     alloc: Global,
@@ -35,11 +35,11 @@ struct Encoder<'a> {
 struct Room {
     /// The unfinished line before the next read.
     kept: Vec<u8>,
-    /// Room for the texts of a line.
+    /// Memory for the texts of a line.
     scratch: Scratch,
 }
 
-/// One read into the block: how many bytes came.
+/// Reads into the block once, and returns the number of bytes.
 fn read_block<R: Source>(reader: &mut R, block: &mut [u8]) -> Result<usize, RunFault>
     requires { 0 < length block.old }
     ensures bytes { IfOk result (λ n. Consumes (R.remaining reader.old) (R.remaining reader.new) (take n block.new)) }
@@ -101,7 +101,7 @@ impl Encoder<'_> {
         taken
     }
 
-    /// Takes the lines that end within these bytes.
+    /// Takes each line that ends in these bytes, and keeps the unfinished line after them.
     fn feed(&self, bytes: &[u8], room: &mut Room, ledger: &mut Ledger) -> Result<(), RunFault>
         requires counts { AreCounts ledger.old.counts }
         requires few { length room.old.kept.items ≤ most_kept }
@@ -153,7 +153,7 @@ impl Encoder<'_> {
         }
     }
 
-    /// Reads the log to its end, and writes the texts of each read before it reads on.
+    /// Reads the log to its end, and writes the texts of each read before the next read.
     fn run<R: Source, W: Sink, E: Sink>(
         &self,
         ledger: &mut Ledger,

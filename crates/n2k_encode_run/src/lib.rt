@@ -20,9 +20,9 @@
 //! assert_eq!(rt; err.bytes(), "line 2 bad B14 member\n".as_bytes());
 //! ```
 //!
-//! `run_encode` gives each line to `encode_line` of `n2k_encode`, and prints the message or reports the refusal by the
-//! number of the line. It holds one line, of at most 65,538 bytes, and the texts of one block of 4,096 bytes. It
-//! writes the texts before it reads on, the reports first.
+//! `run_encode` passes each line to `encode_line` of `n2k_encode`, and prints the message, or reports the refusal with
+//! the number of the line. It keeps one line, of at most 65,538 bytes, and the texts of one block of 4,096 bytes. Before
+//! the next read it writes the reports, then the texts.
 //!
 //! The example is a test of `n2k_encode_tests`.
 #![tactic(auto)]

@@ -1,4 +1,4 @@
-//! A line whose bytes come by several reads.
+//! A line whose bytes arrive in several reads.
 ghost use Rattle.std.specs.Prelude.{◌≡◌, ◌<◌, ◌≤◌, ◌+◌, ◌++◌, length, take, drop, OnOk};
 ghost use Rattle.n2k_wire.specs.Entry.{is_skipped};
 ghost use Rattle.n2k_run.specs.Inner.Block.{FindsEnd};
@@ -11,7 +11,8 @@ const LINE_FEED: u8 = b'\n';
 
 const RETURN: u8 = b'\r';
 
-/// The most bytes that are kept of a line: two more than the longest line, for a carriage return and one byte too many.
+/// The greatest number of bytes kept of a line: two more than the longest line, for a carriage return and one byte too
+/// many.
 const MOST_KEPT: usize = 65_538;
 
 /// The place of the first LF.
@@ -51,7 +52,7 @@ pub(crate) fn is_skipped(line: &[u8]) -> bool
     }
 }
 
-/// Appends bytes to the start of their line. Of a line that is too long only a prefix is kept.
+/// Appends bytes to the beginning of their line. If the line is too long, only a prefix is kept.
 #[tactic(auto, using(crate::proofs::Parts::kept_more))]
 pub(crate) fn keep(kept: &mut Vec<u8>, bytes: &[u8]) -> Result<(), AllocError>
     requires { length kept.old.items ≤ most_kept }

@@ -36,12 +36,12 @@ TakesLine t nearest line l l' (Err TooManyLines) = (l' ≡ l) × (l.counts.lines
 TakesLine t nearest line l l' (Err Memory) = Unit {0}
 TakesLine t nearest line l l' (Err _) = ⊥
 
--- the most bytes that are kept of a line: two more than the longest line, for a carriage return and one byte too many
+-- the greatest number of bytes kept of a line: two more than the longest line, for a carriage return and one byte more
 abbrev pub most_kept : ℕ
 most_kept = 65538
 
--- Bytes came after a part of a line. All complete lines were taken, except the bytes left. `kept` is the prefix of the
--- unfinished line after them.
+-- Bytes arrived after part of a line. All complete lines before `left` were taken. `kept` is a prefix of the unfinished
+-- line after them.
 pub record TakesBytes (t : TableParts) (nearest : Bool) (part bytes left kept : List ℕ) (l l' : Ledger) : Type 0 where
   pub front : List ℕ
   pub rest : List ℕ
@@ -61,7 +61,7 @@ pub record TakesMost (t : TableParts) (nearest : Bool) (bytes : List ℕ) (l l' 
   pub full : l'.counts.lines ≡ most_lines
   pub taken : TakesLines t nearest (lines front) l l'
 
--- the result of bytes that came
+-- the result of bytes that arrived
 abbrev pub FeedsBytes : {T : Type 0} → TableParts → Bool → List ℕ → List ℕ → List ℕ → Ledger → Ledger
     → Result T RunFault → Type 0
 FeedsBytes t nearest part bytes kept l l' (Ok x) = TakesBytes t nearest part bytes [] kept l l'
@@ -83,8 +83,8 @@ pub record TakesRead {T : Type 0} (t : TableParts) (nearest : Bool) (part bytes 
   pub at_end : length bytes ≡ 0 → FeedsRest t nearest part l l' result
   pub with_bytes : 0 < length bytes → FeedsBytes t nearest part bytes kept l l' result
 
--- Nothing is pending: the complete lines of the bytes so far are taken and written, and of the unfinished line after
--- them the prefix is kept.
+-- Nothing is pending: the complete lines so far are taken and written, and a prefix of the unfinished line after them is
+-- kept.
 pub record BetweenReads (t : TableParts) (nearest : Bool) (before now : Devices) (kept : List ℕ) (l : Ledger)
     (reads : ℕ) : Type 0 where
   pub front : List ℕ

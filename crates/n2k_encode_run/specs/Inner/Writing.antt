@@ -4,8 +4,8 @@ use Rattle.n2k_run.specs.declared.fault.RunFault.{RunFault}
 use Rattle.n2k_run.specs.declared.fault.RunFault.TheVariants.{TooManyLines, Memory}
 use Rattle.n2k_run.specs.Inner.Engine.{FailsPending, WritesPending}
 
--- The lines that were taken are written; nothing if memory was refused. TooManyLines comes after such lines. No other
--- fault can come from taking lines.
+-- The texts of the lines taken are written, unless memory was refused. After TooManyLines they are written too. Taking
+-- lines gives no other fault.
 abbrev pub Settles : Result (Unit {0}) RunFault → List ℕ → List ℕ → Option (List ℕ) → Option (List ℕ) → Option (List ℕ)
     → Option (List ℕ) → ℕ → ℕ → ℕ → ℕ → Result (Unit {0}) RunFault → Type 0
 Settles (Ok x) text report w w' e e' fw fw' fe fe' r =

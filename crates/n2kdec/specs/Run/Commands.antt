@@ -332,19 +332,20 @@ pub record PrintsRest (t : TableParts) (o : Options) (front more : List ℕ) (be
 
 -- ---- the run of `encode`
 
--- the summary of these counts is written, and what they come to is answered; or the errors failed in it
+-- the summary of these counts is written, and their outcome is returned; or standard error failed in the summary
 abbrev pub SumsUp : Place → Place → Counts → Result CommandOutcome Fault → Type 0
 SumsUp before after counts result = MatchResult result
     (λ ending. IsWritten before after (summary_text counts) × (ending ≡ ending_of counts))
     (λ fault. (fault ≡ Report) × IsCutOff before after (summary_text counts))
 
--- what follows the run of a whole log: it is summed up, unless a fault ended it
+-- after the run of a whole log: the summary follows, unless a fault ended the run
 abbrev pub ClosesWhole : Place → Place → Counts → Result (Unit {0}) RunFault → Result CommandOutcome Fault → Type 0
 ClosesWhole errors summed counts (Ok ended) result = SumsUp errors summed counts result
 ClosesWhole errors summed counts (Err fault) result =
     (result ≡ Err (fault_of_run fault counts.lines)) × (summed ≡ errors)
 
--- `encode` made its run, and by it the errors stood so and so much was counted; then the run was closed.
+-- `errors` and `counts` are standard error and the counts after the run of `encode`; then the summary is written, or the
+-- fault is returned.
 pub record EncodesLog (t : TableParts) (nearest : Bool) (before after : Devices) (result : Result CommandOutcome Fault)
     : Type 0 where
   pub errors : Place
@@ -354,7 +355,7 @@ pub record EncodesLog (t : TableParts) (nearest : Bool) (before after : Devices)
       ended
   pub closes : ClosesWhole errors (place after.reported after.failed_reports) counts ended result
 
--- The table is refused, by a fault that stands in it or for want of memory, and no device is touched; or it has no
+-- The table is refused, for a fault in it or because memory is refused, and no device changes; or the table has no
 -- fault, and the log is encoded.
 abbrev pub EncodesByTable : List TableFault → TableParts → Bool → Devices → Devices → Result CommandOutcome Fault → Type 0
 EncodesByTable found t nearest before after (Err (Table fault)) =
@@ -364,32 +365,32 @@ EncodesByTable found t nearest before after (Ok ending) = (found ≡ []) × Enco
 
 -- ---- by the command
 
--- how one ends that reads a table and has no state
+-- how a command ends that reads a table and has no state
 abbrev pub EndsByTable : List TableFault → Effect → Devices → Devices → Result CommandOutcome Fault → Type 0
 EndsByTable found c before after result =
     MatchResult result (λ ending. (found ≡ []) × IsDone c before after ending) (IsRefusedOrStopped found c before after)
 
--- How `decode` ends, by the bytes of a table, with options, and from a state that is handed in.
+-- How `decode` ends, given the bytes of a table, options, and a state to resume.
 pub record Decodes (bytes : List ℕ) (o : Options) (handed : Option (List ℕ)) (before after : Devices)
     (keeper kept : StoreView) (result : Result CommandOutcome Fault) : Type 0 where
-  -- The table and the state are taken, or refused for their content or because memory is refused.
+  -- The table and the state are accepted, or refused for their content or because memory is refused.
   pub judged : MatchResult result (λ ending. (faults bytes ≡ []) × IsOk (begun (table_of bytes) o handed))
       (IsJudged (faults bytes) handed (begun (table_of bytes) o handed))
-  -- From any state that is taken: what the steps of the log's entries make, one after the other.
+  -- From any accepted state: the result of the steps of the log's entries, in order.
   pub steps : (s : StateOf) → begun (table_of bytes) o handed ≡ Ok s
       → EndsUnlessRefused (decode_from (table_of bytes) o s keeper kept) before after result
-  -- From the state that these entries lead to, or from a log's beginning, if there are none: what the whole log says
-  -- of the lines after them.
+  -- From the state after these entries (from the beginning of a log, if there are none): what the whole log says of the
+  -- lines after them.
   pub log : (front : List Entry)
       → begun (table_of bytes) o handed ≡ Ok (state (table_of bytes).id o.window (kind (table_of bytes)) front)
       → EndsUnlessRefused (decode_effect (table_of bytes) o front keeper kept) before after result
-  -- The headline: after this prefix of a log, whose state was handed in, exactly the rest of what the whole log gives is
-  -- printed, and the state of the whole is saved.
+  -- The headline: if the state of this prefix of a log is resumed, exactly the rest of the whole log's output is printed,
+  -- and the state of the whole is saved.
   pub headline : (front : List ℕ) → IsFront (table_of bytes) o front handed
       → IfOk result (λ ending. IfSome before.left
       (λ more. PrintsRest (table_of bytes) o front more before after keeper kept ending.status))
 
--- How a command ends, with the place of its state. Where it has none that place is left as it was.
+-- How a command ends, and what it saves. A command without a state leaves the saved one unchanged.
 abbrev pub Performs : Subcommand → List ℕ → Option (List ℕ) → Devices → Devices → StoreView → StoreView → Result CommandOutcome Fault → Type 0
 Performs Plain bytes handed before after keeper kept result =
     (kept ≡ keeper) × Ends plain_effect before after result
