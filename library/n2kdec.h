@@ -17,7 +17,8 @@
    Rules for the caller:
    - A `struct n2k_decoder` is zeros before its first n2k_open. Only these calls read or write it and what it points to.
      Do not copy it: a decoder that was copied and closed would be freed twice.
-   - Make one call at a time on a decoder, and each from the thread that opened it. Other decoders are independent.
+   - Any thread may call, but make one call at a time on a decoder. If several threads use it, order their calls by a mutex,
+     or by starting and joining threads. Other decoders are independent.
    - No pointer is null, unless its size is 0 or its call says so, and each points to as many bytes as its size says. What
      a call may write (a decoder, a room, a size, counts) overlaps nothing else that the call gets.
    - Make no call from a signal handler, and no call in a child that a process with threads has forked.

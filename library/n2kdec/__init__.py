@@ -23,7 +23,6 @@ import json
 import os
 import pathlib
 import threading
-import warnings
 from collections.abc import Callable, Iterable, Iterator
 from decimal import Decimal
 from typing import Any, BinaryIO, NamedTuple, Optional, Protocol, TypedDict, Union
@@ -307,6 +306,22 @@ class _Output:
         return _moved((), self.now.room)
 
 
+class _Turn:
+    """Admits one thread at a time: the library's calls run without Python's lock, and two on one decoder would destroy it."""
+
+    def __init__(self) -> None:
+        self._thread: dict[None, int] = {}
+
+    def __enter__(self) -> None:
+        # `setdefault` is one step for other threads.
+        if self._thread.setdefault(None, threading.get_ident()) != threading.get_ident():
+            raise RuntimeError("another thread is calling this decoder: make one call at a time")
+
+    def __exit__(self, *_: object) -> None:
+        # If an interrupt comes first, it stays this thread's turn until the end of its next call.
+        self._thread.clear()
+
+
 class Decoder:
     """A decoder that you feed: for all bytes fed to it, it prints what `n2kdec decode` prints.
 
@@ -316,9 +331,9 @@ class Decoder:
             print(decoder.counts)
             saved = decoder.save()
 
-    Only the thread that made a decoder may use it: other threads get RuntimeError. A decoder is closed by `close`, by the
-    end of a `with`, or when that thread drops its last reference. (If another thread drops it, its memory is not freed, and
-    a ResourceWarning says so.) A closed decoder raises Error. A decoder can't be copied: `save` it.
+    Any thread may call a decoder, one call at a time (`await asyncio.to_thread(decoder.feed, data)`, for example). If two
+    threads call it at once, one of them gets RuntimeError. A decoder is closed by `close`, by the end of a `with`, or when
+    its last reference goes. A closed decoder raises Error. A decoder can't be copied: `save` it.
     """
 
     def __init__(self, table: Optional[Table] = None, *, state: Optional[Bytes] = None, window: int = 10_000, in_order: bool = False,
@@ -332,7 +347,7 @@ class Decoder:
         Raises ArgumentError if the table, the state or the window is refused, Error if memory is refused, and OSError if
         the table's file can't be read or the library is missing.
         """
-        self._thread = threading.get_ident()
+        self._turn = _Turn()
         self._calls = _loaded()
         self._input = _input(0)
         # The files that were named and are not read to their end.
@@ -349,12 +364,7 @@ class Decoder:
             raise ArgumentError(f"a window has 32 to 1,000,000 lines, and not {window:,}", status)
         _check(status)
 
-    def _check_thread(self) -> None:
-        if threading.get_ident() != self._thread:
-            raise RuntimeError("a decoder is used by the thread that made it")
-
     def _check_not_ended(self) -> None:
-        self._check_thread()
         if self.ended and self._handle.live:
             _check(_ENDED)
 
@@ -387,6 +397,10 @@ class Decoder:
         while self._feed_piece():
             pass
 
+    def _feed_next(self) -> bool:
+        with self._turn:
+            return self._feed_piece()
+
     def feed(self, data: Bytes) -> None:
         """Takes bytes of the log, cut anywhere. A line is decoded when it is complete; an unfinished line waits.
 
@@ -398,9 +412,10 @@ class Decoder:
         """
         piece = _bytes_of(data)
         self._check_not_ended()
-        self._feed_rest()
-        self._input = _input(self._input.received + len(piece), piece)
-        self._feed_rest()
+        with self._turn:
+            self._feed_rest()
+            self._input = _input(self._input.received + len(piece), piece)
+            self._feed_rest()
 
     def frame(self, identifier: int, data: Union[bytes, bytearray], timestamp: float) -> None:
         """Takes a CAN frame: the 29 bits of its identifier, up to 8 bytes of data, and its time in seconds since 1970.
@@ -410,31 +425,33 @@ class Decoder:
         """
         frame = _frame_of(identifier, data, timestamp)
         self._check_not_ended()
-        self._feed_rest()
-        if frame is None:
-            _check(_FRAME)
-        else:
-            self._input.arrived.append(frame)
+        with self._turn:
             self._feed_rest()
+            if frame is None:
+                _check(_FRAME)
+            else:
+                self._input.arrived.append(frame)
+                self._feed_rest()
 
     def end(self) -> None:
         """Ends the log: its last line is decoded even without a line feed. Raises Error as `feed` does."""
         self._check_not_ended()
-        self._feed_rest()
-        self._ends.extend(map(self._calls.n2k_end, (self._handle,)))
-        _check(self._ends[-1])
+        with self._turn:
+            self._feed_rest()
+            self._ends.extend(map(self._calls.n2k_end, (self._handle,)))
+            _check(self._ends[-1])
 
-    def _collect(self) -> None:
-        """Moves the lines that were printed and reported out of the library."""
-        self._check_thread()
-        self._reported.fill(self._handle)
-        self._printed.fill(self._handle)
+    def _collect(self, feeds: bool = False) -> None:
+        """Moves the lines that were printed and reported out of the library, with `feeds` after feeding the rest."""
+        with self._turn:
+            if feeds:
+                self._feed_rest()
+            self._reported.fill(self._handle)
+            self._printed.fill(self._handle)
 
     def take(self) -> bytes:
         """Returns the lines of JSON that were not returned yet, each with its line feed."""
-        self._check_thread()
-        self._feed_rest()
-        self._collect()
+        self._collect(feeds=True)
         lines = "".join(f"{line}\n" for line in self._printed.lines()).encode()
         before = self._printed.now
         try:
@@ -462,9 +479,7 @@ class Decoder:
         A number with a point is a float, or with `decimals` a Decimal with exactly the printed digits. Whole numbers are
         always ints.
         """
-        self._check_thread()
-        self._feed_rest()
-        self._collect()
+        self._collect(feeds=True)
         # One text of many lines is read faster than each line; no line has a line feed within.
         messages: list[Message] = (_exact if decimals else _plain).decode(f"[{','.join(self._printed.lines())}]")
         before = self._printed.now
@@ -492,9 +507,7 @@ class Decoder:
 
     def _begun(self, source: Optional[Source], decimals: bool, on_report: Optional[Callable[[str], object]],
                closes: bool = False) -> Iterator[Message]:
-        if source is None:
-            self._check_thread()
-        else:
+        if source is not None:
             self._check_not_ended()
         if isinstance(source, (str, os.PathLike)):
             self._files.append(open(source, "rb"))
@@ -541,8 +554,7 @@ class Decoder:
                         # It is not known whether the loop has this message: it comes again.
                         self._printed.handed_on = None
                         raise
-                    self._check_thread()
-                if not self._feed_piece() and not (self._read_piece(more) and self._feed_piece()):
+                if not self._feed_next() and not (self._read_piece(more) and self._feed_next()):
                     if not ends:
                         return
                     self.end()
@@ -554,17 +566,17 @@ class Decoder:
     @property
     def counts(self) -> Counts:
         """The counts of all complete lines so far."""
-        self._check_thread()
         counted = _Counted()
-        _check(self._calls.n2k_counts(self._handle, counted))
+        with self._turn:
+            _check(self._calls.n2k_counts(self._handle, counted))
         return Counts(*(getattr(counted, name) for name in Counts._fields))
 
     @property
     def pending(self) -> int:
         """The number of bytes of an unfinished line: the last bytes that were fed."""
-        self._check_thread()
         size = ctypes.c_size_t()
-        _check(self._calls.n2k_waiting(self._handle, size))
+        with self._turn:
+            _check(self._calls.n2k_waiting(self._handle, size))
         return size.value
 
     @property
@@ -584,20 +596,20 @@ class Decoder:
         The bytes that `pending` counts are not in the state: feed them again after it. Raises Error if a message was not
         returned yet, or if an interrupt left that unclear: the state counts the message, so it would be lost.
         """
-        self._check_thread()
         room, size = ctypes.create_string_buffer(_PIECE), ctypes.c_size_t()
-        waits = self._input.rest or self._input.arrived or self._printed.lines() or self._printed.now.statuses
-        if waits or self._calls.n2k_take(self._handle, room, 0, size) == _ROOM:
-            raise Error("not all was handed on: decode(), messages() or take() gives what is left, and then it is saved")
-        while (status := self._calls.n2k_save(self._handle, room, len(room), size)) == _ROOM:
-            room = ctypes.create_string_buffer(2 * size.value)
-        _check(status)
+        with self._turn:
+            waits = self._input.rest or self._input.arrived or self._printed.lines() or self._printed.now.statuses
+            if waits or self._calls.n2k_take(self._handle, room, 0, size) == _ROOM:
+                raise Error("not all was handed on: decode(), messages() or take() gives what is left, and then it is saved")
+            while (status := self._calls.n2k_save(self._handle, room, len(room), size)) == _ROOM:
+                room = ctypes.create_string_buffer(2 * size.value)
+            _check(status)
         return ctypes.string_at(room, size.value)
 
     def close(self) -> None:
         """Frees the decoder's memory. Closing it again does nothing."""
-        self._check_thread()
-        self._calls.n2k_close(self._handle)
+        with self._turn:
+            self._calls.n2k_close(self._handle)
         self._input = _input(self._input.received)
         self._printed.now, self._reported.now = self._printed.emptied(), self._reported.emptied()
         while self._files:
@@ -613,12 +625,8 @@ class Decoder:
         self.close()
 
     def __del__(self) -> None:
-        if not hasattr(self, "_handle") or not self._handle.live:
-            return
-        if threading.get_ident() == self._thread:
+        if hasattr(self, "_handle") and self._handle.live:
             self.close()
-        else:
-            warnings.warn("a decoder that is open was dropped by another thread than its own", ResourceWarning, source=self)
 
 
 def decode(source: Source, *, table: Optional[Table] = None, state: Optional[Bytes] = None, window: int = 10_000, in_order: bool = False,
@@ -628,7 +636,7 @@ def decode(source: Source, *, table: Optional[Table] = None, state: Optional[Byt
 
     The arguments are those of Decoder and of its `decode`. The table is read and the log's file is opened at once, and
     their errors are raised by this call. To continue after a `break` or an interrupt, or for the counts or the state, make
-    a Decoder. Iterate in the thread that makes this call.
+    a Decoder.
     """
     decoder = Decoder(table, state=state, window=window, in_order=in_order, empty=empty, whole=whole)
     return decoder._begun(source, decimals, on_report, closes=True)

@@ -1,11 +1,14 @@
 """Tries library/n2kdec: N2KDEC_PROGRAM is the program, N2KDEC_LIBRARY the library."""
 import ast
+import asyncio
 import collections
 import concurrent.futures
+import contextlib
 import copy
 import dis
 import hashlib
 import io
+import itertools
 import json
 import os
 import pathlib
@@ -328,12 +331,13 @@ class Decoding(unittest.TestCase):
         with self.assertRaises(FileNotFoundError):
             n2kdec.decode(b"", table="no such table")
 
-    def test_threads_decode_in_random_pieces_and_frames_and_go_on_from_states(self):
-        """N2KDEC_RUNS is how many times a log is gone over, by four threads, each with decoders of its own."""
+    def test_decoders_go_from_thread_to_thread_in_random_pieces_and_frames_and_from_states(self):
+        """N2KDEC_RUNS is how many times a log is gone over: each step of eight decoders is another one's of four threads."""
         logs = [TRIP, ROOT / "examples/two-sources.log", ROOT / "examples/repeat-breaks.log", ROOT / "examples/ten-lines-eight-bad.log"]
         wanted = {log: program("decode", "--table", SAMPLE, log) for log in logs}
 
         def differs(seed):
+            """Yields None after each step, and at the end whether something differs."""
             chance = random.Random(seed)
             log = chance.choice(logs)
             data, most, at = log.read_bytes(), 1 << chance.randrange(1, 14), 0
@@ -347,45 +351,97 @@ class Decoding(unittest.TestCase):
                     piece = data[at : at + chance.randrange(1, most + 1)]
                     at += len(piece)
                     decoder.feed(piece)
+                yield None
                 printed, reports = printed + decoder.take(), reports + decoder.reports()
                 if chance.random() < 0.2:
                     again, state = decoder.pending, decoder.save()
-                    decoder.close()
+                    # The other half is closed as it is dropped.
+                    if chance.random() < 0.5:
+                        decoder.close()
                     decoder = n2kdec.Decoder(SAMPLE, state=state)
+                    yield None
                     decoder.feed(data[at - again : at])
             decoder.end()
+            yield None
             printed, reports = printed + decoder.take(), reports + decoder.reports()
             reports.append("lines %d messages %d bad %d unknown %d broken %d open %d" % decoder.counts)
-            decoder.close()
-            return (printed, reports) != (wanted[log].stdout, wanted[log].stderr.decode().splitlines())
+            yield (printed, reports) != (wanted[log].stdout, wanted[log].stderr.decode().splitlines())
 
-        runs = int(os.environ.get("N2KDEC_RUNS", 12))
-        with concurrent.futures.ThreadPoolExecutor(4) as pool:
-            self.assertEqual(list(pool.map(differs, range(runs))), [False] * runs)
+        count, results = int(os.environ.get("N2KDEC_RUNS", 12)), []
+        new = iter(range(count))
+        idle = [differs(seed) for seed in itertools.islice(new, 8)]
+        with contextlib.ExitStack() as stack:
+            pools = [stack.enter_context(concurrent.futures.ThreadPoolExecutor(1)) for _ in range(4)]
+            for turn in itertools.count():
+                steps = [pools[(at + turn) % 4].submit(next, run) for at, run in enumerate(idle)]
+                for at, step in reversed(list(enumerate(steps))):
+                    if step.result() is not None:
+                        results.append(step.result())
+                        idle[at : at + 1] = [differs(seed) for seed in itertools.islice(new, 1)]
+                if not idle:
+                    break
+        self.assertEqual(results, [False] * count)
 
-    def test_a_decoder_stays_on_its_thread(self):
-        raised = []
+    def test_asyncio_calls_it_in_threads(self):
+        log, reports = TRIP.read_bytes(), []
 
-        def feed(decoder):
-            try:
-                decoder.feed(b"x")
-            except RuntimeError as error:
-                raised.append(str(error))
+        async def printed(decoder):
+            lines = []
+            for at in range(0, len(log), 1000):
+                await asyncio.to_thread(decoder.feed, log[at : at + 1000])
+                lines.append(await asyncio.to_thread(decoder.take))
+            await asyncio.to_thread(decoder.end)
+            return b"".join([*lines, await asyncio.to_thread(decoder.take)])
 
-        def in_thread(work, *values):
-            thread = threading.Thread(target=work, args=values)
-            thread.start()
-            thread.join()
+        async def of_three():
+            return await asyncio.gather(*map(printed, (n2kdec.Decoder(SAMPLE) for _ in range(3))))
 
-        with n2kdec.Decoder(SAMPLE) as decoder:
-            in_thread(feed, decoder)
-        self.assertEqual(raised, ["a decoder is used by the thread that made it"])
+        self.assertEqual(asyncio.run(of_three()), 3 * [program("decode", "--table", SAMPLE, TRIP).stdout])
+
+    def test_a_loop_goes_from_thread_to_thread(self):
+        messages = n2kdec.decode(TRIP)
+        with concurrent.futures.ThreadPoolExecutor(1) as one, concurrent.futures.ThreadPoolExecutor(1) as other:
+            seen = [pool.submit(next, messages).result() for _, pool in zip(range(10), itertools.cycle((one, other)))]
+        self.assertEqual(seen + list(messages), self.wanted())
+
+    def test_a_decoder_is_closed_where_it_is_dropped(self):
         held = [n2kdec.Decoder(SAMPLE)]
-        with warnings.catch_warnings(record=True) as caught:
-            warnings.simplefilter("always")
-            in_thread(held.clear)
-        self.assertEqual([(it.category, str(it.message)) for it in caught],
-                         [(ResourceWarning, "a decoder that is open was dropped by another thread than its own")])
+        handle = held[0]._handle
+        self.assertTrue(handle.live)
+        thread = threading.Thread(target=held.clear)
+        thread.start()
+        thread.join()
+        self.assertFalse(handle.live)
+
+    def test_two_calls_at_once_are_refused(self):
+        """A thread feeds without end: calls of another one are refused, or come between."""
+        line, refused, taken, end = TRIP.read_bytes().splitlines(True)[0], 0, 0, time.monotonic() + 60
+        decoder, stops, fed = n2kdec.Decoder(SAMPLE), threading.Event(), []
+
+        def feed():
+            while not stops.is_set():
+                try:
+                    decoder.feed(line * 100)
+                    fed.append(100)
+                except RuntimeError:
+                    pass
+
+        interval = sys.getswitchinterval()
+        sys.setswitchinterval(1e-6)
+        thread = threading.Thread(target=feed)
+        thread.start()
+        try:
+            while (refused < 20 or taken < 20) and time.monotonic() < end:
+                try:
+                    taken += decoder.counts.lines >= 0
+                except RuntimeError as error:
+                    self.assertEqual(str(error), "another thread is calling this decoder: make one call at a time")
+                    refused += 1
+        finally:
+            stops.set()
+            thread.join()
+            sys.setswitchinterval(interval)
+        self.assertEqual((min(refused, 20), min(taken, 20), decoder.counts.lines), (20, 20, sum(fed)))
 
     def test_the_module_is_typed_and_of_python_3_9(self):
         files = list((ROOT / "library/n2kdec").glob("*.py"))

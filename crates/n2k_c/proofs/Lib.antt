@@ -2,4 +2,5 @@ pub mod Feeding
 pub mod Opening
 pub mod RawBoxes
 pub mod RawDecoders
+pub mod Sent
 mod Queues

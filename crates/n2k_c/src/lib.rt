@@ -10,6 +10,7 @@ ghost use Rattle.n2k_c.specs.Status.{Says};
 mod calls;
 mod decoder;
 mod frame;
+mod laws;
 mod queue;
 mod raw_box;
 mod raw_decoder;

@@ -46,3 +46,6 @@ impl RawDecoder {
         }
     }
 }
+
+// A decoder may go to another thread, and so may what owns it: `laws.rt` has the proof.
+unsafe impl Send for RawDecoder {}

@@ -1,15 +1,12 @@
 //! Decodes recorded NMEA 2000 traffic: the bytes of a log go in, each message comes out as a line of JSON.
 //!
-//! The work is done by libn2kdec, whose `n2kdec.h` has the calls and the meaning of each status. A decoder there belongs to
-//! the thread that opened it; here each has a thread of its own, so that [`Decoder`] is `Send`.
+//! The work is done by libn2kdec, whose `n2kdec.h` has the calls and the meaning of each status.
 #![warn(missing_docs)]
 
 mod raw;
 
 use std::fmt;
 use std::io::{self, Read};
-use std::sync::mpsc::{channel, Sender};
-use std::thread;
 
 /// How to read a log: the options of `n2kdec decode`.
 #[derive(Clone, Copy, Debug, PartialEq, Eq)]
@@ -68,11 +65,16 @@ impl fmt::Display for Error {
 
 impl std::error::Error for Error {}
 
-type Job = Box<dyn FnOnce(&mut raw::Decoder) + Send>;
-
 /// A decoder of one log. All calls together give what `n2kdec decode` prints for the log.
+///
+/// It may go from thread to thread (`Send`), but two threads may not share it without a lock:
+///
+/// ```compile_fail
+/// fn shared<T: Sync>() {}
+/// shared::<n2kdec::Decoder>();
+/// ```
 pub struct Decoder {
-    jobs: Sender<Job>,
+    raw: raw::Decoder,
 }
 
 impl Decoder {
@@ -88,67 +90,50 @@ impl Decoder {
     }
 
     fn open(table: &[u8], state: Option<&[u8]>, settings: Settings) -> Result<Self, Error> {
-        let (jobs, work) = channel::<Job>();
-        thread::spawn(move || {
-            let mut decoder = raw::Decoder::default();
-            // Ends when the sender is dropped; the decoder is closed then.
-            work.into_iter().for_each(|job| job(&mut decoder));
-        });
-        let decoder = Decoder { jobs };
-        let (table, state) = (table.to_vec(), state.map(<[u8]>::to_vec));
-        decoder.call(move |it| it.open(&table, state.as_deref(), settings))?;
-        Ok(decoder)
-    }
-
-    /// Has the decoder's thread do this, and waits for it.
-    fn call<T: Send + 'static>(&self, job: impl FnOnce(&mut raw::Decoder) -> T + Send + 'static) -> T {
-        let (answers, answer) = channel();
-        let job: Job = Box::new(move |decoder| drop(answers.send(job(decoder))));
-        self.jobs.send(job).expect("the thread lives as long as the decoder");
-        answer.recv().expect("no call of the library panics")
+        let mut raw = raw::Decoder::default();
+        raw.open(table, state, settings)?;
+        Ok(Decoder { raw })
     }
 
     /// Feeds more of the log, in pieces of any size. After a refusal for memory the decoder is closed.
     pub fn feed(&mut self, bytes: &[u8]) -> Result<(), Error> {
-        let bytes = bytes.to_vec();
-        self.call(move |it| it.feed(&bytes))
+        self.raw.feed(bytes)
     }
 
     /// Takes a CAN frame: the 29 bits of its identifier, its data of at most 8 bytes, and its time since 1970 in UTC. The
     /// decoder prints what it prints for the line that `candump -L` writes of the frame.
     pub fn frame(&mut self, identifier: u32, data: &[u8], seconds: u64, nanoseconds: u32) -> Result<(), Error> {
-        let data = data.to_vec();
-        self.call(move |it| it.frame(identifier, &data, seconds, nanoseconds))
+        self.raw.frame(identifier, data, seconds, nanoseconds)
     }
 
     /// Ends the log: its last line is taken even without a line feed.
     pub fn end(&mut self) -> Result<(), Error> {
-        self.call(raw::Decoder::end)
+        self.raw.end()
     }
 
     /// Takes the messages that wait, each a line of JSON without its line feed.
     pub fn messages(&mut self) -> Result<Vec<String>, Error> {
-        self.call(|it| it.take(raw::n2k_take))
+        self.raw.take(raw::n2k_take)
     }
 
     /// Takes the reports that wait. They occupy memory until they are taken.
     pub fn reports(&mut self) -> Result<Vec<String>, Error> {
-        self.call(|it| it.take(raw::n2k_take_reports))
+        self.raw.take(raw::n2k_take_reports)
     }
 
     /// Returns the counts.
     pub fn counts(&self) -> Result<Counts, Error> {
-        self.call(raw::Decoder::counts)
+        self.raw.counts()
     }
 
     /// Returns how many bytes of an unfinished line wait: the last bytes that were fed. They are not in a saved state.
     pub fn waiting(&self) -> Result<usize, Error> {
-        self.call(raw::Decoder::waiting)
+        self.raw.waiting()
     }
 
     /// Returns the state after the lines that were taken. What was not taken out, messages and reports, is not in it.
     pub fn save(&self) -> Result<Vec<u8>, Error> {
-        self.call(|it| it.bytes(raw::n2k_save))
+        self.raw.bytes(raw::n2k_save)
     }
 
     /// Decodes a log to its end, and gives each message as soon as its last line has been read.

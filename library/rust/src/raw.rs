@@ -1,5 +1,6 @@
 //! The calls of n2kdec.h.
 use crate::{Counts, Error, Settings};
+use std::cell::UnsafeCell;
 use std::ffi::CStr;
 use std::os::raw::{c_char, c_void};
 use std::ptr;
@@ -8,10 +9,16 @@ const ROOM: i32 = 1;
 
 /// `struct n2k_decoder`: zeros before it is opened.
 #[repr(C)]
-pub struct Decoder {
+pub struct Handle {
     live: bool,
     hold: *mut c_void,
 }
+
+/// A handle that calls write to. It isn't `Sync`, so calls come one at a time, but from any thread.
+pub struct Decoder(UnsafeCell<Handle>);
+
+// SAFETY: n2kdec.h allows calls from any thread, and the library's proof shows that a handle is `Send`.
+unsafe impl Send for Decoder {}
 
 #[repr(C)]
 struct RawSettings {
@@ -35,20 +42,20 @@ struct Counted {
 }
 
 /// A call that moves bytes into a room.
-pub type Take = unsafe extern "C" fn(*mut Decoder, *mut u8, usize, *mut usize) -> i32;
+pub type Take = unsafe extern "C" fn(*mut Handle, *mut u8, usize, *mut usize) -> i32;
 
 extern "C" {
-    fn n2k_open(table: *const u8, table_size: usize, resumes: bool, state: *const u8, state_size: usize, settings: *const RawSettings, decoder: *mut Decoder) -> i32;
-    fn n2k_feed(decoder: *mut Decoder, bytes: *const u8, size: usize) -> i32;
-    fn n2k_frame(decoder: *mut Decoder, identifier: u32, data: *const u8, size: usize, seconds: u64, nanoseconds: u32) -> i32;
+    fn n2k_open(table: *const u8, table_size: usize, resumes: bool, state: *const u8, state_size: usize, settings: *const RawSettings, decoder: *mut Handle) -> i32;
+    fn n2k_feed(decoder: *mut Handle, bytes: *const u8, size: usize) -> i32;
+    fn n2k_frame(decoder: *mut Handle, identifier: u32, data: *const u8, size: usize, seconds: u64, nanoseconds: u32) -> i32;
     fn n2k_table(size: *mut usize) -> *const u8;
-    fn n2k_end(decoder: *mut Decoder) -> i32;
-    pub fn n2k_take(decoder: *mut Decoder, room: *mut u8, room_size: usize, size: *mut usize) -> i32;
-    pub fn n2k_take_reports(decoder: *mut Decoder, room: *mut u8, room_size: usize, size: *mut usize) -> i32;
-    pub fn n2k_save(decoder: *mut Decoder, room: *mut u8, room_size: usize, size: *mut usize) -> i32;
-    fn n2k_counts(decoder: *mut Decoder, counted: *mut Counted) -> i32;
-    fn n2k_waiting(decoder: *mut Decoder, size: *mut usize) -> i32;
-    fn n2k_close(decoder: *mut Decoder);
+    fn n2k_end(decoder: *mut Handle) -> i32;
+    pub fn n2k_take(decoder: *mut Handle, room: *mut u8, room_size: usize, size: *mut usize) -> i32;
+    pub fn n2k_take_reports(decoder: *mut Handle, room: *mut u8, room_size: usize, size: *mut usize) -> i32;
+    pub fn n2k_save(decoder: *mut Handle, room: *mut u8, room_size: usize, size: *mut usize) -> i32;
+    fn n2k_counts(decoder: *mut Handle, counted: *mut Counted) -> i32;
+    fn n2k_waiting(decoder: *mut Handle, size: *mut usize) -> i32;
+    fn n2k_close(decoder: *mut Handle);
     fn n2k_status_text(status: i32) -> *const c_char;
 }
 
@@ -73,45 +80,45 @@ fn answer(status: i32) -> Result<(), Error> {
 
 impl Default for Decoder {
     fn default() -> Self {
-        Decoder { live: false, hold: ptr::null_mut() }
+        Decoder(UnsafeCell::new(Handle { live: false, hold: ptr::null_mut() }))
     }
 }
 
 impl Drop for Decoder {
     fn drop(&mut self) {
         // SAFETY: it is zeros, or was opened; it is not used again.
-        unsafe { n2k_close(self) }
+        unsafe { n2k_close(self.0.get()) }
     }
 }
 
-// SAFETY, of each call below: the decoder is zeros or was opened by n2k_open, it was neither copied nor moved to another thread,
-// each pointer is that of a slice with its length, and nothing that is written overlaps anything else.
+// SAFETY, of each call below: the handle is zeros or was opened by n2k_open, and was not copied; no other call has it; each
+// pointer is that of a slice with its length, and nothing that is written overlaps anything else.
 impl Decoder {
     pub fn open(&mut self, table: &[u8], state: Option<&[u8]>, settings: Settings) -> Result<(), Error> {
         let Settings { window, in_order, empty, whole } = settings;
         let raw = RawSettings { window, in_order, empty, whole, reserved: [0; 25] };
         let bytes = state.unwrap_or_default();
-        answer(unsafe { n2k_open(table.as_ptr(), table.len(), state.is_some(), bytes.as_ptr(), bytes.len(), &raw, self) })
+        answer(unsafe { n2k_open(table.as_ptr(), table.len(), state.is_some(), bytes.as_ptr(), bytes.len(), &raw, self.0.get()) })
     }
 
     pub fn feed(&mut self, bytes: &[u8]) -> Result<(), Error> {
-        answer(unsafe { n2k_feed(self, bytes.as_ptr(), bytes.len()) })
+        answer(unsafe { n2k_feed(self.0.get(), bytes.as_ptr(), bytes.len()) })
     }
 
     pub fn end(&mut self) -> Result<(), Error> {
-        answer(unsafe { n2k_end(self) })
+        answer(unsafe { n2k_end(self.0.get()) })
     }
 
     pub fn frame(&mut self, identifier: u32, data: &[u8], seconds: u64, nanoseconds: u32) -> Result<(), Error> {
-        answer(unsafe { n2k_frame(self, identifier, data.as_ptr(), data.len(), seconds, nanoseconds) })
+        answer(unsafe { n2k_frame(self.0.get(), identifier, data.as_ptr(), data.len(), seconds, nanoseconds) })
     }
 
-    pub fn bytes(&mut self, call: Take) -> Result<Vec<u8>, Error> {
+    pub fn bytes(&self, call: Take) -> Result<Vec<u8>, Error> {
         let (mut room, mut size) = (vec![0; 1 << 16], 0);
-        let mut status = unsafe { call(self, room.as_mut_ptr(), room.len(), &mut size) };
+        let mut status = unsafe { call(self.0.get(), room.as_mut_ptr(), room.len(), &mut size) };
         if status == ROOM {
             room.resize(size, 0);
-            status = unsafe { call(self, room.as_mut_ptr(), room.len(), &mut size) };
+            status = unsafe { call(self.0.get(), room.as_mut_ptr(), room.len(), &mut size) };
         }
         answer(status)?;
         room.truncate(size);
@@ -119,21 +126,21 @@ impl Decoder {
     }
 
     /// The lines that a call gives: JSON and reports are UTF-8.
-    pub fn take(&mut self, call: Take) -> Result<Vec<String>, Error> {
+    pub fn take(&self, call: Take) -> Result<Vec<String>, Error> {
         let bytes = self.bytes(call)?;
         Ok(String::from_utf8_lossy(&bytes).split_terminator('\n').map(str::to_owned).collect())
     }
 
-    pub fn counts(&mut self) -> Result<Counts, Error> {
+    pub fn counts(&self) -> Result<Counts, Error> {
         let mut it = Counted::default();
-        answer(unsafe { n2k_counts(self, &mut it) })?;
+        answer(unsafe { n2k_counts(self.0.get(), &mut it) })?;
         let Counted { lines, messages, bad, unknown, broken, open, .. } = it;
         Ok(Counts { lines, messages, bad, unknown, broken, open })
     }
 
-    pub fn waiting(&mut self) -> Result<usize, Error> {
+    pub fn waiting(&self) -> Result<usize, Error> {
         let mut size = 0;
-        answer(unsafe { n2k_waiting(self, &mut size) })?;
+        answer(unsafe { n2k_waiting(self.0.get(), &mut size) })?;
         Ok(size)
     }
 }

@@ -1,57 +1,10 @@
-//! Compares the decoder with the program, which $N2KDEC_PROGRAM names: by random pieces, from thread to thread, saved and continued.
-use n2kdec::{own_table, Counts, Decoder, Error, Settings};
+//! Compares the decoder with the program.
+mod common;
+
+use common::{at, of_program};
+use n2kdec::{own_table, Decoder, Error, Settings};
+use std::fs;
 use std::io::{self, Read};
-use std::path::PathBuf;
-use std::process::Command;
-use std::{env, fs, thread};
-
-fn at(path: &str) -> PathBuf {
-    PathBuf::from(env!("CARGO_MANIFEST_DIR")).join("../..").join(path)
-}
-
-/// What the program prints and reports of a log.
-fn of_program(words: &[&str], log: &str) -> (Vec<String>, Vec<String>) {
-    let program = env::var_os("N2KDEC_PROGRAM").expect("N2KDEC_PROGRAM names the program");
-    let ran = Command::new(program).arg("decode").args(words).arg("--table").arg(at("tables/n2k.toml")).arg(at(log)).output().unwrap();
-    let lines = |bytes: &[u8]| std::str::from_utf8(bytes).unwrap().split_terminator('\n').map(str::to_owned).collect::<Vec<_>>();
-    (lines(&ran.stdout), lines(&ran.stderr))
-}
-
-/// Numbers that look random, by Knuth's generator.
-fn random(seed: &mut u64, below: usize) -> usize {
-    *seed = seed.wrapping_mul(6364136223846793005).wrapping_add(1442695040888963407);
-    (*seed >> 33) as usize % below
-}
-
-#[test]
-fn pieces_on_threads_with_states_between() {
-    let (table, in_order) = (fs::read(at("tables/n2k.toml")).unwrap(), Settings { in_order: true, ..Settings::default() });
-    for (seed, log) in ["examples/trip.log", "examples/two-sources.log", "tests/logs/messages.log"].into_iter().enumerate() {
-        let (messages, reports) = of_program(&["--in-order"], log);
-        let (bytes, mut seed) = (fs::read(at(log)).unwrap(), seed as u64 + 1);
-        let mut decoder = Decoder::new(&table, in_order).unwrap();
-        let (mut begin, mut printed, mut reported) = (0, Vec::new(), Vec::new());
-        while begin < bytes.len() {
-            let end = (begin + 1 + random(&mut seed, 500)).min(bytes.len());
-            let piece = bytes[begin..end].to_vec();
-            // It is moved to another thread, and back.
-            decoder = thread::spawn(move || decoder.feed(&piece).map(|()| decoder)).join().unwrap().unwrap();
-            printed.extend(decoder.messages().unwrap());
-            reported.extend(decoder.reports().unwrap());
-            begin = end;
-            if random(&mut seed, 4) == 0 {
-                begin -= decoder.waiting().unwrap();
-                decoder = Decoder::resume(&table, &decoder.save().unwrap(), in_order).unwrap();
-            }
-        }
-        decoder.end().unwrap();
-        printed.extend(decoder.messages().unwrap());
-        reported.extend(decoder.reports().unwrap());
-        let Counts { lines, messages: count, bad, unknown, broken, open } = decoder.counts().unwrap();
-        reported.push(format!("lines {lines} messages {count} bad {bad} unknown {unknown} broken {broken} open {open}"));
-        assert_eq!((printed, reported), (messages, reports), "{log}");
-    }
-}
 
 #[test]
 fn frames_print_what_their_lines_print() {
@@ -74,7 +27,7 @@ fn an_iterator_gives_every_message() {
     let mut decoder = Decoder::new(&table, Settings { empty: true, ..Settings::default() }).unwrap();
     let log = fs::File::open(at("examples/trip.log")).unwrap();
     let printed: Vec<_> = decoder.decode(log).map(Result::unwrap).collect();
-    assert_eq!(printed, of_program(&["--empty"], "examples/trip.log").0);
+    assert_eq!(printed, of_program(&["--empty"], "tables/n2k.toml", "examples/trip.log").0);
     // The log has ended.
     assert!(matches!(decoder.feed(b"x"), Err(Error::Refused(7, _))));
 }
