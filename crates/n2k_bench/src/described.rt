@@ -6,7 +6,7 @@ use n2k_wire::{Id, Packet};
 /// The most bytes of a message.
 const LONGEST: usize = 223;
 
-/// The number behind a key in a text, such as `at = 8`.
+/// The number after a key in a text, such as `at = 8`.
 fn number_behind(text: &str, key: &str) -> Option<u64> {
     let (_, behind) = text.split_once(key)?;
     let mut number = 0u64;
@@ -19,7 +19,7 @@ fn number_behind(text: &str, key: &str) -> Option<u64> {
     Some(number)
 }
 
-/// Puts the lowest bits of a number at a place of the data.
+/// Writes the lowest bits of a number into the data at a bit position.
 fn put_bits(data: &mut [u8; LONGEST], at: u64, bits: u64, number: u64) {
     for bit in 0..bits.min(64) {
         let place = at.saturating_add(bit);
@@ -33,8 +33,7 @@ fn put_bits(data: &mut [u8; LONGEST], at: u64, bits: u64, number: u64) {
     }
 }
 
-/// A message of a definition, of whose fields each stands on a line of its own: where it wants a value, that value, and
-/// else what is random.
+/// A message of a definition that has one field a line: a `match` field gets its value, all other fields are random.
 pub(crate) fn described(definition: &str, mut random: u64) -> Option<Packet> {
     let pgn = u32::try_from(number_behind(definition, "number = ")?).ok()?;
     let mut data = [0; LONGEST];

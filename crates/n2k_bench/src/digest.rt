@@ -3,13 +3,13 @@
 use n2k_run::{Failed, Sink};
 use std::alloc::Global;
 
-/// How many bytes are held before they are taken into the digest.
+/// The number of buffered bytes at which the buffer goes into the digest.
 const ENOUGH: usize = 1 << 16;
 
 /// An odd number, by which each lane is multiplied.
 const FACTOR: u64 = 0x9e37_79b9_7f4a_7c15;
 
-/// Four sums, which take the words of a text by turns.
+/// Four sums, to which the words of a text are added in turn.
 #[derive(Clone, Copy)]
 struct Lanes {
     a: u64,
@@ -18,7 +18,7 @@ struct Lanes {
     d: u64,
 }
 
-/// A sink that keeps no more than a digest of its bytes, which doesn't go by the pieces that it was handed.
+/// A sink that keeps only a digest of its bytes. The digest is the same whatever chunks the bytes arrive in.
 #[derive(Drop)]
 pub(crate) struct Digest {
     lanes: Lanes,
@@ -31,7 +31,7 @@ fn mixed(sum: u64, word: u64) -> u64 {
     (sum ^ word).wrapping_mul(FACTOR).rotate_left(23)
 }
 
-/// The word of eight bytes from a place on.
+/// The eight bytes at a position, as a number.
 fn word_at(bytes: &[u8; 32], at: usize) -> u64 {
     match bytes[at % 32..].first_chunk::<8>() {
         Some(eight) => u64::from_le_bytes(*eight),
@@ -39,7 +39,7 @@ fn word_at(bytes: &[u8; 32], at: usize) -> u64 {
     }
 }
 
-/// The lanes after 32 bytes, a word for each.
+/// The lanes after 32 bytes, one word for each lane.
 fn after(lanes: Lanes, bytes: &[u8; 32]) -> Lanes {
     Lanes {
         a: mixed(lanes.a, word_at(bytes, 0)),
@@ -52,7 +52,7 @@ fn after(lanes: Lanes, bytes: &[u8; 32]) -> Lanes {
 impl Digest {
     ghost use Rattle.std.specs.Prelude.{◌≡◌};
 
-    /// Of no bytes.
+    /// The digest of no bytes.
     pub(crate) fn new(alloc: Global) -> Digest {
         Digest {
             lanes: Lanes {
@@ -67,7 +67,7 @@ impl Digest {
         }
     }
 
-    /// Takes what is held into the digest, but for the last bytes that don't fill all lanes.
+    /// Adds the buffered bytes to the digest, except the last ones that do not fill all lanes.
     fn take_held(&mut self)
         ensures { self.new.failed_calls ≡ self.old.failed_calls }
     {
@@ -81,11 +81,11 @@ impl Digest {
         last[..kept].copy_from_slice(&rest[..kept]);
         self.lanes = lanes;
         self.held.clear();
-        // There is room for them: they were held before.
+        // This can't fail: the buffer contained these bytes before.
         let _ = self.held.extend_from_slice(&last[..kept]);
     }
 
-    /// Takes bytes in, in full: a sink's write that can't fail for want of a count.
+    /// Adds all bytes. Unlike a sink's `write`, it returns no count, which a caller would have to check.
     pub(crate) fn push(&mut self, bytes: &[u8]) -> Result<(), Failed>
         ensures { self.new.failed_calls ≡ self.old.failed_calls }
     {
@@ -99,7 +99,7 @@ impl Digest {
         Ok(())
     }
 
-    /// How many bytes there were, and their digest.
+    /// The number of bytes, and their digest.
     pub(crate) fn finish(mut self) -> (u64, u64) {
         self.take_held();
         let Lanes { a, b, c, d } = self.lanes;
@@ -116,7 +116,7 @@ impl Sink for Digest {
 
     ghost failed_calls = { λ d. d.failed_calls };
 
-    // What it was handed, it doesn't keep.
+    // The bytes are not kept.
     ghost contents = { λ _. None };
 
     fn write(&mut self, piece: &[u8]) -> Result<usize, Failed> {

@@ -1,18 +1,18 @@
 //! The sections of the input.
 
-/// The text of each section; empty where it is not there.
+/// The text of each section; empty if the section is missing.
 #[derive(Clone, Copy)]
 pub(crate) struct Input<'a> {
     text: &'a str,
 }
 
 impl<'a> Input<'a> {
-    /// The sections of a text. A section begins with a line `=== NAME`.
+    /// Splits a text into its sections. A section begins with a line `=== NAME`.
     pub(crate) fn of(text: &'a str) -> Input<'a> {
         Input { text }
     }
 
-    /// The lines behind the head of a section, until the next.
+    /// The lines between this heading and the next one.
     pub(crate) fn section(&self, head: &str) -> &'a str {
         match self.text.split_once(head) {
             Some((_, behind)) => match behind.split_once("=== ") {
@@ -23,7 +23,7 @@ impl<'a> Input<'a> {
         }
     }
 
-    /// A boat's bus.
+    /// Recorded lines of a boat's bus.
     pub(crate) fn bus(&self) -> &'a str {
         self.section("=== bus\n")
     }
@@ -33,12 +33,12 @@ impl<'a> Input<'a> {
         self.section("=== whole\n")
     }
 
-    /// Lines in other forms.
+    /// Bad lines.
     pub(crate) fn bad(&self) -> &'a str {
         self.section("=== bad\n")
     }
 
-    /// Frames each of which opens a group.
+    /// Frames that each open a group.
     pub(crate) fn open(&self) -> &'a str {
         self.section("=== open\n")
     }

@@ -14,13 +14,13 @@ use n2k_wire::{Packing, is_interface};
 use std::alloc::Global;
 use std::str;
 
-/// How many seconds the lines of the bus take.
+/// How many seconds the lines of the bus cover.
 const SECONDS: u64 = 20;
 
-/// Of so many lines one is lost on a lossy bus.
+/// On a lossy bus one line in this many is lost.
 const LOST: u64 = 10;
 
-/// What a job prints: how often it did its work, what was counted, and the digests of texts and reports.
+/// Prints a job's counts, and the digests of its text and its reports.
 fn tell(rt: &impl Print, job: &str, counts: Counts, texts: Digest, reports: Digest) -> Result<()> {
     let Counts {
         lines,
@@ -50,7 +50,7 @@ fn options_of(in_order: bool) -> Result<Options> {
     })
 }
 
-/// Decodes a recording, as one log.
+/// Decodes a recording as one log.
 fn decode(
     rt: &impl Print,
     alloc: Global,
@@ -70,7 +70,7 @@ fn push(digest: &mut Digest, bytes: &[u8]) -> Result<()> {
     digest.push(bytes).map_err(|_| anyhow!("out of memory"))
 }
 
-/// Decodes so many rounds of the bus in order, with all its frames.
+/// Decodes `rounds` rounds of the bus in order, with all its frames.
 fn day(rt: &impl Print, alloc: Global, input: &Input, rounds: u64, seed: u64) -> Result<()> {
     let table = Table::read(alloc, input.table().as_bytes())?;
     let mut log = Replay::new(alloc, input.bus(), SECONDS, 0, seed)?;
@@ -78,7 +78,7 @@ fn day(rt: &impl Print, alloc: Global, input: &Input, rounds: u64, seed: u64) ->
     decode(rt, alloc, "day", &table, options_of(true)?, &mut log)
 }
 
-/// Decodes so many rounds of a bus on which a tenth of the frames is lost.
+/// Decodes `rounds` rounds of a bus that loses a tenth of its frames.
 fn lossy(rt: &impl Print, alloc: Global, input: &Input, rounds: u64, seed: u64) -> Result<()> {
     let table = Table::read(alloc, input.table().as_bytes())?;
     let mut log = Replay::new(alloc, input.bus(), SECONDS, LOST, seed)?;
@@ -86,7 +86,7 @@ fn lossy(rt: &impl Print, alloc: Global, input: &Input, rounds: u64, seed: u64) 
     decode(rt, alloc, "lossy", &table, options_of(false)?, &mut log)
 }
 
-/// Decodes so many rounds of frames each of which opens a group.
+/// Decodes `rounds` rounds of frames that each open a group.
 fn open(rt: &impl Print, alloc: Global, input: &Input, rounds: u64, seed: u64) -> Result<()> {
     let table = Table::read(alloc, input.table().as_bytes())?;
     let mut log = Replay::new(alloc, input.open(), SECONDS, 0, seed)?;
@@ -94,8 +94,8 @@ fn open(rt: &impl Print, alloc: Global, input: &Input, rounds: u64, seed: u64) -
     decode(rt, alloc, "open", &table, options_of(false)?, &mut log)
 }
 
-/// Decodes so many rounds of frames in random order: of half of the groups, which stay open, one or two each, and of each
-/// of the others a message.
+/// Decodes `rounds` rounds of frames in random order. Half of the groups stay open and get one or two frames each; each
+/// of the others gets a complete message.
 fn scattered(rt: &impl Print, alloc: Global, input: &Input, rounds: u64, seed: u64) -> Result<()> {
     let table = Table::read(alloc, input.table().as_bytes())?;
     let mut log = Scattered::new(alloc, input.open(), rounds, seed)?;
@@ -107,7 +107,7 @@ fn scattered(rt: &impl Print, alloc: Global, input: &Input, rounds: u64, seed: u
     decode(rt, alloc, "scattered", &table, options, &mut log)
 }
 
-/// Decodes the next round of a log as a part, from the saved state of the one before.
+/// Decodes the next round of a log as a part, from the saved state of the previous part.
 fn next_part(
     alloc: Global,
     table: &Table,
@@ -123,7 +123,7 @@ fn next_part(
     Ok(part)
 }
 
-/// Decodes a lossy bus in parts, so many behind the first, each from the saved state of the one before.
+/// Decodes a lossy bus in parts: a first one and `rounds` more, each from the saved state of the previous part.
 fn parts(rt: &impl Print, alloc: Global, input: &Input, rounds: u64, seed: u64) -> Result<()> {
     let table = Table::read(alloc, input.table().as_bytes())?;
     let mut log = Replay::new(alloc, input.bus(), SECONDS, LOST, seed)?;
@@ -137,7 +137,7 @@ fn parts(rt: &impl Print, alloc: Global, input: &Input, rounds: u64, seed: u64) 
     tell(rt, "parts", last.counts, texts, reports)
 }
 
-/// What a table says of all PGNs goes to a digest.
+/// Adds what a table contains about all PGNs to a digest.
 fn push_table(table: &Table, digest: &mut Digest) -> Result<()> {
     push(digest, &table.id())?;
     for pgn in 0..131_072u32 {
@@ -156,7 +156,7 @@ fn push_table(table: &Table, digest: &mut Digest) -> Result<()> {
     Ok(())
 }
 
-/// Reads a table. What it says of all PGNs goes to a digest, and so many lines of JSON for each of its definitions.
+/// Reads a table. What it contains about all PGNs goes to a digest, with several JSON lines of each definition.
 fn read_table(
     alloc: Global,
     text: &[u8],
@@ -183,8 +183,8 @@ fn read_table(
     Ok(())
 }
 
-/// Reads so many tables, each with other descriptions; one in twenty times one with 4,096 PGNs and one with 20 lookups
-/// of 4,096 names as well.
+/// Reads `rounds` tables, each with other descriptions. Every twentieth time it also reads a table of 4,096 PGNs and a
+/// table of 20 lookups with 4,096 names each.
 fn start(rt: &impl Print, alloc: Global, input: &Input, rounds: u64, seed: u64) -> Result<()> {
     let mut digest = Digest::new(alloc);
     let mut random = first_random(seed);
@@ -203,8 +203,8 @@ fn start(rt: &impl Print, alloc: Global, input: &Input, rounds: u64, seed: u64) 
     tell(rt, "start", Counts::NONE, digest, reports)
 }
 
-/// Writes so many rounds of the bus as plain lines, whole messages as the frames in which they are sent, in both forms,
-/// and reports lines in other forms.
+/// Writes `rounds` rounds of the bus as plain lines, writes whole messages as frames in both forms, and reports bad
+/// lines.
 fn convert(rt: &impl Print, alloc: Global, input: &Input, rounds: u64, seed: u64) -> Result<()> {
     let table = Table::read(alloc, input.table().as_bytes())?;
     let mut texts = Digest::new(alloc);
@@ -232,7 +232,7 @@ fn convert(rt: &impl Print, alloc: Global, input: &Input, rounds: u64, seed: u64
     decode(rt, alloc, "bad", &table, options_of(false)?, &mut log)
 }
 
-/// Writes so many messages of each definition, and as many decimal numbers, without a buffer that is kept.
+/// Writes `rounds` messages of each definition and as many decimal numbers, each into a vector of its own.
 fn alone(rt: &impl Print, alloc: Global, input: &Input, rounds: u64, seed: u64) -> Result<()> {
     let table = Table::read(alloc, input.table().as_bytes())?;
     let mut digest = Digest::new(alloc);
@@ -253,7 +253,7 @@ fn alone(rt: &impl Print, alloc: Global, input: &Input, rounds: u64, seed: u64) 
     tell(rt, "alone", Counts::NONE, digest, Digest::new(alloc))
 }
 
-/// Does a job, or `all`.
+/// Runs one job, or `all`.
 pub(crate) fn run(
     rt: &impl Print,
     alloc: Global,

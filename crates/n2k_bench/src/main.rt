@@ -1,8 +1,8 @@
-//! The benchmark: jobs that a user waits for, done on recordings that are played over and over, each time with later
-//! stamps, other senders and other data. docs/PERF.md tells how it is run.
+//! The benchmark: jobs that a user waits for. Each job replays a recording several times, each time with later
+//! timestamps, other senders and other data. docs/PERF.md describes how to run it.
 //!
-//! It is called as `n2k_bench JOB ROUNDS SEED`, with the sections of bench/input.txt on standard input. It prints what
-//! the job counted, and a digest of all that it printed. `all` does each job, one after the other.
+//! Usage: `n2k_bench JOB ROUNDS SEED`, with the sections of bench/input.txt on standard input. It prints what the job
+//! counted and a digest of all that the job printed. `all` runs every job in turn.
 #![tactic(auto)]
 
 mod described;
@@ -18,7 +18,7 @@ use input::Input;
 use n2k_run::{StdSource, read_bytes};
 use std::{env, str};
 
-/// The most bytes of the input.
+/// The maximum length of the input in bytes.
 const LONGEST_INPUT: usize = 1 << 24;
 
 fn number_of(word: &str) -> Result<u64> {

@@ -1,9 +1,9 @@
-//! A recording that is played over and over: the same lines, each time with later stamps, other senders and other data.
+//! A recording that is replayed: the same lines, each time with later timestamps, other senders and other data.
 
 use n2k_run::{Failed, Source};
 use std::alloc::{AllocError, Global};
 
-/// How many senders there are, and the least of their addresses. All have two digits, in either base.
+/// The number of senders, and the lowest of their addresses. All have two digits, in either base.
 pub(crate) const SENDERS: u64 = 40;
 
 pub(crate) const LEAST_SENDER: u64 = 60;
@@ -11,14 +11,14 @@ pub(crate) const LEAST_SENDER: u64 = 60;
 /// The seconds of a day.
 const DAY: u64 = 86_400;
 
-/// A number that looks random, of the one before: Marsaglia's xorshift.
+/// The next number of a pseudorandom sequence: Marsaglia's xorshift.
 pub(crate) fn next_random(before: u64) -> u64 {
     let a = before ^ (before << 13);
     let b = a ^ (a >> 7);
     b ^ (b << 17)
 }
 
-/// What random numbers begin with, for a seed.
+/// The first number of the sequence for a seed.
 pub(crate) fn first_random(seed: u64) -> u64 {
     next_random(next_random(seed.wrapping_mul(0x9e37_79b9_7f4a_7c15) ^ 0x6a09_e667_f3bc_c909) | 1)
 }
@@ -46,14 +46,14 @@ pub(crate) fn hex_value(digit: u8) -> u64 {
     }
 }
 
-/// Puts a byte where a text has that place.
+/// Writes a byte, if the text is long enough.
 pub(crate) fn put(text: &mut [u8], at: usize, byte: u8) {
     if let Some(place) = text.get_mut(at) {
         *place = byte;
     }
 }
 
-/// Puts bytes where a text has that place.
+/// Writes bytes, if the text is long enough.
 pub(crate) fn put_all<const N: usize>(text: &mut [u8], at: usize, bytes: &[u8; N]) {
     if let Some(rest) = text.get_mut(at..) {
         if let Some(place) = rest.first_chunk_mut::<N>() {
@@ -62,7 +62,7 @@ pub(crate) fn put_all<const N: usize>(text: &mut [u8], at: usize, bytes: &[u8; N
     }
 }
 
-/// The number of decimal digits; what is no digit counts as it comes.
+/// The number that decimal digits denote. Bytes that are not digits give an arbitrary number.
 fn number_of(digits: &[u8]) -> u64 {
     let mut number = 0u64;
     for byte in digits {
@@ -73,7 +73,7 @@ fn number_of(digits: &[u8]) -> u64 {
     number
 }
 
-/// The digits of a second of a candump stamp, and of a clock.
+/// The digits of a second in a candump timestamp and in a time of day.
 #[derive(Clone, Copy)]
 pub(crate) struct Digits {
     second: u64,
@@ -109,25 +109,25 @@ impl Digits {
     }
 }
 
-/// Where a line is changed.
+/// The positions that change in a line.
 #[derive(Clone, Copy)]
 struct Mark {
-    /// Whether it is a line of candump, whose stamp counts seconds; else it has a clock.
+    /// Whether it is a candump line, whose timestamp counts seconds; a plain line has a time of day.
     is_candump: bool,
-    /// Where the digits of its seconds stand, and the second.
+    /// The position of the digits of the seconds, and the second.
     at: usize,
     second: u64,
-    /// Where the two digits of its sender stand, and its number among the senders.
+    /// The position of the sender's two digits, and the sender's number.
     sender_at: usize,
     sender: u64,
-    /// Where digits of its data stand.
+    /// The positions of digits in the data.
     data_at: [usize; 3],
 }
 
-/// No place of a text.
+/// A position that no text has.
 const NOWHERE: usize = usize::MAX;
 
-/// The marks of a line of candump that begins at a place.
+/// The marks of the candump line at a position.
 fn candump_mark(begin: usize, line: &[u8]) -> Mark {
     let end = begin.saturating_add(line.len());
     let back = |bytes: usize| {
@@ -147,7 +147,7 @@ fn candump_mark(begin: usize, line: &[u8]) -> Mark {
     }
 }
 
-/// A sender's number, of the two digits of its address.
+/// A sender's number, from the two digits of its address.
 fn sender_of(digits: &[u8], base: u64) -> u64 {
     let [high, low] = digits else {
         return 0;
@@ -158,7 +158,7 @@ fn sender_of(digits: &[u8], base: u64) -> u64 {
         .saturating_sub(LEAST_SENDER)
 }
 
-/// Where the column behind so many commas begins.
+/// The position of the column after this many commas.
 fn column_at(line: &[u8], commas: usize) -> usize {
     let mut seen = 0usize;
     for (at, byte) in line.iter().enumerate() {
@@ -172,7 +172,7 @@ fn column_at(line: &[u8], commas: usize) -> usize {
     line.len()
 }
 
-/// The marks of a plain line that begins at a place.
+/// The marks of the plain line at a position.
 fn plain_mark(begin: usize, line: &[u8]) -> Mark {
     let end = begin.saturating_add(line.len());
     let column = column_at(line, 3);
@@ -205,14 +205,14 @@ fn plain_mark(begin: usize, line: &[u8]) -> Mark {
     }
 }
 
-/// A recording on its way to the reader.
+/// A recording that is being read.
 #[derive(Drop)]
 pub(crate) struct Replay {
     text: Vec<u8>,
     marks: Vec<Mark>,
     /// How many bytes of this round have been read.
     read: usize,
-    /// The rounds that were begun, and how many are to come.
+    /// The rounds that have begun, and the rounds still to come.
     round: u64,
     left: u64,
     /// How many seconds a round takes.
@@ -224,8 +224,8 @@ pub(crate) struct Replay {
 impl Replay {
     ghost use Rattle.std.specs.Prelude.{◌≡◌};
 
-    /// A recording of these lines, in rounds of so many seconds; none is to come yet. Of so many lines one is lost on
-    /// average, at random and the same in each round; none where this is 0.
+    /// A recording of these lines; a round lasts `seconds`. No round has been requested yet. On average one line in
+    /// `lost` is lost, the same lines in each round; none if `lost` is 0.
     pub(crate) fn new(
         alloc: Global,
         lines: &str,
@@ -263,7 +263,7 @@ impl Replay {
         })
     }
 
-    /// Lets so many rounds more come.
+    /// Requests more rounds.
     pub(crate) fn go_on(&mut self, rounds: u64) {
         self.left = self.left.saturating_add(rounds);
     }
@@ -311,7 +311,7 @@ impl Source for Replay {
 
     ghost failed_calls = { λ _. 0 };
 
-    // What comes of the random numbers, no definition says.
+    // No definition describes what the random numbers give.
     ghost remaining = { λ _. None };
 
     fn read(&mut self, buffer: &mut [u8]) -> Result<usize, Failed> {

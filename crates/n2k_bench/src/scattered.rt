@@ -15,18 +15,18 @@ const LINES: usize = 64;
 /// The frames of a message of 223 bytes, the longest.
 const FRAMES: u32 = 32;
 
-/// When the first frame comes, and how many come in a second.
+/// The time of the first frame, and the number of frames a second.
 const FIRST_SECOND: u64 = 1_751_608_800;
 
 const FRAMES_A_SECOND: u64 = 1000;
 
-/// Whether a group stays open, as every second one does.
+/// Whether a group stays open. Every second group does.
 fn stays_open(group: u32) -> bool {
     group % 2 == 0
 }
 
-/// How many frames of a group come in a round: of one that stays open one, or the same twice, so that it is opened
-/// again; of another those of a message.
+/// How many frames a group gets in a round. A group that stays open gets one, or the same frame twice, which opens the
+/// group again; any other group gets a complete message.
 fn frames_of(group: u32) -> u32 {
     if stays_open(group) {
         1 + group % 4 / 2
@@ -35,7 +35,7 @@ fn frames_of(group: u32) -> u32 {
     }
 }
 
-/// Brings items into a random order.
+/// Shuffles items.
 fn shuffle(items: &mut [u32], mut random: u64) {
     for last in 1..items.len() {
         random = next_random(random);
@@ -46,27 +46,27 @@ fn shuffle(items: &mut [u32], mut random: u64) {
     }
 }
 
-/// The frames of groups.
+/// The frames of the groups.
 #[derive(Drop)]
 struct Frames {
-    /// For each PGN and sequence the line of a frame, with its LF. Each has a group for each sender.
+    /// A frame's line, with its LF, for each PGN and sequence. Each sender has a group of each.
     kinds: Vec<u8>,
-    /// The groups of the frames of a round, in the order in which they come, and how many of these have come.
+    /// The groups in the order of this round's frames, and how many frames have been made.
     order: Vec<u32>,
     come: usize,
-    /// The rounds that are to come.
+    /// The rounds still to come.
     left: u64,
-    /// How many frames of each group have come, and of all.
+    /// The frames made so far: of each group, and of all groups.
     sent: Vec<u32>,
     frames: u64,
-    /// The lines on their way, and how many of their bytes have been read.
+    /// The lines that are being read, and how many of their bytes have been read.
     text: Vec<u8>,
     read: usize,
     random: u64,
 }
 
 impl Frames {
-    /// Those of the PGNs and sequences of these lines of candump, each of 50 bytes, in so many rounds.
+    /// Frames with the PGNs and sequences of these candump lines, each of 50 bytes, in `rounds` rounds.
     fn new(alloc: Global, lines: &str, rounds: u64, seed: u64) -> Result<Frames, AllocError> {
         let mut kinds = Vec::new(alloc);
         let mut order = Vec::new(alloc);
@@ -146,7 +146,7 @@ impl Frames {
             34,
             &[hex_digit(sequence | number / 16), hex_digit(number)],
         );
-        // The first frame has the length, 223.
+        // The first frame contains the length, 223.
         let first = if number == 0 {
             *b"DF"
         } else {
@@ -166,7 +166,7 @@ impl Frames {
                 self.begin_round();
             }
             if let Some(group) = self.order.get(self.come).copied() {
-                // Where memory is refused, the frame is lost.
+                // If memory is refused, the frame is lost.
                 let _ = self.push_line(group);
                 self.come = self.come.saturating_add(1);
             }
@@ -174,7 +174,7 @@ impl Frames {
     }
 }
 
-/// The frames of many groups on their way to the reader.
+/// The frames of many groups, as a source.
 #[derive(Drop)]
 pub(crate) struct Scattered {
     frames: Frames,
@@ -182,7 +182,7 @@ pub(crate) struct Scattered {
 }
 
 impl Scattered {
-    /// So many rounds of frames of the PGNs and sequences of these lines of candump, each of 50 bytes.
+    /// Frames with the PGNs and sequences of these candump lines, each of 50 bytes, in `rounds` rounds.
     pub(crate) fn new(
         alloc: Global,
         lines: &str,
@@ -203,7 +203,7 @@ impl Source for Scattered {
 
     ghost failed_calls = { λ _. 0 };
 
-    // What comes of the random numbers, no definition says.
+    // No definition describes what the random numbers give.
     ghost remaining = { λ _. None };
 
     fn read(&mut self, buffer: &mut [u8]) -> Result<usize, Failed> {

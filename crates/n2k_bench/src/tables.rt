@@ -1,9 +1,9 @@
-//! Tables to be read: that of the input with other descriptions, and two that are large.
+//! Tables for the benchmark: the table of the input with other descriptions, and two large tables.
 
 use crate::replay::next_random;
 use std::alloc::{AllocError, Global};
 
-/// What stands before a description in a table.
+/// The text before a description in a table.
 const KEY: &str = "description = \"";
 
 fn letter(random: u64) -> u8 {
@@ -16,7 +16,7 @@ fn push_number(alloc: Global, text: &mut Vec<u8>, number: u64) -> Result<(), All
     text.extend_from_slice(digits.as_bytes())
 }
 
-/// The table with four letters in front of each description, of the random number and those after it.
+/// The table with four letters before each description, from this random number and the following ones.
 pub(crate) fn with_letters(
     alloc: Global,
     table: &str,
@@ -40,7 +40,7 @@ pub(crate) fn with_letters(
     Ok(text)
 }
 
-/// A table of so many PGNs, each with two fields.
+/// A table of `count` PGNs with two fields each.
 pub(crate) fn many_pgns(alloc: Global, count: u64, random: u64) -> Result<Vec<u8>, AllocError> {
     let mut text = Vec::new(alloc);
     text.extend_from_slice(b"format = 1\n")?;
@@ -56,7 +56,7 @@ pub(crate) fn many_pgns(alloc: Global, count: u64, random: u64) -> Result<Vec<u8
     Ok(text)
 }
 
-/// A table of so many lookups, each with so many names, and a PGN with a field of 12 bits for each.
+/// A table of several lookups with several names each, and a PGN with a field of 12 bits for each lookup.
 pub(crate) fn many_names(
     alloc: Global,
     lookups: u64,

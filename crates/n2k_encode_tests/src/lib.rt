@@ -1,4 +1,4 @@
-//! The tests of `n2k_encode`: lines and what they give (`lines`), and the examples of its doc comments (`examples`).
+//! The tests of `n2k_encode`: JSON lines and their data (`lines`), and the examples of its doc comments (`examples`).
 #![tactic(auto)]
 
 #[cfg(test)]

@@ -1,4 +1,4 @@
-//! Lines of JSON, and the data or the refusals that they give.
+//! JSON lines, and the data or the refusals that they give.
 use json::Scratch;
 use n2k_encode::{EncodeError, encode_line};
 use n2k_table::Table;
@@ -97,9 +97,9 @@ fields = [
 ]
 ";
 
-// Each number is exactly that of its field.
+// Each number is exactly one that its field can show.
 const ENCODED: [(&str, &[u8]); 30] = [
-    // 240 bytes of UTF-8 are more than a message has.
+    // 240 bytes of UTF-8 do not fit into a message.
     (
         "{\"pgn\":130823,\"fields\":{\"A\":\"éééééééééééééééééééééééééééééééééééééééééééééééééééééééééééééééééééééééééééééééééééééééééééééééééééééééééééééééééééééééé\"}}",
         &[
@@ -233,7 +233,7 @@ const ENCODED: [(&str, &[u8]); 30] = [
     ),
 ];
 
-// The nearest number that a field can show.
+// A number that its field cannot show gives the nearest one.
 const NEAREST: [(&str, &[u8]); 6] = [
     (
         "{\"pgn\":128267,\"fields\":{\"Depth\":3.401}}",
@@ -261,7 +261,7 @@ const NEAREST: [(&str, &[u8]); 6] = [
     ),
 ];
 
-// What is refused, by number and field.
+// A refused line, and the number and the field of its refusal.
 const REFUSED: [(&str, u8, &str); 46] = [
     (
         "{\"pgn\":130822,\"fields\":{\"SID\":255,\"list\":[1,{\"X\":1}]}}",

@@ -1,4 +1,4 @@
-//! What the tests of several crates take: the sample table, and sample 2.
+//! What the tests of several crates use: the sample table, and sample 2.
 use n2k_table::{Table, TableFault};
 use std::alloc::Global;
 use std::mem::ManuallyDrop;
@@ -42,20 +42,20 @@ fields = [
 ]
 ";
 
-/// Its SHA-256, by sha256sum.
+/// The table's SHA-256, by sha256sum.
 pub const SAMPLE_ID: &str = "6b85e2b24165c1cf1b657bbddd71b3850cd65dafaf42319db5372fef7b615284";
 
-// The table of a text. It has no clause, so that no test's proof goes through the text.
+// Reads a table. It has no clause, so that no test's proof unfolds the text.
 pub(crate) fn read(alloc: Global, text: &str) -> Result<ManuallyDrop<Table>, TableFault> {
     Ok(ManuallyDrop::new(Table::read(alloc, text.as_bytes())?))
 }
 
-/// The sample table. It is never let go: the proof that letting one go is safe takes minutes.
+/// The sample table. It is never dropped: the proof that a drop is safe takes minutes.
 pub fn sample(alloc: Global) -> Result<ManuallyDrop<Table>, TableFault> {
     read(alloc, SAMPLE)
 }
 
-// What stands at the end of sample 2, in another spelling of the same document. The rest is the sample in format 2.
+// The end of sample 2, as another spelling of the same document. The rest is the sample in format 2.
 pub(crate) const PAIRS: &str = "
 [[pgn]]
 number = 130822
@@ -68,19 +68,19 @@ repeat = { at = 8, bits = 24, fields = [
 ] }
 ";
 
-// A text with this part, where it stands first, replaced.
+// Replaces the first occurrence of a part.
 pub(crate) fn replaced(alloc: Global, text: &str, old: &str, new: &str) -> Result<String, Fail> {
     let (front, back) = text.split_once(old).ok_or("a part of the text")?;
     Ok(format!(in alloc; "{front}{new}{back}")?)
 }
 
-// Sample 2, with this at its end.
+// Sample 2, with this text at its end.
 pub(crate) fn sample_2(alloc: Global, end: &str) -> Result<String, Fail> {
     let front = replaced(alloc, SAMPLE, "format = 1", "format = 2")?;
     Ok(format!(in alloc; "{front}{end}")?)
 }
 
-/// Sample 2, read.
+/// Sample 2 as a table.
 pub fn pairs_table(alloc: Global) -> Result<ManuallyDrop<Table>, Fail> {
     let text = sample_2(alloc, PAIRS)?;
     Ok(read(alloc, &text)?)

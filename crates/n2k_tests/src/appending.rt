@@ -10,7 +10,7 @@ use n2k_wire::{
 use std::alloc::Global;
 use std::process::Abort;
 
-// What stands in the vector before a call.
+// The bytes in the vector before a call.
 const BEFORE: &str = "what stood before";
 
 // The first frame of split-and-back, and the texts that the calls append.
@@ -34,7 +34,7 @@ const APPENDED: [&str; 7] = [
     "lines 0 messages 0 bad 0 unknown 0 broken 0 open 0\n",
 ];
 
-// Whether the call of this number has appended its text.
+// Whether the call of this number appended its text.
 fn appends(alloc: Global, call: usize, table: &Table, packet: &Packet, out: &mut Vec<u8>) -> bool {
     match call {
         0 => plain_text(alloc, packet, out).is_ok(),
@@ -86,7 +86,7 @@ const JSON_LINE: &str =
 
 const PLAIN_LINE: &str = "1970-01-01T00:00:01.000Z,2,129026,127,255,2,05,00\n";
 
-// Whether the call of this number has added its line.
+// Whether the call of this number added its line.
 fn adds(call: usize, table: &Table, packet: &Packet, lines: &mut LineBuffer) -> bool {
     match table.find(packet.id().pgn) {
         Some(known) if call == 0 => json_line_of(&known, packet, false, lines).is_ok(),
@@ -94,7 +94,7 @@ fn adds(call: usize, table: &Table, packet: &Packet, lines: &mut LineBuffer) -> 
     }
 }
 
-// The buffer has this line so many times. If memory for the comparison is refused, nothing is compared.
+// The buffer contains this line `count` times. If memory for the comparison is refused, nothing is compared.
 fn has_lines<R: Abort + AllocGlobal>(rt: &R, lines: &LineBuffer, line: &str, count: usize) {
     let mut wanted = Vec::new(rt.alloc());
     for _ in 0..count {
@@ -106,7 +106,7 @@ fn has_lines<R: Abort + AllocGlobal>(rt: &R, lines: &LineBuffer, line: &str, cou
     assert_eq!(rt; wanted.strip_prefix(front), Some(rest));
 }
 
-// Adds lines past the room, and takes them out.
+// Adds lines beyond the room, and takes them out.
 fn adds_or_leaves<R: Abort + AllocGlobal>(
     rt: &R,
     call: usize,

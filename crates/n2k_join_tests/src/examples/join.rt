@@ -48,7 +48,7 @@ fn new_joins(rt: HostRuntime) -> Result<(), Fail> {
     Ok(())
 }
 
-// A state of the sample table after 50 lines: two groups are open, since lines 1 and 2.
+// A state of the sample table after 50 lines: two groups have been open since lines 1 and 2.
 fn open_since_1_and_2(alloc: Global) -> Result<String, Fail> {
     spelled(
         alloc,

@@ -18,7 +18,7 @@ fn push_told(told: &str, text: &mut Vec<u8>) -> Result<(), Fail> {
     Ok(())
 }
 
-// Whose message a group is of, and the line where it begins.
+// Appends the stream of a group, and the line at which the group began.
 fn push_group(alloc: Global, group: &Broken, text: &mut Vec<u8>) -> Result<(), Fail> {
     let sender = format!(in alloc; "{} {} {}", group.pgn, group.src, group.dst)?;
     push_told(&sender, text)?;
@@ -26,14 +26,14 @@ fn push_group(alloc: Global, group: &Broken, text: &mut Vec<u8>) -> Result<(), F
     push_told(&rest, text)
 }
 
-// A group that a line breaks, after the number of the line.
+// Appends the number of a line and the group that the line breaks.
 fn push_broken(alloc: Global, line: u64, group: &Broken, text: &mut Vec<u8>) -> Result<(), Fail> {
     let front = format!(in alloc; "{line} broken ")?;
     push_told(&front, text)?;
     push_group(alloc, group, text)
 }
 
-// What a line gave, after the number of the line: the group that it breaks, its cause, its message as a plain line.
+// Appends what a line gave after its number: the group that it breaks, its cause, its message as a plain line.
 fn push_step(alloc: Global, line: u64, step: &Step, text: &mut Vec<u8>) -> Result<(), Fail> {
     if let Some(group) = &step.broken {
         push_broken(alloc, line, group, text)?;
@@ -50,7 +50,7 @@ fn push_step(alloc: Global, line: u64, step: &Step, text: &mut Vec<u8>) -> Resul
     Ok(())
 }
 
-// Takes a line, and tells what it gave.
+// Passes a line to the join and appends what the line gave.
 fn tell(
     alloc: Global,
     join: &mut Join,
@@ -93,7 +93,7 @@ fn push_counts(alloc: Global, counts: &Counts, text: &mut Vec<u8>) -> Result<(),
     Ok(())
 }
 
-// What the lines of a log gave, and the six counts after them. So many empty lines stand between its two parts.
+// What the lines of a log gave, and then the six counts. `between` empty lines separate the two parts of the log.
 fn told_apart(
     alloc: Global,
     window: Window,
@@ -124,7 +124,7 @@ fn tells<R: Abort + AllocGlobal>(
     Ok(())
 }
 
-// A log, and what its lines give, each after its number; at the end the six counts.
+// A log, and what its lines give, each after its number; the six counts at the end.
 const WORKED: [(&str, &str); 10] = [
     (
         TWO_SOURCES,
@@ -194,8 +194,8 @@ fn groups_as_worked(rt: HostRuntime) -> Result<(), Fail> {
     Ok(())
 }
 
-// The same logs in order: a lost frame 0 costs its own message, exchanged frames make none, and after a repeated frame the
-// frame 0 that comes next breaks what that one opened.
+// Logs of `WORKED` in order. A lost frame 0 costs its own message, swapped frames give none, and after a repeated frame
+// the next frame 0 breaks the group which that frame opened.
 const IN_ORDER: [(&str, &str); 4] = [
     (
         FIRST_FRAME_LOST,
@@ -229,7 +229,7 @@ fn groups_in_order(rt: HostRuntime) -> Result<(), Fail> {
     Ok(())
 }
 
-// Under the shortest window, with so many empty lines between two lines.
+// Compares under the shortest window, with `between` empty lines between two lines.
 fn tells_apart<R: Abort + AllocGlobal>(
     rt: &R,
     front: &str,
@@ -249,7 +249,7 @@ const NOT_STALE: &str =
     "32 1970-01-01T00:00:09.000Z,7,130820,5,255,13,a3,99,03,44,45,46,41,41,41,41,41,41,41
 32 1 0 0 0 0";
 
-// A window of 32 lines ends a group of line 1 at line 33, and not at line 32.
+// A window of 32 lines ends a group of line 1 at line 33, not at line 32.
 #[test]
 fn stale_group(rt: HostRuntime) -> Result<(), Fail> {
     let (front, back) = MIXED_MESSAGE.split_once("\n").ok_or("two lines")?;
@@ -257,7 +257,7 @@ fn stale_group(rt: HostRuntime) -> Result<(), Fail> {
     tells_apart(&rt, front, 30, back, NOT_STALE)
 }
 
-// At line 33 the window of the first group ends, and a frame 0 repeats that of the second.
+// At line 33 the window of the first group ends, and a second frame 0 breaks the second group.
 const TWO_OPEN: &str = "(10.000001) can0 1DFF0405#000BA39901414243
 (10.100000) can0 1DFF0406#200BA39902585920";
 
@@ -272,7 +272,7 @@ fn two_broken_at_one_line(rt: HostRuntime) -> Result<(), Fail> {
     tells_apart(&rt, TWO_OPEN, 30, AGAIN, BOTH_BROKEN)
 }
 
-// The data of the n-th message of the logs below.
+// Whether the message is the label of this kind.
 fn is_label(step: &Step, kind: u8) -> bool {
     match &step.message {
         Some(message) => message.data()
@@ -316,7 +316,7 @@ fn seventy_under_way(rt: HostRuntime) -> Result<(), Fail> {
     Ok(())
 }
 
-// Whether a line lends a message. The groups whose window ends at it are broken before.
+// Whether a line's message is returned in place. Groups whose window ends at the line are broken first.
 fn lends(join: &mut Join, table: &Table, line: &str) -> Result<bool, JoinFault> {
     while join.expire().is_some() {}
     let mut entry = read_line(line.as_bytes(), Packing::Frames);
@@ -324,7 +324,7 @@ fn lends(join: &mut Join, table: &Table, line: &str) -> Result<bool, JoinFault> 
     Ok(step.message.is_some())
 }
 
-// How many messages the lines of a log lend.
+// How many messages the lines of a log give in place.
 fn lent_by(join: &mut Join, table: &Table, log: &str) -> Result<u32, JoinFault> {
     let mut lent = 0u32;
     for line in log.lines() {
@@ -334,7 +334,7 @@ fn lent_by(join: &mut Join, table: &Table, log: &str) -> Result<u32, JoinFault> 
     Ok(lent)
 }
 
-// The last two lines of two sources complete a message each, which is lent.
+// Each of the last two lines completes a message, which is returned in place.
 #[test]
 fn messages_are_lent(rt: HostRuntime) -> Result<(), Fail> {
     let table = sample(rt.alloc())?;

@@ -1,4 +1,4 @@
-//! Refused growth leaves a join as it was.
+//! A refused growth leaves a join unchanged.
 use super::logs::{
     EIGHT_UNDER_WAY, EXTRA_FRAME, FRAMES_IN_REVERSE, MIXED_MESSAGE, ODD_FRAMES, REPEAT_BREAKS,
     SHORT_LAST_FRAME, SHORT_TOTALS, TWO_SOURCES, seventy_senders,
@@ -11,7 +11,7 @@ use std::alloc::Global;
 use std::process::Abort;
 use std::test::Fail;
 
-// The text of the join's state. Only one growth is refused, so a second try has memory.
+// The join's state as text. Only one growth is refused, so the second try has memory.
 fn saved(alloc: Global, join: &Join) -> Result<Vec<u8>, Fail> {
     match join.save(alloc) {
         Ok(text) => Ok(text),
@@ -19,7 +19,7 @@ fn saved(alloc: Global, join: &Join) -> Result<Vec<u8>, Fail> {
     }
 }
 
-// Takes a line. Where a growth is refused the join stands as it stood, and the same line goes on.
+// Passes a line to the join. If a growth is refused, the join is unchanged and accepts the same line.
 fn take_though_refused(
     alloc: Global,
     table: &Table,
@@ -51,7 +51,7 @@ fn after(alloc: Global, table: &Table, log: &str) -> Result<(Vec<u8>, Counts), F
     Ok((saved(alloc, &join)?, join.counts()))
 }
 
-// Only one growth is refused, so the second reading of a log is one of ample memory.
+// Only one growth is refused, so the second reading of a log has ample memory.
 fn is_same_again<R: Abort + AllocGlobal>(rt: &R, table: &Table, log: &str) -> Result<(), Fail> {
     let (state, counts) = after(rt.alloc(), table, log)?;
     let (ample, ample_counts) = after(rt.alloc(), table, log)?;
@@ -72,7 +72,7 @@ const LOGS: [&str; 9] = [
     EIGHT_UNDER_WAY,
 ];
 
-// `tests/faults/refused-growth` lets each growth fail in turn.
+// `tests/faults/refused-growth` refuses each growth in turn.
 #[test]
 fn refused_growth_changes_nothing(rt: HostRuntime) -> Result<(), Fail> {
     let Ok(table) = sample(rt.alloc()) else {

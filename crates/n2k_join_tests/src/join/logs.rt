@@ -1,4 +1,4 @@
-//! The logs of the worked groups.
+//! The logs of the worked examples of groups.
 use std::alloc::Global;
 
 pub(crate) const TWO_SOURCES: &str = "(10.000001) can0 1DFF0405#000BA39901414243
@@ -31,17 +31,17 @@ pub(crate) const FIRST_FRAME_LOST: &str = "(1.0) can0 1DFF0405#0141414141414141
 (4.0) can0 1DFF0405#0120202020202020
 (5.0) can0 1DFF0405#0220202020202020";
 
-// A frame without a byte, a frame 0 without a total, a PGN that isn't in the table, a message of a single frame.
+// A frame without data, a frame 0 without a length, a PGN that the table lacks, a message of a single frame.
 pub(crate) const ODD_FRAMES: &str = "(1.0) can0 1DFF0405#
 (2.0) can0 1DFF0405#00
 (3.0) can0 18EAFF01#00
 (4.0) can0 09F11324#7D0B";
 
-// The last frame of a message, with its one byte alone.
+// The last frame of a message contains only its one byte.
 pub(crate) const SHORT_LAST_FRAME: &str = "(1.0) can0 1DFF0405#0007010203040506
 (2.0) can0 1DFF0405#0107";
 
-// Totals of 0, of 6 where a group of a greater total was open, and of 14.
+// Lengths of 0, of 6 after a group of a greater length, and of 14.
 pub(crate) const SHORT_TOTALS: &str = "(1.0) can0 1DFF0405#0000FFFFFFFFFFFF
 (2.0) can0 1DFF0405#000BA39901414243
 (3.0) can0 1DFF0405#0006A39901414243
@@ -84,7 +84,7 @@ pub(crate) const LONGEST_MESSAGE: &str = "(1.0) can0 1DFF0405#00DFA399054A4B4C
 (32.0) can0 1DFF0405#1F20202020202020
 (33.0) can0 1DFF0405#00E0A399054A4B4C";
 
-// The second frames of eight messages of one stream, and then the first ones in reverse.
+// The second frames of eight messages of one stream, then the first frames in reverse.
 pub(crate) const EIGHT_UNDER_WAY: &str = "(1.0) can0 1DFF0405#010000000000FFFF
 (1.0) can0 1DFF0405#210000000000FFFF
 (1.0) can0 1DFF0405#410000000000FFFF
@@ -108,14 +108,14 @@ fn push_second(alloc: Global, src: u8, log: &mut String) -> Option<()> {
     log.push_str(&line).ok()
 }
 
-// The first one, which has the sender's number in it.
+// The first frame of a sender's message, which contains the sender's number.
 fn push_first(alloc: Global, src: u8, log: &mut String) -> Option<()> {
     let line = format!(in alloc; "(2.0) can0 1DFF04{src:02X}#000BA399{src:02X}414243\n").ok()?;
     log.push_str(&line).ok()
 }
 
-// Second frames of 70 senders, one of them twice, and then their first ones, from the first sender on: more groups are
-// open than are looked through, and in the end few are.
+// Second frames of 70 senders, one of them twice, then the first frames in the order of the senders: many groups are
+// open at once.
 pub(crate) fn seventy_senders(alloc: Global) -> Option<String> {
     let mut log = String::new(alloc);
     for src in 0..70u8 {

@@ -1,4 +1,4 @@
-//! The frames that messages are sent in.
+//! Messages that are sent as frames.
 use n2k_join::{SplitFault, Splitter};
 use n2k_table::Table;
 use n2k_table_tests::samples::sample;
@@ -9,7 +9,7 @@ use std::test::Fail;
 
 const LABEL: &str = "1970-01-01T00:00:10.300Z,7,130820,5,255,11,a3,99,01,41,42,43,00,00,00,00,00";
 
-// The frames of it that are sent, with `?` for the first digit of their numbers.
+// The frames of `LABEL`, with `?` for the first digit of each frame's number.
 const LABEL_SENT: &str = "1970-01-01T00:00:10.300Z,7,130820,5,255,8,?0,0b,a3,99,01,41,42,43
 1970-01-01T00:00:10.300Z,7,130820,5,255,8,?1,00,00,00,00,00,ff,ff
 ";
@@ -29,7 +29,7 @@ fn texts(alloc: Global, packets: &[Packet]) -> Result<Vec<u8>, Fail> {
     Ok(text)
 }
 
-// The frames that a line's message is sent in: how many are told, and their texts.
+// The frames of a line's message: the returned count, and their texts.
 fn sent(
     alloc: Global,
     table: &Table,
@@ -42,7 +42,7 @@ fn sent(
     Ok((count, texts(alloc, &packets)?))
 }
 
-// The message of a line is sent in so many frames, of which these are the texts.
+// The message of a line is sent as this many frames with these texts.
 fn sends<R: Abort + AllocGlobal>(
     rt: &R,
     table: &Table,
@@ -67,7 +67,7 @@ fn nine_messages_have_eight_sequences(rt: HostRuntime) -> Result<(), Fail> {
     }
     let wanted = "x,7,130820,5,9,8,00,00,ff,ff,ff,ff,ff,ff\n";
     sends(&rt, &table, &mut splitter, "x,7,130820,5,9,0", 1, wanted)?;
-    // A message of a single frame is its own.
+    // A message of a single frame is sent unchanged.
     let single = "x,2,129026,127,255,2,01,02\n";
     sends(&rt, &table, &mut splitter, single.trim_end(), 1, single)
 }
@@ -82,7 +82,7 @@ fn fast(data: &[u8]) -> Option<Packet> {
     Packet::new(b"x", id, data)
 }
 
-// How many frames are told of a message of so many bytes, how many there are, and the text of the last one.
+// For a message of `total` bytes: the returned count, the number of frames, and the text of the last frame.
 fn last_sent(alloc: Global, table: &Table, total: usize) -> Result<(usize, usize, Vec<u8>), Fail> {
     let bytes = [0x20; 223];
     let message = fast(bytes.get(..total).ok_or("short")?).ok_or("a message")?;
@@ -92,7 +92,7 @@ fn last_sent(alloc: Global, table: &Table, total: usize) -> Result<(usize, usize
     Ok((count, packets.len(), texts(alloc, &packets[last..])?))
 }
 
-// How many bytes a message has, how many frames, and the text of the last one.
+// The bytes of a message, its number of frames, and the text of the last frame.
 const LENGTHS: [(usize, usize, &str); 6] = [
     (0, 1, "x,7,130820,5,255,8,00,00,ff,ff,ff,ff,ff,ff\n"),
     (6, 1, "x,7,130820,5,255,8,00,06,20,20,20,20,20,20\n"),
@@ -124,7 +124,7 @@ fn frames_of_short_and_of_long_messages(rt: HostRuntime) -> Result<(), Fail> {
     Ok(())
 }
 
-// A message of a line is refused, and no frame is made.
+// A line's message is refused, and no frame is made.
 fn refuses<R: Abort + AllocGlobal>(
     rt: &R,
     table: &Table,
@@ -147,8 +147,8 @@ fn messages_that_are_not_sent(rt: HostRuntime) -> Result<(), Fail> {
     refuses(&rt, &table, "x,6,59904,1,255,0", SplitFault::Unknown)
 }
 
-// `tests/faults/refused-growth` lets each growth fail in turn: then nothing is changed, and the message sent again has
-// the frames that it has with ample memory.
+// `tests/faults/refused-growth` refuses each growth in turn. A refusal changes nothing, and the next try gives the same
+// frames as with ample memory.
 #[test]
 fn refused_memory_changes_nothing(rt: HostRuntime) {
     let alloc = rt.alloc();

@@ -1,4 +1,4 @@
-//! The states that are taken, and why others are refused.
+//! Which states are accepted, and why others are refused.
 use crate::samples::{long_window, shortest_window, spelled, take};
 use n2k_join::{Join, JoinFault, StateFault, Window};
 use n2k_table::Table;
@@ -7,29 +7,29 @@ use std::alloc::Global;
 use std::process::Abort;
 use std::test::Fail;
 
-// Of no lines, as it is saved, and in format 1. In these texts ' stands for a quotation mark, and ID for the table's id.
+// A state after no lines, as it is saved, and in format 1. In these texts ' is a quotation mark and ID the table's id.
 const EMPTY: &str =
     "{'bad':0,'broken':0,'format':2,'groups':[],'lines':0,'messages':0,'table':'ID','unknown':0,'window':10000}";
 
 const OLD_EMPTY: &str =
     "{'bad':0,'broken':0,'format':1,'groups':[],'lines':0,'messages':0,'table':'ID','unknown':0}";
 
-// Of two sources, each with its first frame, in format 1.
+// A state of two sources, each with its first frame, in format 1.
 const OLD_OPEN: &str =
     "{'bad':0,'broken':0,'format':1,'groups':[{'dst':255,'first':1,'frames':[[0,'0ba39901414243']],'pgn':130820,'seq':0,'src':5},{'dst':255,'first':2,'frames':[[0,'0ba39902585920']],'pgn':130820,'seq':1,'src':6}],'lines':2,'messages':0,'table':'ID','unknown':0}";
 
-// The same in format 2.
+// `OLD_OPEN` in format 2.
 const OPEN: &str =
     "{'bad':0,'broken':0,'format':2,'groups':[{'dst':255,'first':1,'frames':[[0,'0ba39901414243']],'pgn':130820,'seq':0,'src':5},{'dst':255,'first':2,'frames':[[0,'0ba39902585920']],'pgn':130820,'seq':1,'src':6}],'lines':2,'messages':0,'table':'ID','unknown':0,'window':10000}";
 
-// What is answered to whole texts.
+// A result, and the whole text that gives it.
 const WHOLE: &str = "NotJson | {'bad':0
 NotJson | 
 Format | []
 Format | {'format':3}
 Shape | {'format':1}";
 
-// What is answered where a part of the empty state, where it stands first, is replaced: answer, part, replacement.
+// The result if one part of `EMPTY` (its first occurrence) is replaced: result, part, replacement.
 const OF_EMPTY: &str = "taken | ID | ID
 Format | 'format':2 | 'format':0
 Shape | 'format':2 | 'format':1
@@ -42,7 +42,7 @@ WindowDiffers | 'unknown':0,'window':10000 | 'unknown':1,'window':10001
 TableDiffers | ID','unknown':0,'window':10000 | 0000000000000000000000000000000000000000000000000000000000000000','unknown':0,'window':32
 Invalid | 'unknown':0 | 'unknown':1";
 
-// The same of the empty state in format 1.
+// Changes to the empty state in format 1: result, part, replacement.
 const OF_OLD_EMPTY: &str = "taken | ID | ID
 Shape | 'format':1 | 'format':2
 Shape | 'unknown':0 | 'unknown':0,'window':10000
@@ -56,7 +56,7 @@ Invalid | 'bad':0,'broken':0,'format':1,'groups':[],'lines':0,'messages':0 | 'ba
 Invalid | 'broken':0 | 'broken':1
 taken | 'lines':0 |  'lines' : 5, 'lines':999999999999999";
 
-// The same of the state of two sources.
+// Changes to `OLD_OPEN`: result, part, replacement.
 const OF_OLD_OPEN: &str = "taken | ID | ID
 Shape | ba39901414243 | ba399014142
 Invalid | 'first':2 | 'first':1
@@ -74,7 +74,7 @@ taken | 0ba39901 | 0BA39901
 Invalid | 'broken':0 | 'broken':1
 taken | 'lines':2 | 'lines':50";
 
-// The same under a window of 32 lines, where the state tells it.
+// Changes to `OPEN` with a window of 32 lines: result, part, replacement.
 const OF_OPEN: &str = "taken | ID | ID
 taken | 0ba39901 | 0BA39901
 taken | 'seq':0 | 'seq': 0
@@ -89,7 +89,7 @@ Invalid | 'lines':2 | 'lines':33
 Invalid | 'lines':2 | 'lines':50
 WindowDiffers | 'lines':2,'messages':0,'table':'ID','unknown':0,'window':32 | 'lines':50,'messages':0,'table':'ID','unknown':0,'window':33";
 
-// What the reading of a state answers: `taken`, or the fault.
+// The result of reading a state: `taken`, or the fault.
 fn answer(alloc: Global, table: &Table, window: Window, state: &str) -> Result<String, Fail> {
     let text = spelled(alloc, state)?;
     match Join::resume(alloc, table, window, text.as_bytes()) {
@@ -98,7 +98,6 @@ fn answer(alloc: Global, table: &Table, window: Window, state: &str) -> Result<S
     }
 }
 
-// The state with one part replaced.
 fn replaced(alloc: Global, state: &str, change: &str) -> Result<String, Fail> {
     let (old, new) = change.split_once(" | ").ok_or("a replacement")?;
     let (front, back) = state.split_once(old).ok_or("a part of the state")?;
@@ -129,7 +128,7 @@ fn changed<R: Abort + AllocGlobal>(
     answers(rt, table, window, &changed, wanted)
 }
 
-// Holds a state, with one part replaced in each case, against the case's answer.
+// Replaces one part of a state for each case, and compares the result with the case's.
 fn one_change_each<R: Abort + AllocGlobal>(
     rt: &R,
     table: &Table,
@@ -157,14 +156,13 @@ fn states_judged(rt: HostRuntime) -> Result<(), Fail> {
     one_change_each(&rt, &table, shortest_window(), &open, OF_OPEN)
 }
 
-// A state tells its window, and is read under no other.
+// A state contains its window, and can be resumed only with the same window.
 #[test]
 fn the_usual_window_under_the_shortest(rt: HostRuntime) -> Result<(), Fail> {
     let table = sample(rt.alloc())?;
     answers(&rt, &table, shortest_window(), EMPTY, "WindowDiffers")
 }
 
-// The state of a join is this one.
 fn saves<R: Abort + AllocGlobal>(rt: &R, join: &Join, state: &str) -> Result<(), Fail> {
     let wanted = spelled(rt.alloc(), state)?;
     let saved = join.save(rt.alloc())?;
@@ -199,11 +197,12 @@ fn two_lines_resumed(rt: HostRuntime) -> Result<(), Fail> {
     Ok(())
 }
 
-// Of 51 lines, two groups broken, under the shortest window.
+// The state after 51 lines and two broken groups, under the shortest window.
 const AFTER_OVERDUE: &str =
     "{'bad':0,'broken':2,'format':2,'groups':[],'lines':51,'messages':0,'table':'ID','unknown':0,'window':32}";
 
-// A state of format 1 whose groups waited too long: it is saved as it was read, and both groups end at its next line.
+// A state of format 1 whose groups have waited too long: it is saved as it was read, and the next line ends both
+// groups.
 #[test]
 fn overdue_groups_of_an_old_state(rt: HostRuntime) -> Result<(), Fail> {
     let table = sample(rt.alloc())?;
@@ -226,7 +225,7 @@ fn the_limit_of_lines(rt: HostRuntime) -> Result<(), Fail> {
     Ok(())
 }
 
-// No text that is cut short is JSON.
+// A state that is cut short is not valid JSON.
 #[test]
 fn states_cut_short(rt: HostRuntime) -> Result<(), Fail> {
     let table = sample(rt.alloc())?;
@@ -239,7 +238,7 @@ fn states_cut_short(rt: HostRuntime) -> Result<(), Fail> {
     Ok(())
 }
 
-// No digit that is changed is told as want of memory.
+// A changed digit is never reported as refused memory.
 fn digit_changes<R: Abort + AllocGlobal>(
     rt: &R,
     table: &Table,

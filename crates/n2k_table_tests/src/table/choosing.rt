@@ -12,7 +12,7 @@ const NARROW: &str = "{ number = 1, kind = 'fast', description = 'Narrow', field
     { name = 'A', kind = 'number', at = 0, bits = 8, match = 7 }, \
     { name = 'B', kind = 'lookup', at = 4, bits = 8, lookup = 'L', match = 16 }] }";
 
-// A table of these two definitions, after one of another PGN.
+// A table of these two definitions, after a definition of another PGN.
 fn two(alloc: Global, first: &str, second: &str) -> Result<ManuallyDrop<Table>, Fail> {
     let text = format!(in alloc;
         "format = 1\npgn = [{{ number = 2, kind = 'single', description = 'O', fields = [] }}, {first}, {second}]\nlookup = [{{ name = 'L', entries = [] }}]\n"
@@ -46,7 +46,8 @@ fn chooses<R: Abort + AllocGlobal>(
     Ok(())
 }
 
-// Of two definitions of a PGN the first in the file is chosen that the data match, whichever asks for more.
+// Of several definitions of a PGN, the first in the file whose values the data match is chosen, even if another matches
+// more.
 #[test]
 fn first_match_in_file_order(rt: HostRuntime) -> Result<(), Fail> {
     for (wide_first, data, wanted) in &CHOICES {

@@ -5,14 +5,14 @@ use std::alloc::Global;
 use std::process::Abort;
 use std::test::Fail;
 
-// Whether a front of the sample is a table: where nothing that is begun is left unfinished. These are the ends of its
-// first line, of the lookup's last key and of each definition's last key, and the empty lines behind them.
+// Whether a prefix of the sample is a complete table. It is at the end of the first line, of the lookup's last key and
+// of each definition's last key, and at the empty lines after these.
 fn is_finished(front: &str) -> bool {
     let text = front.trim_end_matches('\n');
     text.ends_with("format = 1") || text.ends_with("[2, \"Error\"]]") || text.ends_with("\n]")
 }
 
-// Where a front is no table, it is no TOML, has no format yet, or lacks a key.
+// Any other prefix is not TOML, has no format yet, or lacks a key.
 fn cut_reads(alloc: Global, front: &str) -> bool {
     match read(alloc, front) {
         Ok(_) => is_finished(front),
@@ -31,7 +31,7 @@ fn cut_after_each_byte(rt: HostRuntime) -> Result<(), Fail> {
             reading = reading.saturating_add(1);
         }
     }
-    // Three each behind the first line, the lookup and two definitions, and two behind the last one.
+    // Three prefixes each after the first line, the lookup and two definitions, and two after the last definition.
     assert_eq!(rt; reading, 14);
     Ok(())
 }

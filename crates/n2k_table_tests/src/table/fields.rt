@@ -1,8 +1,8 @@
-//! Tables of one field.
+//! Tables with one field.
 use super::tables::field_answers;
 use std::test::Fail;
 
-// What is answered for a field: answer, field.
+// Result, field.
 const FIELDS: &str = "reads | kind = 'number', at = 0, bits = 1
 reads | kind = 'number', at = 1783, bits = 1
 reads | kind = 'number', at = 1720, bits = 64, signed = true

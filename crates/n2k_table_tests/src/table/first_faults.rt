@@ -1,9 +1,9 @@
-//! Tables with several faults: the first is answered, in the order of docs/PROFILE.md.
+//! Tables with several faults: the first is reported, in the order of docs/PROFILE.md.
 use super::tables::{answers, of_format};
 use std::process::Abort;
 use std::test::Fail;
 
-// What is answered, and the whole table.
+// Result, whole table.
 const TABLES: [(&str, &str); 7] = [
     ("Format", "unit = 'm'"),
     ("Key", "format = 1\nunit = 'm'\nlookup = [{ name = '' }]"),
@@ -29,7 +29,7 @@ const TABLES: [(&str, &str); 7] = [
     ),
 ];
 
-// What is answered, and the definitions of a table of format 2.
+// Result, definitions of a table in format 2.
 const DEFINITIONS: &str = "Key | { unit = 'm', number = -1 }
 Range | { number = -1, kind = 'slow' }
 Text | { number = 1, kind = 'slow', description = 1 }
@@ -40,7 +40,7 @@ Range | { number = 1, kind = 'fast', description = 'D', repeat = { at = 4, bits 
 Text | { number = 1, kind = 'fast', description = 'D', fields = [] }, \
     { number = 1, kind = 'single', description = 'D', fields = [] }, { number = 1, kind = 'slow' }";
 
-// What is answered, and the fields of a definition, in a table with the lookup L.
+// Result, fields of a definition, in a table with the lookup L.
 const FIELDS: &str = "Text | { kind = 'pair', unit = 'm' }
 Key | { kind = 'number', unit = 'm', name = '' }
 Text | { kind = 'number', name = '', at = -1 }

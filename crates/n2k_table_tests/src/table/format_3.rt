@@ -8,7 +8,7 @@ use std::alloc::{AllocError, Global};
 use std::process::Abort;
 use std::test::Fail;
 
-// What is answered for a field in format 3: answer, field.
+// Result, field in format 3.
 const FIELDS: &str = "reads | kind = 'number', at = 0, bits = 8, offset = -40, unit = 'C'
 reads | kind = 'number', at = 0, bits = 8, offset = 4294967295
 Range | kind = 'number', at = 0, bits = 8, offset = 4294967296
@@ -63,7 +63,7 @@ Text | kind = 'texts', at = 0
 Lookup | kind = 'text', at = 0, bits = 8, after = 'G'
 Key | kind = 'text', at = 0, bits = 8, form = 'lau'";
 
-// Keys that are none in format 2.
+// Keys that format 2 does not have.
 const NEW_KEYS: [&str; 2] = ["offset = -40", "unit = 'C'"];
 
 #[test]
@@ -89,7 +89,7 @@ fn new_kinds_are_none_in_format_2(rt: HostRuntime) -> Result<(), Fail> {
     )
 }
 
-// Sets of these bits, with one field.
+// Sets of one field, with these bits.
 fn with_set(alloc: Global, bits: &str, field: &str) -> Result<String, AllocError> {
     format!(in alloc;
         "format = 3\npgn = [{{ number = 65280, kind = 'fast', description = 'D', fields = [], repeat = {{ at = 0, {bits}, \
@@ -97,7 +97,7 @@ fn with_set(alloc: Global, bits: &str, field: &str) -> Result<String, AllocError
     )
 }
 
-// What is answered for a set in format 3: answer, bits, field.
+// Result, bits of a set, field, in format 3.
 const SETS: [(&str, &str, &str); 9] = [
     ("reads", "bits = 8", "kind = 'text', at = 0, bits = 8"),
     (
@@ -117,7 +117,7 @@ const SETS: [(&str, &str, &str); 9] = [
     ),
     ("Range", "bits = 8", "kind = 'digits', at = 0, bits = 16"),
     ("Range", "bits = 0", "kind = 'digits', at = 0, bits = 8"),
-    // sets stand behind a string of the message, and a field behind one of its set
+    // sets after a string of the message, and a field after a string of its set
     (
         "Lookup",
         "bits = 8, after = 'F'",
@@ -149,7 +149,7 @@ fn sets_are_shown(rt: HostRuntime) -> Result<(), Fail> {
     prints(&rt, &table, (65280, &data), false, "D", fields)
 }
 
-// Sample 3 without strings: what stands behind them stands from the first byte on.
+// Sample 3 without strings: the fields after the strings begin at the first byte.
 const ALARMS: &str = "{ name = 'C', kind = 'number', at = 0, bits = 8, offset = -40, unit = 'C' }, \
     { name = 'D', kind = 'flags', at = 8, bits = 8, lookup = 'Status' }, \
     { name = 'E', kind = 'bytes', at = 16, bits = 64, short = true }";
@@ -157,7 +157,7 @@ const ALARMS: &str = "{ name = 'C', kind = 'number', at = 0, bits = 8, offset = 
 const STATUS: &str =
     "[[lookup]]\nname = 'Status'\nentries = [[0, 'Check Engine'], [1, 'Over Temperature'], [3, 'Low Oil']]\n";
 
-// Data, whether empty fields are asked for, and the fields.
+// Data, whether empty fields are requested, and the fields.
 const ALARMS_SHOWN: [(&[u8], bool, &str); 7] = [
     (
         &[0x3c, 0x05, 0xde, 0xad],
@@ -206,12 +206,12 @@ const SHOWN: [(&str, &[u8], &str); 34] = [
     (OFFSET, &[0x3c], "20"),
     (OFFSET, &[0x28], "0"),
     (OFFSET, &[0x00], "-40"),
-    // the value that is judged is the one before the offset
+    // the value before the offset decides
     (OFFSET, &[0xfd], "213"),
     (OFFSET, &[0xfe], "null"),
     (OFFSET, &[0xff], "null"),
     (OFFSET, &[], "null"),
-    // what is added is multiplied too
+    // the offset is multiplied too
     (
         "kind = 'number', at = 0, bits = 16, offset = -40, resolution = '0.5'",
         &[0x3d, 0x00],
@@ -233,7 +233,7 @@ const SHOWN: [(&str, &[u8], &str); 34] = [
         &[0xfd, 0xff, 0xff, 0xff, 0xff, 0xff, 0xff, 0xff],
         "18446744069414584317",
     ),
-    // bits from the lowest, by their names
+    // bits from the lowest, by name
     (FLAGS, &[0x09], "[\"z\u{e9}ro \\\"0\\\"\",\"Three\"]"),
     (FLAGS, &[0x8c], "[2,\"Three\",7]"),
     (FLAGS, &[0x00], "[]"),
@@ -250,7 +250,7 @@ const SHOWN: [(&str, &[u8], &str); 34] = [
         &[0xff],
         "[\"z\u{e9}ro \\\"0\\\"\",1,2,\"Three\",4,5,6]",
     ),
-    // values past its bits are not shown
+    // values of bits past its end are not shown
     (
         "kind = 'flags', at = 0, bits = 3, lookup = 'L'",
         &[0x0e],
@@ -268,7 +268,7 @@ const SHOWN: [(&str, &[u8], &str); 34] = [
     (PHONE, &[0xff, 0x01, 0xff, 0xff], "null"),
     (PHONE, &[0x01, 0x02, 0x03, 0x04], "\"01020304\""),
     (PHONE, &[0x01, 0x02, 0x03], "null"),
-    // what is there of a short field
+    // the bytes that exist of a short field
     (SHORT_BYTES, &[0x00, 0xde, 0xad], "\"DE AD\""),
     (SHORT_BYTES, &[0x00, 0xde, 0xad, 0x01, 0x02], "\"DE AD 01\""),
     (SHORT_BYTES, &[0x00], "null"),
@@ -304,7 +304,6 @@ fn shown(rt: HostRuntime) -> Result<(), Fail> {
     Ok(())
 }
 
-// What the next bit that is set is.
 fn next_flag_is<R: Abort>(rt: &R, flags: &mut Flags<'_>, wanted: Option<Flag<'_>>) {
     assert_eq!(rt; flags.next(), wanted);
 }

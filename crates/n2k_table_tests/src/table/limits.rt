@@ -1,10 +1,10 @@
-//! How much a table may have.
+//! How large a table may be.
 use super::tables::answers;
 use std::alloc::{AllocError, Global};
 use std::process::Abort;
 use std::test::Fail;
 
-// A part of a text, where `{}` stands for its number.
+// Appends a part, in which `{}` is replaced by the part's number.
 fn push_part(
     alloc: Global,
     number: usize,
@@ -20,7 +20,6 @@ fn push_part(
     }
 }
 
-// A text of so many parts.
 fn many(alloc: Global, count: usize, part: &str) -> Result<String, AllocError> {
     let mut text = String::new(alloc);
     for number in 0..count {
@@ -38,7 +37,7 @@ const ONE: &str = "pgn = [{ number = 1, kind = 'fast', description = 'D', fields
 const SET: &str = "pgn = [{ number = 1, kind = 'fast', description = 'D', fields = [], \
     repeat = { at = 0, bits = 8, fields = [";
 
-// What is answered where so many parts stand in a text: its front, the count, the part, its end, the answer.
+// The result of a table with many parts: text before, count, part, text after, result.
 const LIMITS: [(&str, usize, &str, &str, &str); 13] = [
     ("pgn = [", 4096, DEFINITION, "]", "reads"),
     ("pgn = [", 4097, DEFINITION, "]", "TooMany"),
@@ -109,7 +108,7 @@ const LIMITS: [(&str, usize, &str, &str, &str); 13] = [
     ),
 ];
 
-// The same in a table of format 2.
+// Limits in format 2: text before, count, part, text after, result.
 const SET_LIMITS: [(&str, usize, &str, &str, &str); 6] = [
     (SET, 0, FIELD, "] } }]", "reads"),
     (SET, 256, FIELD, "] } }]", "reads"),

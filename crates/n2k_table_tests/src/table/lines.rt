@@ -16,7 +16,7 @@ fn packet(pgn: u32, data: &[u8]) -> Option<Packet> {
     Packet::new(b"a \"b\\c", id, data)
 }
 
-// The line that a table prints of a packet, after a line that stands before it.
+// The line that a table prints of a packet, appended to an earlier line.
 fn line_of(
     alloc: Global,
     table: &Table,
@@ -28,7 +28,7 @@ fn line_of(
     Ok(out)
 }
 
-// A table prints this description and these fields of these data.
+// A table prints this description and these fields for these data.
 pub(crate) fn prints<R: Abort + AllocGlobal>(
     rt: &R,
     table: &Table,
@@ -49,7 +49,7 @@ pub(crate) fn prints<R: Abort + AllocGlobal>(
     Ok(())
 }
 
-// A PGN, data, whether absent fields are printed, and the fields that are.
+// A PGN, data, whether absent fields are requested, and the printed fields.
 const LINES: [(u32, &[u8], bool, &str); 18] = [
     // cog-and-sog, lookup-and-short-data
     (
@@ -141,7 +141,7 @@ const LINES: [(u32, &[u8], bool, &str); 18] = [
     (59904, &[0x14, 0xf0, 0x01], false, "\"Data\":\"14 F0 01\""),
 ];
 
-// The description that is printed of data under the sample table.
+// The description that the sample table prints for data.
 fn description_of(pgn: u32, data: &[u8]) -> &'static str {
     match pgn {
         129026 => "COG & SOG, Rapid Update",
@@ -170,7 +170,7 @@ fn lines(rt: HostRuntime) -> Result<(), Fail> {
     Ok(())
 }
 
-// Data, whether absent fields are printed, and the fields of the pairs that are.
+// Data, whether absent fields are requested, and the printed fields of the pairs.
 const PAIRS_LINES: [(&[u8], bool, &str); 8] = [
     (
         &[0x01, 0x0a, 0x64, 0x00, 0x0b, 0x9c, 0xff, 0x0c, 0x00],
@@ -204,7 +204,7 @@ fn pairs(rt: HostRuntime) -> Result<(), Fail> {
     Ok(())
 }
 
-// The lines of a table without sets are the same in both formats.
+// A table without sets prints the same lines in both formats.
 #[test]
 fn lines_in_format_2(rt: HostRuntime) -> Result<(), Fail> {
     let text = sample_2(rt.alloc(), "")?;
@@ -215,7 +215,7 @@ fn lines_in_format_2(rt: HostRuntime) -> Result<(), Fail> {
     Ok(())
 }
 
-// lookup-and-short-data with the entries 0 and 3: a name before an absent value
+// lookup-and-short-data with the entries 0 and 3: the name counts, although the value would be absent
 #[test]
 fn a_name_before_an_absent_value(rt: HostRuntime) -> Result<(), Fail> {
     let text = replaced(
@@ -237,7 +237,7 @@ fn a_name_before_an_absent_value(rt: HostRuntime) -> Result<(), Fail> {
     )
 }
 
-// A buffer has so many lines, each of which is this one.
+// A buffer contains this line `count` times.
 fn has_lines<R: Abort + AllocGlobal>(
     rt: &R,
     lines: &LineBuffer,
@@ -261,7 +261,7 @@ fn frame(line: &str) -> Result<Packet, Fail> {
     }
 }
 
-// 243 lines of 165 bytes are longer than the room: 98 bytes before its end a label has no place.
+// 243 lines of 165 bytes exceed the buffer's room: the label does not fit into its last 98 bytes.
 #[test]
 fn json_lines_of_40095_bytes(rt: HostRuntime) -> Result<(), Fail> {
     let table = sample(rt.alloc())?;
@@ -276,7 +276,7 @@ fn json_lines_of_40095_bytes(rt: HostRuntime) -> Result<(), Fail> {
     has_lines(&rt, &lines, line, 243)
 }
 
-// Each asks for its room before it is written.
+// Each line reserves its room before it is written.
 #[test]
 fn plain_lines_of_70000_bytes(rt: HostRuntime) -> Result<(), Fail> {
     let packet = frame("(1.0) can0 18EAFF01#14F001")?;

@@ -5,7 +5,7 @@ use n2k_table::{Kind, Table, TableFault};
 use std::process::Abort;
 use std::test::Fail;
 
-// What is answered where a part of that, where it stands first, is replaced: answer, part, replacement.
+// The result if one part of sample 2's end (its first occurrence) is replaced: result, part, replacement.
 const PAIRS_CHANGES: &str = "reads | repeat = | repeat =
 Key | 'Id', | 'Id', match = 1,
 Range | bits = 24 | bits = 20
@@ -42,8 +42,8 @@ Range | at = 8, bits = 24 | at = 4, bits = 24
 Range | at = 8, bits = 24 | at = 8, bits = 0
 Range | at = 8, bits = 24 | at = 8, bits = 16";
 
-// What is answered where a part of the sample, where it stands first, is replaced: answer, part, replacement. In these
-// texts ' stands for a quotation mark.
+// The result if one part of the sample (its first occurrence) is replaced: result, part, replacement. In these texts '
+// is a quotation mark.
 const CHANGES: &str = "reads | format = 1 | format = 1
 NotToml | bits = 64 } | bits = 64
 Format | format = 1 | 
@@ -121,7 +121,7 @@ fn sample_reads(rt: HostRuntime) -> Result<(), Fail> {
     Ok(())
 }
 
-// The digest of `format = 1` and a line feed is that of sha256sum.
+// The digest of `format = 1` and a line feed, by sha256sum.
 const FORMAT_ALONE: [u8; 32] = [
     0xa1, 0xaf, 0x1b, 0xcc, 0xf4, 0x68, 0x62, 0xc1, 0xce, 0x45, 0xd1, 0x06, 0x40, 0x94, 0xb0, 0x0a,
     0x08, 0x08, 0x32, 0x95, 0x40, 0xe0, 0x6a, 0x44, 0xbc, 0xed, 0xd8, 0xc9, 0x21, 0x84, 0x9f, 0x1e,
@@ -143,7 +143,7 @@ fn one_change_each(rt: HostRuntime) -> Result<(), Fail> {
     Ok(())
 }
 
-// Sample 2 with one change at its end answers as the case says.
+// Sample 2 with one change at its end gives the case's result.
 fn changed_pairs<R: Abort + AllocGlobal>(rt: &R, case: &str) -> Result<(), Fail> {
     let (wanted, change) = case.split_once(" | ").ok_or("an answer")?;
     let (old, new) = change.split_once(" | ").ok_or("a replacement")?;
@@ -160,14 +160,14 @@ fn one_change_of_pairs_each(rt: HostRuntime) -> Result<(), Fail> {
     Ok(())
 }
 
-// Sets are none of format 1.
+// Format 1 has no sets.
 #[test]
 fn pairs_in_format_1_key(rt: HostRuntime) -> Result<(), Fail> {
     let text = format!(in rt.alloc(); "{SAMPLE}{PAIRS}")?;
     answers(&rt, &text, "Key", "format 1")
 }
 
-// The sample without its last bracket.
+// The last bracket is missing.
 #[test]
 fn no_last_bracket(rt: HostRuntime) -> Result<(), Fail> {
     let end = SAMPLE.rfind(']').ok_or("a bracket")?;
@@ -175,7 +175,7 @@ fn no_last_bracket(rt: HostRuntime) -> Result<(), Fail> {
     answers(&rt, front, "NotToml", "no last bracket")
 }
 
-// The byte FF stands before the sample.
+// The byte FF precedes the sample.
 #[test]
 fn no_utf8(rt: HostRuntime) -> Result<(), Fail> {
     let mut bytes = Vec::new(rt.alloc());

@@ -1,10 +1,10 @@
-//! What a table says of sets whose strings say how long they are, and of sets behind a string: what reads, and what is
-//! answered where it does not.
+//! Tables with sets whose length depends on their strings, and with sets after a string: which are read, and the faults
+//! of the others.
 use super::tables::{answers, changed};
 use std::process::Abort;
 use std::test::Fail;
 
-// The names of sample 3, with a string of the message's own.
+// The names of sample 3, with a string outside the sets.
 const NAMES: &str = "format = 3
 [[pgn]]
 number = 130824
@@ -20,7 +20,7 @@ fields = [
 ]
 ";
 
-// One change to it: what is answered | the old text | the new one, with ~ for an end of line.
+// One change to `NAMES`: result | old text | new text, with ~ for a line break.
 const CHANGES: &str = "reads | bits = 8~fields | after = 'S'~bits = 8~fields
 reads | at = 8, form = 'lau' }, | at = 0, form = 'lau' }, { name = 'N', kind = 'number', at = 0, bits = 8, after = 'Name' },
 Key | at = 8, form = 'lau' }, | at = 8, form = 'lau', short = true },
@@ -53,7 +53,7 @@ fn sets_that_vary(rt: HostRuntime) -> Result<(), Fail> {
     Ok(())
 }
 
-// What is answered for a repeat behind these fields: answer | fields of its own | keys of the repeat, in format 3.
+// Result | fields outside the sets | keys of a repeat after them, in format 3.
 const REPEATS: &str =
     "reads | | at = 0, bits = 0, fields = [{ name = 'A', kind = 'string', at = 0, form = 'lz' }]
 reads | | at = 0, bits = 1784, fields = []
@@ -87,7 +87,7 @@ fn repeats(rt: HostRuntime) -> Result<(), Fail> {
     Ok(())
 }
 
-// In tables of formats 1 and 2 there is none of it.
+// Formats 1 and 2 have no such sets.
 #[test]
 fn older_tables_have_no_such_sets(rt: HostRuntime) -> Result<(), Fail> {
     for (keys, wanted) in &[

@@ -1,4 +1,4 @@
-//! What sets show whose strings say how long they are, and sets behind a string.
+//! What is shown of sets whose length depends on their strings, and of sets after a string.
 use super::lines::prints;
 use super::shown::{next_is, set_of, sets_of};
 use crate::samples::read;
@@ -6,7 +6,7 @@ use n2k_table::Shown;
 use std::process::Abort;
 use std::test::Fail;
 
-// The names of sample 3, sets behind two strings, and sets of strings alone.
+// The names of sample 3, sets after two strings, and sets that contain only strings.
 const NAMES: &str = "format = 3
 
 [[pgn]]
@@ -72,7 +72,7 @@ const SHOWN: [(u32, &[u8], &str); 21] = [
         "\"SID\":7,\"list\":[{\"Id\":1,\"Name\":\"AB\"},{\"Id\":2}]",
     ),
     (130824, &[7, 1, 1, 0x41, 2, 2, 1], "\"SID\":7,\"list\":[]"),
-    // a set of which a byte is missing, and one that ends with the data
+    // a set that lacks a byte, and a set that ends with the data
     (130824, &[7, 1, 3, 1], "\"SID\":7,\"list\":[]"),
     (
         130824,
@@ -81,13 +81,13 @@ const SHOWN: [(u32, &[u8], &str); 21] = [
     ),
     (130824, &[7, 1], "\"SID\":7,\"list\":[]"),
     (130824, &[], "\"list\":[]"),
-    // a set behind one that is not proper is none
+    // after an invalid set no further set is shown
     (
         130824,
         &[7, 1, 3, 1, 0x41, 2, 0, 1, 3, 3, 1, 0x42],
         "\"SID\":7,\"list\":[{\"Id\":1,\"Name\":\"A\"}]",
     ),
-    // sets behind strings
+    // sets after strings
     (
         130825,
         &[9, 1, 0x41, 9, 1, 0x42, 9, 1, 0, 2, 0, 3],
@@ -110,7 +110,7 @@ const SHOWN: [(u32, &[u8], &str); 21] = [
     ),
     (130825, &[9, 9, 0x41, 9, 1, 0x42, 9, 1, 0], "\"list\":[]"),
     (130825, &[9], "\"list\":[]"),
-    // sets of strings alone
+    // sets that contain only strings
     (
         130826,
         &[1, 0x41, 3, 1, 0x42, 0, 2, 1],
@@ -120,7 +120,7 @@ const SHOWN: [(u32, &[u8], &str); 21] = [
     (130826, &[0, 2, 1, 9], "\"list\":[{}]"),
     (130826, &[0], "\"list\":[]"),
     (130826, &[], "\"list\":[]"),
-    // a string within other fields, one of which stands behind it
+    // a string between other fields, one of them after the string
     (
         130827,
         &[5, 1, 0x41, 9, 6, 7, 0, 9, 8],
@@ -144,7 +144,7 @@ fn whole(value: i128) -> Shown<'static> {
     Shown::Number { value, decimals: 0 }
 }
 
-// The sets of a message as callers have them, and none for good behind the last.
+// The sets of a message through the public calls, which give none after the last set.
 #[test]
 fn sets_are_answered(rt: HostRuntime) -> Result<(), Fail> {
     let table = read(rt.alloc(), NAMES)?;

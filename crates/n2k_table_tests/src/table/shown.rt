@@ -48,7 +48,7 @@ const SHOWN: [(&str, &[u8], &str); 36] = [
     ("kind = 'number', at = 4, bits = 8", &[0xa5, 0x5b], "186"),
     ("kind = 'number', at = 3, bits = 11", &[0xf8, 0x07], "255"),
     ("kind = 'number', at = 0, bits = 16", &[0x02, 0x01], "258"),
-    // 64 bits at an odd bit: -2, and the least
+    // 64 bits at an odd bit: -2, and the lowest value
     (
         "kind = 'number', at = 1, bits = 64, signed = true",
         &[0xfc, 0xff, 0xff, 0xff, 0xff, 0xff, 0xff, 0xff, 0x01],
@@ -65,10 +65,10 @@ const SHOWN: [(&str, &[u8], &str); 36] = [
         &[0xfd, 0xff, 0xff, 0xff, 0xff, 0xff, 0xff, 0xff],
         "792281624958175935069494968.35",
     ),
-    // data that end before the field does
+    // data that end before the field
     ("kind = 'number', at = 8, bits = 16", &[1, 2], "null"),
     ("kind = 'number', at = 8, bits = 9", &[1, 2], "null"),
-    // the greatest value from two bits on, the greatest but one from four bits on
+    // the greatest value from two bits on, the second greatest from four bits on
     ("kind = 'number', at = 0, bits = 1", &[1], "1"),
     ("kind = 'number', at = 0, bits = 2", &[3], "null"),
     ("kind = 'number', at = 0, bits = 2", &[2], "2"),
@@ -91,7 +91,7 @@ const SHOWN: [(&str, &[u8], &str); 36] = [
         &[15],
         "-1",
     ),
-    // a match is the raw value, also of a signed field, and is printed like any other
+    // a match is compared with the raw value, also of a signed field, and is printed like any other field
     (
         "kind = 'number', at = 0, bits = 8, match = 255, signed = true",
         &[255],
@@ -102,7 +102,7 @@ const SHOWN: [(&str, &[u8], &str); 36] = [
         &[255],
         "null",
     ),
-    // names, asked before a greatest value is absent
+    // names are looked up before the greatest value counts as absent
     (
         "kind = 'lookup', at = 0, bits = 2, lookup = 'L'",
         &[3],
@@ -130,7 +130,7 @@ const SHOWN: [(&str, &[u8], &str); 36] = [
         &[0],
         "null",
     ),
-    // texts: what fills them up is cut, each byte is the character of its number
+    // texts: trailing filler is cut, and each byte is the character of its number
     (
         "kind = 'text', at = 8, bits = 32",
         &[1, 65, 64, 32, 0],
@@ -153,7 +153,7 @@ const SHOWN: [(&str, &[u8], &str); 36] = [
         "\"\u{e9}\u{9f}\"",
     ),
     ("kind = 'text', at = 0, bits = 24", &[65, 66], "null"),
-    // bytes as they are
+    // bytes without change
     (
         "kind = 'bytes', at = 8, bits = 24",
         &[1, 0xff, 0x0a, 0],
@@ -163,7 +163,7 @@ const SHOWN: [(&str, &[u8], &str); 36] = [
     ("kind = 'bytes', at = 0, bits = 16", &[1], "null"),
 ];
 
-// The same of data of eight bytes, which numbers and named values of up to 32 bits are cut out of at once.
+// Fields of exactly eight bytes of data, from which numbers and named values of up to 32 bits are read in one step.
 const SHOWN_OF_EIGHT: [(&str, [u8; 8], &str); 20] = [
     (
         "kind = 'number', at = 4, bits = 8",
@@ -230,7 +230,7 @@ const SHOWN_OF_EIGHT: [(&str, [u8; 8], &str); 20] = [
         [0xff, 0, 0, 0, 0, 0, 0, 0],
         "-0.01",
     ),
-    // the greatest product of 32 bits, and the least
+    // the greatest product of 32 bits, and the lowest
     (
         "kind = 'number', at = 32, bits = 32, resolution = '4294967295'",
         [0, 0, 0, 0, 0xfd, 0xff, 0xff, 0xff],
@@ -268,7 +268,7 @@ const SHOWN_OF_EIGHT: [(&str, [u8; 8], &str); 20] = [
     ),
 ];
 
-// A table of this format, of this one field.
+// A table of this format with this one field.
 pub(crate) fn with_field(
     alloc: Global,
     format: u32,
@@ -302,7 +302,7 @@ fn single_fields(rt: HostRuntime) -> Result<(), Fail> {
     Ok(())
 }
 
-// A line is put together in a room, and this one is longer: each of its bytes is shown by six.
+// This line is longer than the room in which a line is built: each of its bytes is printed as six.
 #[test]
 fn a_line_longer_than_its_room(rt: HostRuntime) -> Result<(), Fail> {
     let mut value = String::from_str(rt.alloc(), "\"")?;
@@ -319,7 +319,6 @@ fn a_line_longer_than_its_room(rt: HostRuntime) -> Result<(), Fail> {
     )
 }
 
-// What the next field is.
 pub(crate) fn next_is<R: Abort>(
     rt: &R,
     fields: &mut Fields<'_>,
@@ -328,7 +327,6 @@ pub(crate) fn next_is<R: Abort>(
     assert_eq!(rt; fields.next(), wanted);
 }
 
-// The sets that a table shows of these data.
 pub(crate) fn sets_of<'a>(table: &'a Table, pgn: u32, data: &'a [u8]) -> Result<Sets<'a>, Fail> {
     let definition = table.choose(pgn, data).ok_or("a definition")?;
     Ok(definition.repeat(data).ok_or("sets")?)
@@ -338,7 +336,7 @@ pub(crate) fn set_of<'a>(sets: &mut Sets<'a>) -> Result<Fields<'a>, Fail> {
     Ok(sets.next().ok_or("a set")?)
 }
 
-// Of the second pair, the number: a set's fields are shown in the set's own bytes.
+// The second pair's number: a set's fields are read from the set's own bytes.
 #[test]
 fn each_set_is_shown(rt: HostRuntime) -> Result<(), Fail> {
     let table = pairs_table(rt.alloc())?;

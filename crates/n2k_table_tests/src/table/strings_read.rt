@@ -1,4 +1,4 @@
-//! What a table says of strings and of the fields behind them: what reads, and what is answered where it does not.
+//! Tables with strings and with fields after strings: which are read, and the faults of the others.
 use super::tables::{answers, of_format};
 use crate::samples::replaced;
 use std::process::Abort;
@@ -24,7 +24,7 @@ fields = [
 ]
 ";
 
-// One change to it: what is answered, the old text, the new one.
+// One change to `TEXTS`: result, old text, new text.
 const CHANGES: [(&str, &str, &str); 11] = [
     ("reads", "\"lau\"", "\"lz\""),
     ("Text", "\"lau\"", "\"x\""),
@@ -52,7 +52,7 @@ fn texts(rt: HostRuntime) -> Result<(), Fail> {
     Ok(())
 }
 
-// What is answered for the fields of a message in format 3: answer, fields. S is a string.
+// Result, fields of a message in format 3. S is a string.
 const FIELDS: &str = "reads | { name = 'S', kind = 'string', at = 1776, form = 'lz', short = true }
 Range | { name = 'S', kind = 'string', at = 1784, form = 'lz' }
 Range | { name = 'S', kind = 'string', at = 4, form = 'lz' }
@@ -71,7 +71,7 @@ Lookup | { name = 'S', kind = 'string', at = 0, form = 'lz', after = 'S' }
 Lookup | { name = 'N', kind = 'number', at = 0, bits = 8, after = 'S' }, { name = 'S', kind = 'string', at = 0, form = 'lz' }
 Lookup | { name = 'N', kind = 'text', at = 0, bits = 8 }, { name = 'S', kind = 'string', at = 0, form = 'lz', after = 'N' }";
 
-// The same behind S.
+// Result, keys of a field after S.
 const BEHIND: &str = "reads | at = 0, bits = 8, kind = 'number'
 reads | at = 0, bits = 8, kind = 'number', signed = true, resolution = '0.1', unit = 'C'
 reads | at = 0, bits = 8, kind = 'lookup', lookup = 'L'
@@ -86,7 +86,7 @@ Key | at = 0, bits = 8, kind = 'number', match = 256
 Range | at = 1784, bits = 8, kind = 'number'
 Range | at = 0, bits = 65, kind = 'number'";
 
-// Other names, and what is answered for them.
+// Values of `after`, and their results.
 const NAMES: [(&str, &str); 5] = [
     ("'S'", "reads"),
     ("'s'", "Lookup"),
@@ -95,7 +95,7 @@ const NAMES: [(&str, &str); 5] = [
     ("1", "Key"),
 ];
 
-// The fixed place of what stands behind strings, and its bits, where a string stands so far from the one before it.
+// The places of S, of T after S and of a number after T, and the result.
 const PLACES: [(u32, u32, u32, &str); 8] = [
     (0, 0, 0, "reads"),
     (1000, 776, 0, "reads"),
@@ -143,7 +143,7 @@ fn names_of_strings(rt: HostRuntime) -> Result<(), Fail> {
     Ok(())
 }
 
-// A number behind a string T, which stands behind S. Its place is counted from all of them.
+// A number after a string T, which comes after S. Its place is limited by the sum of all three.
 #[test]
 fn fixed_places(rt: HostRuntime) -> Result<(), Fail> {
     for (first, second, at, wanted) in &PLACES {
@@ -157,7 +157,7 @@ fn fixed_places(rt: HostRuntime) -> Result<(), Fail> {
     Ok(())
 }
 
-// A string of which a name comes twice: the first is meant, and then two have one name.
+// Two strings of one name: `after` refers to the first, and then the name is found twice.
 #[test]
 fn a_string_and_another_of_its_name(rt: HostRuntime) -> Result<(), Fail> {
     let second = "{ name = 'S', kind = 'string', at = 1776, form = 'lau' }";
@@ -167,7 +167,7 @@ fn a_string_and_another_of_its_name(rt: HostRuntime) -> Result<(), Fail> {
     fields_answer(&rt, &fields, "Twice")
 }
 
-// Several faults, of which the first is answered: answer, keys of a field behind S.
+// Several faults, of which the first is reported: result, keys of a field after S.
 const FIRST: &str = "Key | kind = 'number', at = 0, bits = 8, after = '', form = 'x'
 Range | kind = 'number', at = 1784, bits = 8, after = 1
 Range | kind = 'number', at = 0, bits = 0, after = ''
@@ -192,7 +192,7 @@ fn first_of_a_field_behind_a_string(rt: HostRuntime) -> Result<(), Fail> {
     Ok(())
 }
 
-// Tables of formats 1 and 2 have none of it.
+// Formats 1 and 2 have no strings.
 #[test]
 fn older_tables_have_no_strings(rt: HostRuntime) -> Result<(), Fail> {
     for format in 1..3u32 {

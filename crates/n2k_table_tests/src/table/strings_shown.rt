@@ -1,4 +1,4 @@
-//! What strings show, and the fields behind them.
+//! What is shown of strings and of the fields after them.
 use super::lines::prints;
 use super::shown::next_is;
 use crate::samples::read;
@@ -8,7 +8,7 @@ use std::mem::ManuallyDrop;
 use std::process::Abort;
 use std::test::Fail;
 
-// The texts of sample 3: PGN 130823 behind strings, PGN 130826 with a short one.
+// The texts of sample 3: PGN 130823 has fields after strings, PGN 130826 a short string.
 const TEXTS: &str = "format = 3
 
 [[lookup]]
@@ -37,7 +37,7 @@ fields = [
 ]
 ";
 
-// A PGN, data, whether empty fields are asked for, and the fields.
+// A PGN, data, whether empty fields are requested, and the fields.
 const SHOWN: [(u32, &[u8], bool, &str); 14] = [
     (
         130823,
@@ -45,7 +45,7 @@ const SHOWN: [(u32, &[u8], bool, &str); 14] = [
         false,
         "\"A\":\"Hi\",\"B\":\"Yo\",\"C\":20,\"D\":[\"Check Engine\",2],\"E\":\"DE AD\"",
     ),
-    // UTF-16 with a lone surrogate, and then a string of no characters
+    // UTF-16 with a lone surrogate, then an empty string
     (
         130823,
         &[6, 0, 0xe4, 0, 0x3d, 0xd8, 0],
@@ -59,24 +59,24 @@ const SHOWN: [(u32, &[u8], bool, &str); 14] = [
         true,
         "\"A\":null,\"B\":null,\"C\":null,\"D\":null,\"E\":null",
     ),
-    // a length of 1 counts itself alone, and no byte for the encoding
+    // a length of 1 counts only itself: there is no byte for the encoding
     (130823, &[1, 1, 0, 5], false, ""),
     (130823, &[2, 1, 0, 0x28, 0], false, "\"C\":0,\"D\":[]"),
-    // UTF-8; D is the greatest value but one
+    // UTF-8; D is the second greatest value
     (
         130823,
         &[4, 1, 0xc3, 0x84, 1, 0x31, 0x3c, 0xfe],
         false,
         "\"A\":\"\u{c4}\",\"B\":\"1\",\"C\":20",
     ),
-    // C4 alone is no UTF-8
+    // C4 alone is not valid UTF-8
     (
         130823,
         &[3, 1, 0xc4, 0, 0x3c, 6],
         false,
         "\"A\":\"\u{c4}\",\"C\":20,\"D\":[\"Over Temperature\",2]",
     ),
-    // a short string ends with the data, so nothing stands behind it
+    // a short string ends with the data, so no field follows it
     (
         130826,
         &[0x16, 1, 0x42, 0x55, 0x4f, 0x59],
@@ -109,27 +109,27 @@ fn texts_are_shown(rt: HostRuntime) -> Result<(), Fail> {
     Ok(())
 }
 
-// A string and a number behind it.
+// Keys of a string that a number follows.
 const PAIR: &str = "at = 8, form = ";
 
-// What a string has beside its name, data, and what it and the byte behind it show.
+// The form (and `short`) of a string, data, and what the string and the byte after it show.
 const STRINGS: [(&str, &[u8], &str); 27] = [
-    // filling is cut at the end alone
+    // filler is cut only at the end
     ("'lau'", &[9, 6, 1, 0x40, 0x41, 0x20, 0x40, 7], "\"@A\",7"),
     ("'lau'", &[9, 4, 1, 0x00, 0xff, 7], "null,7"),
     ("'lz'", &[9, 3, 0x41, 0x00, 0xff, 7], "\"A\",7"),
     ("'lz'", &[9, 0, 7], "null,7"),
-    // what would end behind the data is none, and nothing stands behind it
+    // a string that would end after the data is invalid, and no field follows it
     ("'lz'", &[9, 3, 0x41, 0x42], "null,null"),
     ("'lau'", &[9, 4, 1, 0x41], "null,null"),
     ("'lau'", &[9], "null,null"),
     ("'lz'", &[], "null,null"),
     ("'lau'", &[9, 0, 7], "null,null"),
     ("'lau'", &[9, 1, 7], "null,null"),
-    // another encoding shows nothing, but has an end
+    // an unknown encoding shows nothing, but the string has an end
     ("'lau'", &[9, 3, 2, 0x41, 7], "null,7"),
     ("'lau'", &[9, 3, 0xff, 0x41, 7], "null,7"),
-    // UTF-16: a pair, a lone surrogate of either half, an odd last byte, filling
+    // UTF-16: a pair, a lone surrogate of either half, an odd last byte, filler
     (
         "'lau'",
         &[9, 6, 0, 0x3d, 0xd8, 0x00, 0xde, 7],
@@ -148,25 +148,25 @@ const STRINGS: [(&str, &[u8], &str); 27] = [
     ),
     ("'lau'", &[9, 4, 0, 0x40, 0x41, 7], "\"\u{4140}\",7"),
     ("'lau'", &[9, 3, 0, 0x41, 7], "null,7"),
-    // what JSON escapes
+    // characters that JSON escapes
     ("'lau'", &[9, 4, 1, 0x22, 0x0a, 7], "\"\\\"\\n\",7"),
     (
         "'lau'",
         &[9, 6, 0, 0x5c, 0, 0x1f, 0, 7],
         "\"\\\\\\u001f\",7",
     ),
-    // a short string of which some is there
+    // a short string of which only a part exists
     ("'lau', short = true", &[9, 9, 1, 0x41, 0x42], "\"AB\",null"),
     ("'lau', short = true", &[9, 9, 1], "null,null"),
     ("'lau', short = true", &[9, 9], "null,null"),
     ("'lz', short = true", &[9, 9, 0x41], "\"A\",null"),
     ("'lz', short = true", &[9], "null,null"),
-    // one that is whole has an end, and one that is not proper is none
+    // a complete short string has an end, and an invalid one is not shown
     ("'lau', short = true", &[9, 3, 1, 0x41, 7], "\"A\",7"),
     ("'lau', short = true", &[9, 1, 1, 0x41], "null,null"),
 ];
 
-// A table of a string and a number behind it.
+// A table of a string and a number after it.
 fn with_string(alloc: Global, string: &str) -> Result<ManuallyDrop<Table>, Fail> {
     let text = format!(in alloc;
         "format = 3\n[[pgn]]\nnumber = 65280\nkind = 'fast'\ndescription = 'D'\nfields = [\n\
@@ -196,7 +196,7 @@ fn strings(rt: HostRuntime) -> Result<(), Fail> {
     Ok(())
 }
 
-// What a string shows, as callers have it.
+// What a string shows through the public calls.
 #[test]
 fn strings_are_answered(rt: HostRuntime) -> Result<(), Fail> {
     let table = read(rt.alloc(), TEXTS)?;

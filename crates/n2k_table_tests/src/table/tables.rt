@@ -1,10 +1,10 @@
-//! What the tests of tables take: tables of one field, and what reading a table answers.
+//! What the tests of tables use: tables with one field, and the result of reading a table.
 use crate::samples::{read, replaced};
 use std::alloc::{AllocError, Global};
 use std::process::Abort;
 use std::test::Fail;
 
-// What reading a table answers: `reads`, or the name of the fault.
+// The result of reading a table: `reads`, or the name of the fault.
 pub(crate) fn answer(alloc: Global, text: &str) -> Result<String, AllocError> {
     match read(alloc, text) {
         Ok(_) => String::from_str(alloc, "reads"),
@@ -12,7 +12,6 @@ pub(crate) fn answer(alloc: Global, text: &str) -> Result<String, AllocError> {
     }
 }
 
-// The reading of a text gives this answer.
 pub(crate) fn answers<R: Abort + AllocGlobal>(
     rt: &R,
     text: &str,
@@ -24,8 +23,8 @@ pub(crate) fn answers<R: Abort + AllocGlobal>(
     Ok(())
 }
 
-// A text with one change answers as the case says: the answer, a part of the text, and what takes its place. In a case one
-// mark stands for another text.
+// A text with one change gives the case's result. A case is: result, part, replacement; in the latter two, `mark` is
+// written for `meant`.
 pub(crate) fn changed<R: Abort + AllocGlobal>(
     rt: &R,
     text: &str,
@@ -39,14 +38,14 @@ pub(crate) fn changed<R: Abort + AllocGlobal>(
     answers(rt, &text, wanted, case)
 }
 
-// A table of this format with a lookup and one definition, of these fields.
+// A table of this format with a lookup and one definition with these fields.
 pub(crate) fn of_format(alloc: Global, format: u32, fields: &str) -> Result<String, AllocError> {
     format!(in alloc;
         "format = {format}\npgn = [{{ number = 65280, kind = 'fast', description = 'D', fields = [{fields}] }}]\nlookup = [{{ name = 'L', entries = [[3, 'Three'], [0, 'z\u{e9}ro \"0\"']] }}]\n"
     )
 }
 
-// A table of this format, of this one field, answers so.
+// A table of this format with this one field gives this result.
 pub(crate) fn field_answers<R: Abort + AllocGlobal>(
     rt: &R,
     format: u32,

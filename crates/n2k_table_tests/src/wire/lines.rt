@@ -6,14 +6,14 @@ use std::alloc::{AllocError, Global};
 use std::process::Abort;
 use std::test::Fail;
 
-// A packet's plain text behind a word.
+// A word, and then a packet's plain text.
 fn text_behind(alloc: Global, word: &str, packet: &Packet) -> Result<Vec<u8>, AllocError> {
     let mut text = word.as_bytes().to_vec(alloc)?;
     plain_text(alloc, packet, &mut text)?;
     Ok(text)
 }
 
-// An entry: its plain text, with `whole` in front where it is no frame; the cause it is bad for; or `skipped`.
+// An entry as text: `skipped`, the cause of a bad line, or the packet's plain text, after `whole` if it is not a frame.
 fn text_of(alloc: Global, entry: &Entry) -> Result<Vec<u8>, AllocError> {
     match entry {
         Entry::Skip => b"skipped".to_vec(alloc),
@@ -23,7 +23,6 @@ fn text_of(alloc: Global, entry: &Entry) -> Result<Vec<u8>, AllocError> {
     }
 }
 
-// An entry has this text.
 fn tells<R: Abort + AllocGlobal>(
     rt: &R,
     entry: &Entry,
@@ -35,7 +34,7 @@ fn tells<R: Abort + AllocGlobal>(
     Ok(())
 }
 
-// A line is read as the case says.
+// A line gives the case's entry.
 fn reads<R: Abort + AllocGlobal>(
     rt: &R,
     line: &str,
@@ -46,7 +45,7 @@ fn reads<R: Abort + AllocGlobal>(
     tells(rt, &entry, wanted.as_bytes(), line)
 }
 
-// A candump line, and what it is read as.
+// A candump line and its entry.
 const CANDUMP_LINES: [(&str, &str); 34] = [
     // cog-and-sog, unknown-pgn
     (
@@ -77,7 +76,7 @@ const CANDUMP_LINES: [(&str, &str); 34] = [
         "9999-12-31T23:59:59.999Z,6,59904,1,255,0\n",
     ),
     ("(253402300800.0) can0 18EAFF01#", "Stamp"),
-    // ten-lines-eight-bad, and a line cut in its data
+    // ten-lines-eight-bad, and a line that ends within its data
     ("(10.1) can0 1DFF0405#010", "Data"),
     ("(10.2) can0 40000000#00", "Identifier"),
     (
@@ -85,12 +84,12 @@ const CANDUMP_LINES: [(&str, &str); 34] = [
         "1970-01-01T00:00:10.300Z,7,130820,5,255,0\n",
     ),
     ("(10) can0 1DFF0405#00", "Stamp"),
-    // a destination: two-sources' PGN has none, an ISO request has one
+    // destinations: the PGN of two-sources has none, an ISO request has one
     (
         "(1.0) can0 18EA2301#14F001",
         "1970-01-01T00:00:01.000Z,6,59904,1,35,3,14,f0,01\n",
     ),
-    // skipped whatever follows the `#`
+    // skipped, whatever follows the `#`
     ("(1.0) can0 7ff#zz", "skipped"),
     ("(1.0) can0 3FFFFFFF#x", "skipped"),
     ("(1.0) can0 1FFFFFFF#r", "skipped"),
@@ -102,7 +101,7 @@ const CANDUMP_LINES: [(&str, &str); 34] = [
         "(1.0) can0 00000000#",
         "1970-01-01T00:00:01.000Z,0,0,0,0,0\n",
     ),
-    // days of the calendar, by Python's datetime
+    // dates, by Python's datetime
     (
         "(0.0) can0 00000000#",
         "1970-01-01T00:00:00.000Z,0,0,0,0,0\n",
@@ -161,9 +160,9 @@ fn candump_lines(rt: HostRuntime) -> Result<(), Fail> {
     Ok(())
 }
 
-// A candump line, and the cause for which it is bad.
+// A bad candump line and its cause.
 const BAD_CANDUMP_LINES: [(&str, &str); 42] = [
-    // the stamp, from its first byte to its last
+    // the timestamp, from its first byte to its last
     ("(", "Stamp"),
     ("()", "Stamp"),
     ("(.0) can0 123#", "Stamp"),
@@ -175,7 +174,7 @@ const BAD_CANDUMP_LINES: [(&str, &str); 42] = [
     ("(1.0.0) can0 123#", "Stamp"),
     ("(-1.0) can0 123#", "Stamp"),
     ("(1.0)) can0 123#", "Form"),
-    // what follows it
+    // the bytes after the timestamp
     ("(1.0)", "Form"),
     ("(1.0) ", "Form"),
     ("(1.0)can0 123#", "Form"),
@@ -197,7 +196,7 @@ const BAD_CANDUMP_LINES: [(&str, &str); 42] = [
     ("(1.0) can0 1234567G#00", "Identifier"),
     ("(1.0) can0 FFFFFFFF#00", "Identifier"),
     ("(1.0) can0 \t123#00", "Identifier"),
-    // the data, from their first byte to their last
+    // the data, from the first byte to the last
     ("(1.0) can0 09F8027F#g0", "Data"),
     ("(1.0) can0 09F8027F#00112233445566778", "Data"),
     ("(1.0) can0 09F8027F#001122334455667788", "Data"),
@@ -206,7 +205,7 @@ const BAD_CANDUMP_LINES: [(&str, &str); 42] = [
     ("(1.0) can0 09F8027F#0011223344556677_g", "Data"),
     ("(1.0) can0 09F8027F#0011223344556677_9x", "Data"),
     ("(1.0) can0 09F8027F#00.11", "Data"),
-    // of two causes the first row counts
+    // the first of two causes counts
     ("(x) can0", "Stamp"),
     ("(1.0) can0 12", "Form"),
     ("(1.0) can0 12#g", "Identifier"),
@@ -220,9 +219,9 @@ fn bad_candump_lines(rt: HostRuntime) -> Result<(), Fail> {
     Ok(())
 }
 
-// A plain line, and what it is read as.
+// A plain line and its entry.
 const PLAIN_LINES: [(&str, &str); 37] = [
-    // rate-of-turn, and the two of ten-lines-eight-bad
+    // rate-of-turn, and two lines of ten-lines-eight-bad
     (
         "2011-11-24-22:42:04.388,2,127251,36,255,8,7d,0b,7d,02,00,ff,ff,ff",
         "2011-11-24-22:42:04.388,2,127251,36,255,8,7d,0b,7d,02,00,ff,ff,ff\n",
@@ -230,7 +229,7 @@ const PLAIN_LINES: [(&str, &str); 37] = [
     ("2011-11-24-22:42:04.388,2,127251,36,255,3,7d,0b", "Data"),
     ("x,8,127251,36,255,0", "Number"),
     ("hello", "Form"),
-    // zeros in front, upper case, the limits
+    // leading zeros, upper case, the limits
     (
         "x,0007,0016777215,000,255,1,AB",
         "x,7,16777215,0,255,1,ab\n",
@@ -245,7 +244,7 @@ const PLAIN_LINES: [(&str, &str); 37] = [
         "2020-01-01T00:00:00.000Z,7,130820,5,255,9,07,98,01,41,42,43,44,45,46",
         "whole 2020-01-01T00:00:00.000Z,7,130820,5,255,9,07,98,01,41,42,43,44,45,46\n",
     ),
-    // the stamp
+    // the timestamp
     ("123456789012345678901234567890123,0,0,0,0,0", "Stamp"),
     (",0,0,0,0,0", "Stamp"),
     ("a\tb,0,0,0,0,0", "Stamp"),
@@ -274,7 +273,7 @@ const PLAIN_LINES: [(&str, &str); 37] = [
     ("x,0,0,0,0,2,00,0", "Data"),
     ("x,0,0,0,0,1,00,", "Data"),
     ("x,0,0,0,0,223,00", "Data"),
-    // of two causes the first row counts
+    // the first of two causes counts
     ("(x,9,0,0,0", "Stamp"),
     ("\u{7f},9", "Stamp"),
     ("x,9,0,0,0", "Form"),
@@ -289,7 +288,8 @@ fn plain_lines(rt: HostRuntime) -> Result<(), Fail> {
     Ok(())
 }
 
-// Lines, and what one reader reads them as: each comes after the second and the entry of the one before.
+// The entries that one reader gives for lines in this order. The reader remembers the second and the entry of the line
+// before.
 const IN_A_ROW: [(&str, &str); 21] = [
     (
         "(1502979132.106111) can0 09F8027F#00FCFFFF0000FFFF",
@@ -307,12 +307,12 @@ const IN_A_ROW: [(&str, &str); 21] = [
         "(1503014400.010000) can0 00000000#0000000000000000",
         "2017-08-18T00:00:00.010Z,0,0,0,0,8,00,00,00,00,00,00,00,00\n",
     ),
-    // a second before the last
+    // the second before the previous line's
     (
         "(1502979132.000999) can0 18EAFF01#14F0010203040506",
         "2017-08-17T14:12:12.000Z,6,59904,1,255,8,14,f0,01,02,03,04,05,06\n",
     ),
-    // of another form, and what comes after them
+    // lines of another form, and lines after these
     ("# note", "skipped"),
     (
         "(1502979132.5) can0 18EAFF01#14F001",
@@ -390,9 +390,9 @@ fn lines_in_a_row(rt: HostRuntime) -> Result<(), Fail> {
     Ok(())
 }
 
-// A line whose data are whole messages, and what it is read as.
+// A line that contains whole messages, and its entry.
 const WHOLE_LINES: [(&str, &str); 4] = [
-    // whole-among-frames, and a candump line, which is a frame always
+    // whole-among-frames, and a candump line, which is always a frame
     (
         "2020-01-01T00:00:00.000Z,7,130820,5,255,6,a3,99,01,41,42,43",
         "whole 2020-01-01T00:00:00.000Z,7,130820,5,255,6,a3,99,01,41,42,43\n",
@@ -424,7 +424,7 @@ fn the_longest_message(rt: HostRuntime) -> Result<(), Fail> {
     tells(&rt, &entry, &wanted, "the longest")
 }
 
-// Lines of so many bytes, and what they are read as.
+// A byte, how often a line repeats it, and the entry.
 const LONG_LINES: [(u8, usize, &str); 6] = [
     (b'x', LONGEST_LINE, "Stamp"),
     (b'x', LONGEST_LINE + 1, "Long"),

@@ -21,7 +21,7 @@ fn push_candump(
     Ok(())
 }
 
-// The same behind the packets before it.
+// A packet's line, appended by `CandumpLines` after the earlier packets.
 fn push_behind(
     alloc: Global,
     packet: &Packet,
@@ -38,7 +38,7 @@ fn push_behind(
     Ok(())
 }
 
-// The candump line of a plain line's frame, or the fault's name: by itself, and twice behind those before it.
+// A plain line's frame as a candump line, or the fault's name: alone, and twice after the earlier lines.
 fn replays<R: Abort + AllocGlobal>(
     rt: &R,
     lines: &mut CandumpLines,
@@ -59,7 +59,7 @@ fn replays<R: Abort + AllocGlobal>(
     Ok(())
 }
 
-// A plain line, and what is made of it: a candump line, or a fault.
+// A plain line, and its candump line or its fault.
 const CANDUMP_TEXTS: [(&str, &str); 24] = [
     // split-and-back, cog-and-sog, the last moment, and a leap day by Python's datetime
     (
@@ -78,7 +78,7 @@ const CANDUMP_TEXTS: [(&str, &str); 24] = [
         "2024-02-29T23:59:59.120Z,0,0,0,0,1,ab",
         "(1709251199.120000) can0 00000000#AB\n",
     ),
-    // no such stamp
+    // no valid timestamp
     ("2011-11-24-22:42:04.388,2,127251,36,255,1,7d", "NoStamp"),
     ("1969-12-31T23:59:59.999Z,0,0,0,0,0", "NoStamp"),
     ("2023-02-29T00:00:00.000Z,0,0,0,0,0", "NoStamp"),
@@ -92,12 +92,12 @@ const CANDUMP_TEXTS: [(&str, &str); 24] = [
     ("2023-12-10T23:59:59.000z,0,0,0,0,0", "NoStamp"),
     ("2023-12-10T23:59:59.0000,0,0,0,0,0", "NoStamp"),
     ("2023-12-10T23:59:5+.000Z,0,0,0,0,0", "NoStamp"),
-    // no such identifier, and both
+    // no valid identifier, and neither
     ("1970-01-01T00:00:10.300Z,7,130820,5,9,0", "NoId"),
     ("1970-01-01T00:00:10.300Z,6,59905,1,255,0", "NoId"),
     ("1970-01-01T00:00:10.300Z,6,262144,1,255,0", "NoId"),
     ("x,7,130820,5,9,0", "NoStamp"),
-    // behind those faults, the last sender at its stamp with other data; another sender at it; and another stamp
+    // after these faults: the last sender with the same timestamp and other data, another sender, another timestamp
     (
         "2024-02-29T23:59:59.120Z,0,0,0,0,2,cd,ef",
         "(1709251199.120000) can0 00000000#CDEF\n",

@@ -10,7 +10,7 @@ use n2k_table_tests::samples::sample as sample_table;
 use n2k_wire::{BadCause, Packing, is_interface};
 use std::test::Fail;
 
-// Those of the program where its words ask for nothing else.
+// The program's default options.
 fn usual_options() -> Options {
     Options {
         packing: Packing::Frames,

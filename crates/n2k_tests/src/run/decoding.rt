@@ -187,9 +187,9 @@ fn worked_examples_in_pieces(rt: HostRuntime) -> Result<(), Fail> {
     Ok(())
 }
 
-// Logs under the shortest window. Before the last line stand so many empty ones.
+// Logs under the shortest window, and how many empty lines are inserted before the last line.
 const UNDER_32: [(usize, Example); 3] = [
-    // stale-group, and a line less
+    // stale-group, and the same with one line less
     (
         31,
         Example {
@@ -225,7 +225,7 @@ line 33 broken pgn 130820 src 6 dst 255 seq 1 first 2
     ),
 ];
 
-// A log with so many empty lines before its last one.
+// Inserts empty lines before the last line of a log.
 fn with_empty_lines(alloc: Global, log: &str, empty: usize) -> Result<Vec<u8>, Fail> {
     let front = log.trim_end().rfind('\n').ok_or("one line")?;
     let (front, last) = log.split_at(front);
@@ -248,7 +248,7 @@ fn windows_that_end(rt: HostRuntime) -> Result<(), Fail> {
     Ok(())
 }
 
-// Lines that are read whole, and whether absent fields are printed.
+// Whether absent fields are printed, and lines that are read as whole messages.
 const WHOLE: [(bool, Example); 2] = [
     // pairs, and the last line of whole-among-frames
     (
@@ -295,7 +295,7 @@ fn whole_messages(rt: HostRuntime) -> Result<(), Fail> {
     Ok(())
 }
 
-// Ten lines, of which one gives a message; the second has 2,049 bytes.
+// Ten lines, of which one gives a message; the second line has 2,049 bytes.
 const TEN_LINES: Example = Example {
     log: "
 (10.1) can0 1DFF0405#010
@@ -321,7 +321,7 @@ line 10 bad B3 form
     summary: "lines 10 messages 1 bad 8 unknown 0 broken 0 open 0\n",
 };
 
-// A frame's line, and x's in front of the other lines.
+// A frame's line, and x's at the start of the other lines.
 fn ten_lines(alloc: Global, others: &str) -> Result<Vec<u8>, AllocError> {
     let mut log = Vec::new(alloc);
     log.extend_from_slice(b"(10.0) can0 1DFF0405#000BA39901414243\n")?;
@@ -338,12 +338,12 @@ fn ten_lines_eight_bad(rt: HostRuntime) -> Result<(), Fail> {
     decodes_in_pieces(&rt, &table, &log, &TEN_LINES)
 }
 
-// A stamp may hold what JSON escapes.
+// A timestamp may contain characters that JSON escapes.
 const STAMPS: &str = "\"\\,2,129026,36,255,8,7d,0b,7d,02,00,ff,ff,ff
 (1502979132.106111) can0 09F8027F#00FCFFFF0000FFFF
 ";
 
-// The stamp of a JSON line.
+// The timestamp of a JSON line.
 fn stamp_of(alloc: Global, line: &str) -> Result<String, Fail> {
     let value = Value::from_str(alloc, line)?;
     let stamp = value
@@ -361,14 +361,13 @@ fn stamps_of(alloc: Global, text: &str) -> Result<Vec<String>, Fail> {
     Ok(stamps)
 }
 
-// What is printed of a log.
 fn printed(alloc: Global, table: &Table, log: &[u8]) -> Result<Outputs, Fail> {
     let mut outputs = empty_outputs(alloc, 1000);
     decode(alloc, table, frames(long_window()), log, 1000, &mut outputs)?;
     Ok(outputs)
 }
 
-// Each printed line is one JSON text. That its members stand in their order the texts above show.
+// Each printed line is valid JSON. The texts above show the order of its members.
 #[test]
 fn each_line_is_read_by_serde_json(rt: HostRuntime) -> Result<(), Fail> {
     let table = sample(rt.alloc())?;
@@ -380,7 +379,7 @@ fn each_line_is_read_by_serde_json(rt: HostRuntime) -> Result<(), Fail> {
     Ok(())
 }
 
-// The lines of a block are 43,000 bytes and more, which a buffer has in two parts.
+// The lines of a block give more than 43,000 bytes, which a buffer keeps in two parts.
 #[test]
 fn text_of_a_block_in_two_parts(rt: HostRuntime) -> Result<(), Fail> {
     let alloc = rt.alloc();

@@ -1,4 +1,4 @@
-//! Devices in memory, and what reads and writes them whole.
+//! Devices in memory, and the calls that read and write them whole.
 ghost use Rattle.std.specs.Prelude.{◌<◌};
 
 use n2k_run::{Blocks, BytesFault, Failed, MemorySink, MemorySource, Next, read_bytes, write_all};
@@ -36,7 +36,7 @@ fn bytes_up_to_a_limit(rt: HostRuntime) -> Result<(), Fail> {
     Ok(())
 }
 
-// One byte more than the limit is asked for.
+// The read requests one byte more than the limit.
 #[test]
 fn past_a_limit_of_bytes(rt: HostRuntime) -> Result<(), Fail> {
     let mut long = MemorySource::new(b"abcabc", 100, 0);
@@ -59,8 +59,7 @@ fn a_write_fails_and_the_next_goes_on(rt: HostRuntime) -> Result<(), Fail> {
     Ok(())
 }
 
-// What the next line of a log is: its length, or 10,000 where it is long, 20,000 at the end and 30,000 where the read
-// failed.
+// The next line of a log: its length, or 10,000 for a long line, 20,000 for the end, 30,000 for a failed read.
 fn next_length(blocks: &mut Blocks, source: &mut MemorySource) -> usize {
     match blocks.next_line(source) {
         Ok(Next::Line(line)) => line.len(),
@@ -70,7 +69,7 @@ fn next_length(blocks: &mut Blocks, source: &mut MemorySource) -> usize {
     }
 }
 
-// Lines about a long one.
+// Short lines before and after a long line.
 fn long_between(alloc: Global) -> Result<Vec<u8>, AllocError> {
     let mut log = Vec::new(alloc);
     log.extend_from_slice(b"ab\r\r\n\n")?;
@@ -84,7 +83,7 @@ const LENGTHS: [usize; 8] = [3, 0, 30_000, 10_000, 3, 0, 20_000, 20_000];
 #[test]
 fn a_failed_read_loses_no_line(rt: HostRuntime) -> Result<(), Fail> {
     let log = long_between(rt.alloc())?;
-    // The first read that fails is the third, and it is so within the long line.
+    // The third read fails first, in the middle of the long line.
     let mut source = MemorySource::new(&log, 3000, 3);
     let mut blocks = Blocks::new();
     for wanted in &LENGTHS {

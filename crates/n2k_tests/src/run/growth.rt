@@ -1,5 +1,5 @@
-//! What refused memory leaves of runs. `tests/faults/refused-growth` lets each growth fail in turn: the answer is that
-//! with ample memory or a refusal, and what was written is a front of what ample memory gives.
+//! What a run leaves if memory is refused. `tests/faults/refused-growth` refuses each growth in turn: the result is the
+//! same as with ample memory or a refusal, and the written bytes are a prefix of the full output.
 use super::parts::{OVERDUE, OVERDUE_REPORTS};
 use super::samples::{
     Outputs, REPEAT_BREAKS, REPEAT_BREAKS_REPORT, REPEAT_BREAKS_TEXT, TWO_SOURCES,
@@ -14,7 +14,7 @@ use n2k_table_tests::samples::sample;
 use std::process::Abort;
 use std::test::Fail;
 
-// All of a text was written, or a front of it.
+// The sink contains all of a text, or a prefix of it.
 fn is_written<R: Abort>(rt: &R, whole: bool, sink: &MemorySink, text: &str) {
     if whole {
         assert_eq!(rt; sink.bytes(), text.as_bytes());
@@ -23,13 +23,13 @@ fn is_written<R: Abort>(rt: &R, whole: bool, sink: &MemorySink, text: &str) {
     }
 }
 
-// The same of both outputs.
+// Each of the two outputs contains all of its text, or a prefix of it.
 fn holds<R: Abort>(rt: &R, whole: bool, outputs: &Outputs, text: &str, reports: &str) {
     is_written(rt, whole, &outputs.text, text);
     is_written(rt, whole, &outputs.reports, reports);
 }
 
-// Whether a run met a refusal: its own, or that of a sink in memory, which fails as a device does.
+// Whether a run reports refused memory: its own, or that of a sink in memory, which fails like a device.
 fn is_refused(fault: RunFault) -> bool {
     matches!(fault, RunFault::Memory | RunFault::Write | RunFault::Report)
 }
@@ -65,7 +65,7 @@ fn refused_memory_in_a_run(rt: HostRuntime) {
     );
 }
 
-// Of a part: where its state is refused, nothing was written; where its own state can't be saved, all may stand.
+// If a part's input state is refused, nothing was written. If its own state cannot be saved, all may have been written.
 fn part_leaves_a_front<R: Abort + AllocGlobal>(
     rt: &R,
     table: &Table,
@@ -114,7 +114,7 @@ fn refused_memory_in_a_part(rt: HostRuntime) {
     );
 }
 
-// A state of the old format of no lines.
+// A state of the old format, after no lines.
 const OLD_EMPTY: &str =
     "{'bad':0,'broken':0,'format':1,'groups':[],'lines':0,'messages':0,'table':'ID','unknown':0}";
 
@@ -137,7 +137,7 @@ fn old_state_leaves_a_front<R: Abort + AllocGlobal>(
     Ok(())
 }
 
-// overdue-old-state: a state of the old format is read, and its groups are broken at the next line. empty-state has none.
+// overdue-old-state: a state of the old format is read, and the next line breaks its groups. empty-state has no groups.
 #[test]
 fn an_old_state_goes_on_or_is_refused(rt: HostRuntime) -> Result<(), Fail> {
     let table = sample(rt.alloc())?;

@@ -12,8 +12,7 @@ use std::alloc::Global;
 use std::process::Abort;
 use std::test::Fail;
 
-// A log, what is printed and reported of it, and the state after it. In states ' stands for a
-// quotation mark, and ID for the table's id.
+// A log, its output and its reports, and the state after it. In states ' is a quotation mark, and ID the table's id.
 #[derive(Drop)]
 struct Example {
     log: &'static str,
@@ -40,7 +39,7 @@ const EXAMPLES: [Example; 4] = [
         summary: "lines 4 messages 2 bad 0 unknown 0 broken 0 open 0\n",
         state: "{'bad':0,'broken':0,'format':2,'groups':[],'lines':4,'messages':2,'table':'ID','unknown':0,'window':10000}",
     },
-    // whole-among-frames, its last line, as a frame
+    // the last line of whole-among-frames, as a frame
     Example {
         log: "2020-01-01T00:00:00.000Z,7,130820,5,255,6,a3,99,01,41,42,43\n",
         text: "",
@@ -48,8 +47,8 @@ const EXAMPLES: [Example; 4] = [
         summary: "lines 1 messages 0 bad 0 unknown 0 broken 0 open 1\n",
         state: "{'bad':0,'broken':0,'format':2,'groups':[{'dst':255,'first':1,'frames':[[3,'9901414243ffff']],'pgn':130820,'seq':5,'src':5}],'lines':1,'messages':0,'table':'ID','unknown':0,'window':10000}",
     },
-    // Every kind of line: skipped, bad, single, whole, of an unknown PGN, fast packets of three senders, a broken group,
-    // and one that stays open.
+    // Every kind of line: skipped, bad, single, whole, with an unknown PGN, fast packets of three senders, a broken
+    // group, and a group that stays open.
     Example {
         log: "# a comment
 (1.0) can0 1DFF0405#000BA39901414243
@@ -81,7 +80,7 @@ line 11 bad B7 fast
     },
 ];
 
-// A part has left this state, and sums up as this.
+// A part left this state and this summary.
 fn is_left<R: Abort + AllocGlobal>(
     rt: &R,
     part: &Part,
@@ -93,7 +92,7 @@ fn is_left<R: Abort + AllocGlobal>(
     has_summary(rt, &part.counts, summary)
 }
 
-// The parts of a log, run in turn.
+// Runs the parts of a log in turn.
 fn joined(
     alloc: Global,
     table: &Table,
@@ -104,7 +103,7 @@ fn joined(
     run_parts(alloc, table, options, parts, &mut to.text, &mut to.reports)
 }
 
-// The parts of a log give what the log gives.
+// The parts of a log give the same as the whole log.
 fn gives<R: Abort + AllocGlobal>(
     rt: &R,
     table: &Table,
@@ -123,7 +122,7 @@ fn gives<R: Abort + AllocGlobal>(
     is_left(rt, &last, example.state, example.summary)
 }
 
-// A log gives the same whole, and cut in two after each of its lines.
+// A log gives the same whole and cut in two after each of its lines.
 fn gives_in_two<R: Abort + AllocGlobal>(
     rt: &R,
     table: &Table,
@@ -141,7 +140,7 @@ fn gives_in_two<R: Abort + AllocGlobal>(
     Ok(())
 }
 
-// A log gives the same where each of its lines is a part, after an empty part.
+// A log gives the same if each of its lines is a part, after an empty part.
 fn gives_by_lines<R: Abort + AllocGlobal>(
     rt: &R,
     table: &Table,
@@ -169,14 +168,14 @@ fn cut_after_each_line(rt: HostRuntime) -> Result<(), Fail> {
     gives(&rt, &table, &[], &EXAMPLES[0])
 }
 
-// The states of two sources' log after its second line and after its third.
+// The states of the two-sources log after its second and its third line.
 const AFTER_TWO: &str =
     "{'bad':0,'broken':0,'format':2,'groups':[{'dst':255,'first':1,'frames':[[0,'0ba39901414243']],'pgn':130820,'seq':0,'src':5},{'dst':255,'first':2,'frames':[[0,'0ba39902585920']],'pgn':130820,'seq':1,'src':6}],'lines':2,'messages':0,'table':'ID','unknown':0,'window':10000}";
 
 const AFTER_THREE: &str =
     "{'bad':0,'broken':0,'format':2,'groups':[{'dst':255,'first':1,'frames':[[0,'0ba39901414243']],'pgn':130820,'seq':0,'src':5}],'lines':3,'messages':1,'table':'ID','unknown':0,'window':10000}";
 
-// A state without a window, whose groups wait too long under the shortest one.
+// A state without a window, whose groups have waited too long under the shortest window.
 pub(crate) const OVERDUE: &str =
     "{'bad':0,'broken':0,'format':1,'groups':[{'dst':255,'first':1,'frames':[[0,'0ba39901414243']],'pgn':130820,'seq':0,'src':5},{'dst':255,'first':2,'frames':[[0,'0ba39902585920']],'pgn':130820,'seq':1,'src':6}],'lines':50,'messages':0,'table':'ID','unknown':0}";
 
@@ -184,7 +183,7 @@ pub(crate) const OVERDUE_REPORTS: &str = "line 51 broken pgn 130820 src 5 dst 25
 line 51 broken pgn 130820 src 6 dst 255 seq 1 first 2
 ";
 
-// A state that is handed in, the lines after it, and what is made of them.
+// A state, the lines after it, and the result.
 #[derive(Drop)]
 struct Resumed {
     state: &'static str,
@@ -218,7 +217,7 @@ const RESUMED: [Resumed; 5] = [
         reports: "",
         summary: "lines 4 messages 2 bad 0 unknown 0 broken 0 open 0\n",
     },
-    // The group of source 5 waits for its other frames: its frame 3 is broken by another frame 3.
+    // The group of source 5 waits for other frames: a second frame 3 breaks it.
     Resumed {
         state: "{'bad':0,'broken':0,'format':1,'groups':[{'dst':255,'first':1,'frames':[[3,'0ba39901414243']],'pgn':130820,'seq':0,'src':5},{'dst':255,'first':2,'frames':[[0,'0ba39902585920']],'pgn':130820,'seq':1,'src':6}],'lines':2,'messages':0,'table':'ID','unknown':0}",
         window: 10_000,
@@ -227,7 +226,7 @@ const RESUMED: [Resumed; 5] = [
         reports: "line 3 broken pgn 130820 src 5 dst 255 seq 0 first 1\n",
         summary: "lines 3 messages 0 bad 0 unknown 0 broken 1 open 2\n",
     },
-    // The group of source 5 has a frame past its total of 6, so that no frame makes it whole.
+    // The group of source 5 has a frame past its length of 6, so that no frame completes it.
     Resumed {
         state: "{'bad':0,'broken':0,'format':1,'groups':[{'dst':255,'first':1,'frames':[[0,'06a39901414243'],[3,'20202020202020']],'pgn':130820,'seq':0,'src':5},{'dst':255,'first':2,'frames':[[0,'0ba39902585920']],'pgn':130820,'seq':1,'src':6}],'lines':2,'messages':0,'table':'ID','unknown':0}",
         window: 10_000,
@@ -236,7 +235,7 @@ const RESUMED: [Resumed; 5] = [
         reports: "",
         summary: "lines 3 messages 0 bad 0 unknown 0 broken 0 open 2\n",
     },
-    // overdue-old-state: a state without a window, whose groups are broken at its next line, the oldest first.
+    // overdue-old-state: a state without a window; the next line breaks its groups, the oldest first.
     Resumed {
         state: OVERDUE,
         window: 32,
@@ -247,7 +246,7 @@ const RESUMED: [Resumed; 5] = [
     },
 ];
 
-// A part that is read and written without a failure.
+// Runs a part whose reads and writes succeed.
 fn part_of_log(
     alloc: Global,
     table: &Table,
@@ -278,7 +277,7 @@ fn one_part_from_the_beginning(rt: HostRuntime) -> Result<(), Fail> {
     is_left(&rt, &part, EXAMPLES[1].state, EXAMPLES[1].summary)
 }
 
-// The part behind a state as it is spelled.
+// Runs the part after a state, which is given in its short spelling.
 fn resume(
     alloc: Global,
     table: &Table,
@@ -316,7 +315,7 @@ fn goes_on_from_states(rt: HostRuntime) -> Result<(), Fail> {
     Ok(())
 }
 
-// The frames of a message of 18 bytes, as 1 and 0, and then 2.
+// The frames 1 and 0 of a message of 18 bytes; `TWO` is its frame 2.
 const ONE_THEN_ZERO: &str = "(1.0) can0 1DFF0405#0144454647482020
 (2.0) can0 1DFF0405#0012A39901414243
 ";
@@ -327,7 +326,8 @@ const OUT_OF_ORDER: &str =
     "{\"timestamp\":\"1970-01-01T00:00:03.000Z\",\"prio\":7,\"src\":5,\"dst\":255,\"pgn\":130820,\"description\":\"Sample: Label\",\"fields\":{\"Maker\":419,\"Kind\":1,\"Label\":\"ABCDEFGH\"}}
 ";
 
-// order-in-parts: what a part took out of order stays in its state, and a part in order completes it.
+// order-in-parts: frames that a part accepted out of order stay in its state, and a part in order completes the
+// message.
 #[test]
 fn a_part_without_the_order_is_completed_in_order(rt: HostRuntime) -> Result<(), Fail> {
     let table = sample(rt.alloc())?;
@@ -341,7 +341,7 @@ fn a_part_without_the_order_is_completed_in_order(rt: HostRuntime) -> Result<(),
     Ok(())
 }
 
-// In order in each part, the message is broken, and none is printed.
+// If each part is in order, the group is broken, and no message is printed.
 #[test]
 fn parts_in_order_print_no_message_out_of_order(rt: HostRuntime) -> Result<(), Fail> {
     let table = sample(rt.alloc())?;
@@ -366,7 +366,7 @@ const HALVES: Example = Example {
     state: "{'bad':1,'broken':0,'format':2,'groups':[],'lines':2,'messages':1,'table':'ID','unknown':0,'window':10000}",
 };
 
-// Cuts stand after line feeds: here each half of a line is a line.
+// A cut belongs after a line feed: here each half of a line becomes a line.
 #[test]
 fn cut_inside_a_line(rt: HostRuntime) -> Result<(), Fail> {
     let table = sample(rt.alloc())?;
@@ -378,7 +378,7 @@ fn cut_inside_a_line(rt: HostRuntime) -> Result<(), Fail> {
     )
 }
 
-// The log of two sources in pieces of this size, where this read fails.
+// Runs the two-sources log in chunks of this size, with one failing read.
 fn with_failing_read(
     alloc: Global,
     table: &Table,
@@ -398,7 +398,7 @@ fn with_failing_read(
     )
 }
 
-// What is printed where that read fails, and the state that is left.
+// The output before the failing read, and the state that is left.
 fn stops_with_read<R: Abort + AllocGlobal>(
     rt: &R,
     table: &Table,
@@ -424,7 +424,7 @@ const TWO_OPEN: &str = "lines 2 messages 0 bad 0 unknown 0 broken 0 open 2\n";
 
 const ONE_OPEN: &str = "lines 3 messages 1 bad 0 unknown 0 broken 0 open 1\n";
 
-// read-fails: two lines came, and the third in part; and where each piece is a line, three came.
+// read-fails: in chunks of 60 bytes two lines arrived, and part of the third; in chunks of one line three arrived.
 #[test]
 fn a_failed_read_leaves_a_state(rt: HostRuntime) -> Result<(), Fail> {
     let table = sample(rt.alloc())?;
@@ -432,7 +432,7 @@ fn a_failed_read_leaves_a_state(rt: HostRuntime) -> Result<(), Fail> {
     stops_with_read(&rt, &table, (43, 4), XY, AFTER_THREE, ONE_OPEN)
 }
 
-// A state of as many lines as are counted.
+// A state at the line limit.
 const FULL: &str =
     "{'bad':0,'broken':0,'format':2,'groups':[],'lines':999999999999999,'messages':0,'table':'ID','unknown':0,'window':10000}";
 
@@ -451,7 +451,7 @@ fn no_line_past_the_last(rt: HostRuntime) -> Result<(), Fail> {
     Ok(())
 }
 
-// What a log's run answers where this write of the output fails, and this one of the reports, and what was written.
+// The fault of a log's run in which one write of the output and one of the reports fail, and what was written.
 fn failed(
     alloc: Global,
     table: &Table,
@@ -470,7 +470,7 @@ fn failed(
     }
 }
 
-// write-fails: a front is written.
+// write-fails: a prefix is written.
 #[test]
 fn a_failed_write_leaves_a_front(rt: HostRuntime) -> Result<(), Fail> {
     let table = sample(rt.alloc())?;
@@ -480,7 +480,7 @@ fn a_failed_write_leaves_a_front(rt: HostRuntime) -> Result<(), Fail> {
     Ok(())
 }
 
-// A report that can't be written, that of repeat-breaks.
+// The report of repeat-breaks cannot be written.
 #[test]
 fn a_failed_report_leaves_a_front(rt: HostRuntime) -> Result<(), Fail> {
     let table = sample(rt.alloc())?;

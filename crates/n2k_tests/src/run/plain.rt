@@ -77,7 +77,7 @@ const EXAMPLES: [Example; 6] = [
     },
 ];
 
-// Writes the plain lines of a log that comes in pieces, and tells what was counted.
+// Writes the plain lines of a log that arrives in chunks, and returns the counts.
 fn write_plain(
     alloc: Global,
     log: &[u8],
@@ -122,7 +122,7 @@ fn reports_in<R: Abort + AllocGlobal>(
     Ok(())
 }
 
-// A log whose text, reports and counts are these, whatever the pieces in which it comes.
+// A log gives this text, these reports and these counts, whatever chunks it arrives in.
 fn reports_in_pieces<R: Abort + AllocGlobal>(
     rt: &R,
     log: &[u8],
@@ -136,7 +136,7 @@ fn reports_in_pieces<R: Abort + AllocGlobal>(
     Ok(())
 }
 
-// Lines of so many x's, and what stands behind them.
+// A number of x's, and the bytes after them.
 const LONG_LINES: [(usize, &[u8]); 5] = [
     (2048, b"\r\n"),
     (2048, b"x\n"),
@@ -196,7 +196,7 @@ line 9 bad B5 number
 line 10 bad B3 form
 ";
 
-// A frame's line, and x's in front of the other lines.
+// A frame's line, and x's at the start of the other lines.
 fn ten_lines(alloc: Global) -> Result<Vec<u8>, AllocError> {
     let mut log = Vec::new(alloc);
     log.extend_from_slice(b"(10.0) can0 1DFF0405#000BA39901414243\n")?;
@@ -216,8 +216,8 @@ fn ten_lines_of_which_seven_are_bad(rt: HostRuntime) -> Result<(), Fail> {
     reports_in_pieces(&rt, &log, TEN_TEXT, TEN_REPORTS, counts)
 }
 
-// What the lines of a block give is written before the next block is read: where the first write fails, the source
-// has given its first block alone.
+// The text of a block is written before the next block is read: if the first write fails, only the first block has been
+// read.
 #[test]
 fn a_block_is_written_before_the_next_is_read(rt: HostRuntime) -> Result<(), Fail> {
     let mut reader = MemorySource::new(TWO_SOURCES.as_bytes(), 60, 0);
@@ -230,7 +230,7 @@ fn a_block_is_written_before_the_next_is_read(rt: HostRuntime) -> Result<(), Fai
     Ok(())
 }
 
-// What was counted before a read failed: the lines that are printed, and no part of one.
+// The counts before a failed read include the printed lines, and no incomplete line.
 #[test]
 fn counts_of_a_log_that_fails(rt: HostRuntime) {
     let mut reader = MemorySource::new(TWO_SOURCES.as_bytes(), 60, 3);
@@ -250,8 +250,8 @@ fn counts_of_a_log_that_fails(rt: HostRuntime) {
     assert_eq!(rt; Some(outputs.text.bytes()), two);
 }
 
-// `tests/faults/refused-growth` lets each growth of the run fail in turn: the answer is that with ample memory or a
-// refusal, and what was written is a front.
+// `tests/faults/refused-growth` refuses each growth of the run in turn: the result is the same as with ample memory or
+// a refusal, and the written bytes are a prefix.
 #[test]
 fn refused_memory_leaves_a_front(rt: HostRuntime) {
     let mut outputs = empty_outputs(rt.alloc(), 10);

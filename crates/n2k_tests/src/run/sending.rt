@@ -1,4 +1,4 @@
-//! Worked examples of messages that are written as frames, and read again.
+//! Worked examples of messages that are written as frames and read again.
 use super::samples::{Outputs, decode, empty_outputs, frames, has_printed, has_summary, source};
 use n2k_join::Counts;
 use n2k_join_tests::samples::long_window;
@@ -10,7 +10,7 @@ use std::alloc::{AllocError, Global};
 use std::process::Abort;
 use std::test::Fail;
 
-// A log, the interface at which its frames are seen, or none for plain lines, and what is made of it.
+// A log, the interface of its candump lines (none for plain lines), and the output.
 #[derive(Drop)]
 struct Example {
     log: &'static str,
@@ -73,7 +73,7 @@ x,7,130820,5,255,11,a3,99,01,41,42,43,00,00,00,00,00
         reports: "line 2 bad B11 time\n",
         summary: "lines 3 messages 2 bad 1 unknown 0 broken 0 open 0\n",
     },
-    // Bad lines, and a message of a single PGN, which is its own frame and needs no stamp of a form.
+    // Bad lines, and a message of a single frame, which is written unchanged, so that any timestamp is valid.
     Example {
         log: "1970-01-01T00:00:10.300Z,2,129026,36,255,9,00,01,02,03,04,05,06,07,08
 # skipped
@@ -93,7 +93,7 @@ line 7 bad B3 form
 ",
         summary: "lines 7 messages 1 bad 5 unknown 0 broken 0 open 0\n",
     },
-    // Bad lines at an interface; what can't be split is judged first.
+    // Bad lines at an interface. A message that can't be split is refused first.
     Example {
         log: "2011-11-24-22:42:04.388,2,127251,36,255,8,7d,0b,7d,02,00,ff,ff,ff
 1970-01-01T00:00:10.300Z,7,130820,5,9,0
@@ -113,7 +113,7 @@ line 5 bad B9 size
     },
 ];
 
-// As candump writes them, or as plain lines.
+// Writes a log's frames as candump lines, or as plain lines.
 pub(crate) fn frames_at(
     alloc: Global,
     table: &Table,
@@ -166,7 +166,7 @@ fn worked_examples_in_pieces(rt: HostRuntime) -> Result<(), Fail> {
     Ok(())
 }
 
-// The plain lines of the frames of a log's messages.
+// The frames of a log's messages, as plain lines.
 fn frames_of<R: Abort + AllocGlobal>(rt: &R, table: &Table, log: &str) -> Result<Outputs, Fail> {
     let mut outputs = empty_outputs(rt.alloc(), 1000);
     frames_at(rt.alloc(), table, None, log.as_bytes(), 1000, &mut outputs)?;
@@ -174,7 +174,7 @@ fn frames_of<R: Abort + AllocGlobal>(rt: &R, table: &Table, log: &str) -> Result
     Ok(outputs)
 }
 
-// A log decodes to this text, with these reports, that many messages and broken groups; no group is open.
+// A log decodes to this text and these reports, with this many messages and broken groups and no open group.
 fn decodes_to<R: Abort + AllocGlobal>(
     rt: &R,
     table: &Table,
@@ -210,14 +210,14 @@ const NINE: &str = "1970-01-01T00:00:10.300Z,7,130820,5,255,11,a3,99,01,41,42,43
 1970-01-01T00:00:10.300Z,7,130820,5,255,11,a3,99,01,41,42,43,00,00,00,00,00
 ";
 
-// The JSON line of such a message.
+// The JSON line of a message of `SPLIT_AND_BACK`.
 const LABEL: &str =
     "{\"timestamp\":\"1970-01-01T00:00:10.300Z\",\"prio\":7,\"src\":5,\"dst\":255,\"pgn\":130820,\"description\":\"Sample: Label\",\"fields\":{\"Maker\":419,\"Kind\":1,\"Label\":\"ABC\"}}\n";
 
 const XY: &str =
     "{\"timestamp\":\"1970-01-01T00:00:10.200Z\",\"prio\":7,\"src\":6,\"dst\":255,\"pgn\":130820,\"description\":\"Sample: Label\",\"fields\":{\"Maker\":419,\"Kind\":2,\"Label\":\"XY\"}}\n";
 
-// Frames with those of another source between them: the third line and the eleventh are followed by one of them.
+// Inserts two frames of another source, after the third and the eleventh line.
 fn with_another_source(alloc: Global, frames: &[u8]) -> Result<Vec<u8>, AllocError> {
     let mut log = Vec::new(alloc);
     for (number, line) in frames.split_inclusive(|byte| *byte == b'\n').enumerate() {
@@ -231,7 +231,7 @@ fn with_another_source(alloc: Global, frames: &[u8]) -> Result<Vec<u8>, AllocErr
     Ok(log)
 }
 
-// The JSON lines of nine messages, and that of another source behind the fifth.
+// The JSON lines of nine messages, with the message of another source after the fifth.
 fn nine_and_another(alloc: Global) -> Result<Vec<u8>, AllocError> {
     let mut lines = Vec::new(alloc);
     for number in 0..9 {
@@ -243,7 +243,7 @@ fn nine_and_another(alloc: Global) -> Result<Vec<u8>, AllocError> {
     Ok(lines)
 }
 
-// The frames of nine messages give them back, also with the two frames of another source between them.
+// The frames of nine messages give the messages back, also with two frames of another source among them.
 #[test]
 fn nine_messages_and_another_source(rt: HostRuntime) -> Result<(), Fail> {
     let table = sample(rt.alloc())?;
@@ -263,8 +263,8 @@ fn without_the_second(alloc: Global, frames: &[u8]) -> Result<Vec<u8>, AllocErro
     Ok(log)
 }
 
-// The frames of nine messages without the second: the first message is lost, its group is broken by the ninth, which has
-// its number.
+// The frames of nine messages without the second frame: the first message is lost, and the ninth, which has the same
+// number, breaks its group.
 #[test]
 fn nine_messages_without_the_second_frame(rt: HostRuntime) -> Result<(), Fail> {
     let table = sample(rt.alloc())?;
@@ -286,7 +286,7 @@ const EIGHT: &str = "1970-01-01T00:00:10.300Z,7,130820,5,255,11,a3,99,01,41,42,4
 1970-01-01T00:00:10.300Z,7,130820,5,255,11,a3,99,08,41,42,43,00,00,00,00,00
 ";
 
-// The second frame of each message in order, and then the first ones in reverse.
+// The second frame of each message in order, then the first frames in reverse.
 fn under_way(alloc: Global, frames: &[u8]) -> Result<Vec<u8>, AllocError> {
     let mut firsts = Vec::new(alloc);
     let mut log = Vec::new(alloc);
@@ -303,7 +303,7 @@ fn under_way(alloc: Global, frames: &[u8]) -> Result<Vec<u8>, AllocError> {
     Ok(log)
 }
 
-// The member of their kind, in the order in which they come whole.
+// The JSON member of each message's kind, in the order in which the messages are completed.
 const KINDS: [&str; 8] = [
     "\"Kind\":8",
     "\"Kind\":7",
@@ -315,7 +315,7 @@ const KINDS: [&str; 8] = [
     "\"Kind\":1",
 ];
 
-// The JSON lines of those messages.
+// The JSON lines of the messages of `KINDS`.
 fn labels(alloc: Global) -> Result<Vec<u8>, Fail> {
     let mut lines = Vec::new(alloc);
     for kind in &KINDS {
@@ -325,7 +325,7 @@ fn labels(alloc: Global) -> Result<Vec<u8>, Fail> {
     Ok(lines)
 }
 
-// eight-under-way, from the messages on: eight groups are open at once.
+// eight-under-way, from messages to frames and back: eight groups are open at once.
 #[test]
 fn eight_under_way(rt: HostRuntime) -> Result<(), Fail> {
     let table = sample(rt.alloc())?;

@@ -5,7 +5,7 @@ use std::io;
 use std::io::{ErrorKind, Read, Write};
 use std::test::Fail;
 
-// A device whose first call a signal interrupts, and which then gives a dot, or takes nothing.
+// A device whose first call is interrupted by a signal; the next call gives a dot, or accepts nothing.
 #[derive(Drop)]
 struct Interrupted {
     calls: u32,
@@ -55,7 +55,7 @@ fn a_write_that_takes_nothing_fails(rt: HostRuntime) {
     assert_eq!(rt; why, Some(ErrorKind::WriteZero));
 }
 
-// So many bytes, the n-th of them n modulo 251.
+// The number of bytes; byte n is n modulo 251.
 const COUNT: usize = 45_000;
 
 fn numbered(alloc: Global) -> Result<Vec<u8>, AllocError> {
@@ -72,7 +72,7 @@ fn numbered(alloc: Global) -> Result<Vec<u8>, AllocError> {
     Ok(bytes)
 }
 
-// How many bytes call number `calls` moves: from 1 to 7 in turns.
+// How many bytes call number `calls` moves: 1 to 7 in turn.
 fn piece_of(calls: usize) -> usize {
     (calls % 7).saturating_add(1)
 }
@@ -92,7 +92,7 @@ impl<'a> Read for FewRead<'a> {
     }
 }
 
-// A writer that takes few bytes a call, and notes whether one was handed less than all that was left.
+// A writer that accepts few bytes a call, and records whether a call received less than all remaining bytes.
 #[derive(Drop)]
 struct FewWritten {
     held: Vec<u8>,
@@ -115,7 +115,7 @@ impl Write for FewWritten {
     }
 }
 
-// What std promises of a reader says nothing of a device that fails at a call of its own choosing.
+// std's contract of a reader does not cover a device that fails at a chosen call.
 #[test]
 fn ten_thousand_reads(rt: HostRuntime) -> Result<(), Fail> {
     let wanted = numbered(rt.alloc())?;
@@ -127,7 +127,7 @@ fn ten_thousand_reads(rt: HostRuntime) -> Result<(), Fail> {
     let bytes = read_bytes(rt.alloc(), &mut source, COUNT)?;
     drop(source);
     assert!(rt; bytes.as_slice() == wanted.as_slice());
-    // With 28 bytes in seven calls, and one call that finds the end.
+    // Seven calls give 28 bytes, and one more call finds the end.
     assert_eq!(rt; reader.calls, 11_253);
     Ok(())
 }
@@ -149,7 +149,7 @@ fn ten_thousand_writes(rt: HostRuntime) -> Result<(), Fail> {
     Ok(())
 }
 
-// A reader that gives 1,050 bytes a call at most, and notes how many each call asks for.
+// A reader that gives at most 1,050 bytes a call, and records how many bytes each call requests.
 #[derive(Drop)]
 struct Noting<'a> {
     left: &'a [u8],
@@ -166,7 +166,7 @@ impl<'a> Read for Noting<'a> {
     }
 }
 
-// So many lines of 100 bytes, and one of 9,001 bytes.
+// The number of lines of 100 bytes; one of 9,001 bytes follows.
 const SHORT_LINES: usize = 42;
 
 fn short_lines_and_a_long_one(alloc: Global) -> Result<Vec<u8>, AllocError> {
@@ -181,13 +181,13 @@ fn short_lines_and_a_long_one(alloc: Global) -> Result<Vec<u8>, AllocError> {
     Ok(log)
 }
 
-// What is left of the block behind the half line that is kept, and behind the front of the long line. Once that front
-// fills the block it is let go, and each call asks for the whole block.
+// The space in the block after the bytes that are kept: half a line, or the start of the long line. Once the long line
+// fills the block its bytes are dropped, and each call requests the whole block.
 const ASKED: [usize; 14] = [
     4096, 4046, 4096, 4046, 4096, 3046, 1996, 946, 4096, 4096, 4096, 4096, 4096, 4096,
 ];
 
-// No contract can say how much a read asks for: it has no word for what a source was asked.
+// No contract limits how much a read requests: a source's definitions do not contain the requested size.
 #[test]
 fn each_read_asks_for_the_rest_of_the_block(rt: HostRuntime) -> Result<(), Fail> {
     let log = short_lines_and_a_long_one(rt.alloc())?;
@@ -197,7 +197,7 @@ fn each_read_asks_for_the_rest_of_the_block(rt: HostRuntime) -> Result<(), Fail>
     };
     let mut source = StdSource::new(&mut reader);
     let mut blocks = Blocks::new();
-    // The long line and the end are answered too.
+    // The long line and the end are entries too.
     for _ in 0..SHORT_LINES + 2 {
         assert!(rt; blocks.next_line(&mut source).is_ok());
     }

@@ -4,7 +4,7 @@ use n2k_run::{Failed, MemorySink, bad_text, broken_text, write_summary};
 use n2k_wire::BadCause;
 use std::test::Fail;
 
-// Those of ten-lines-eight-bad.
+// The causes and reports of ten-lines-eight-bad.
 const BAD: [(u64, BadCause, &str); 8] = [
     (2, BadCause::Long, "line 2 bad B1 long\n"),
     (3, BadCause::Data, "line 3 bad B6 data\n"),
