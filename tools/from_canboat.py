@@ -6,7 +6,19 @@
 
 The first command prints a table of format 3, and on standard error what the table contains and what was left out, by cause.
 The second prints how that table differs from another, message by message. tables/README.md says what is left out (Python 3.9
-or newer).
+or newer). In the table
+
+- a LOOKUP of over 32 bits, or with names that a table can't have, is a number; so are BINARY bits not on whole bytes, or with a match
+- BITLOOKUP is flags, STRING_LAU and STRING_LZ are strings, DECIMAL is digits; a field with an Offset has no sign
+- DATE and TIME have the units that the recipes print as text
+- a text or bytes that end a message are short; so is Data, the bytes after the last field with a known place
+- INDIRECT_LOOKUP and FIELDTYPE_LOOKUP are the raw number; a comment at the end has the names of the first
+- a Match is the raw value: -1 in 8 bits is 255
+- the first repeating set is repeat, if it ends the message, is on whole bytes and has only strings and fields of fixed length
+- a repeated name, or "list" beside a set, is "Name 2"
+- messages of one PGN with more matches come first
+- the greatest value of a lookup has no name that means "no value", such as Unavailable: the field is then absent
+- a message of Type ISO is single: n2kdec reads it in a plain line, and does not put its packets (PGN 60160) together
 """
 from __future__ import annotations
 

@@ -2,6 +2,10 @@
 
 `tree(bytes)` is the document, `faults(bytes)` every fault with its line. tools/table-check prints them,
 tests/random/table_faults.py their names (Python 3.9 or newer).
+
+A rule over several values is checked if each value is there and has no fault by itself, `bits` of 0 if each field of the set
+has a known `kind`. A field without a known `kind`, an entry that is not a pair, and an `after` with `match` are not checked
+further. Whatever else is wrong, a lookup's name counts if it is a text, a string's name if it has no fault.
 """
 from __future__ import annotations
 
