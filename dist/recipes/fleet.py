@@ -87,7 +87,7 @@ MOST_ROWS = 50_000
 
 
 class Program(NamedTuple):
-    """The library that decodes: its version, for which processor it is, and the digest of its files."""
+    """The library that decodes: its version, its processor, and the digest of its files."""
 
     version: str
     machine: str
@@ -95,7 +95,7 @@ class Program(NamedTuple):
 
 
 class Job(NamedTuple):
-    """What is the same for all boats of a call."""
+    """The settings of a call, the same for all boats."""
 
     toml: bytes
     program: Program
@@ -111,8 +111,8 @@ class Job(NamedTuple):
 
 
 class Done(NamedTuple):
-    """What came of a boat: how many parts are made, the counts after the last one, how many lines this call decoded in how
-    many seconds, the parts that cannot be read, and why and from where on the others are not made."""
+    """The result of a boat: the number of parts made, the counts after the last one, the lines and seconds of this call, the
+    parts that cannot be read, and why and from where on the others are not made."""
 
     boat: str
     days: int
@@ -167,7 +167,7 @@ def difference(job: Job) -> str:
 
 
 class Folder:
-    """A folder of this computer that gets what is made. Names in it are relative."""
+    """A folder of this computer for the results. Names in it are relative."""
 
     def __init__(self, name: str) -> None:
         self.name = name
@@ -281,7 +281,7 @@ class RemoteFolder(Folder):
 
     @contextlib.contextmanager
     def new(self, name: str, is_kept: bool = True) -> Iterator[BinaryIO]:
-        """It is made here, sent under another name, and renamed there."""
+        """A file that is made here, sent under another name, and renamed there."""
         new = self.path(unfinished(name))
         with tempfile.NamedTemporaryFile() as file:
             yield file  # type: ignore[misc]
@@ -314,7 +314,7 @@ class RemoteFolder(Folder):
 
 
 def unfinished(name: str) -> str:
-    """The name of a file of a folder until it is whole."""
+    """The name of a file of a folder until it is complete."""
     return f"{OWN}/.{os.path.basename(name)}.new-{socket.gethostname()}-{os.getpid()}-{next(NUMBERS)}"
 
 
@@ -336,7 +336,7 @@ def has_ended(lock: bytes) -> bool:
 
 
 def this_call(call: str) -> str:
-    """What the lock says of this call."""
+    """The content of the lock for this call."""
     try:
         user = getpass.getuser()
     except (KeyError, OSError):
@@ -346,7 +346,7 @@ def this_call(call: str) -> str:
 
 
 def holder_of(lock: Optional[bytes]) -> str:
-    """Who has a folder."""
+    """The holder of a folder."""
     try:
         it = json.loads(lock or b"")
         return f"process {it['process']} of {it['user']} on {it['host']}, since {it['since']}"
@@ -398,7 +398,7 @@ def line_of(counts: n2kdec.Counts) -> bytes:
 
 
 def packed(file: BinaryIO) -> gzip.GzipFile:
-    """Gzips into a file. The same text gives the same bytes."""
+    """A gzip writer into a file. The same text gives the same bytes."""
     return gzip.GzipFile(filename="", fileobj=file, mode="wb", compresslevel=1, mtime=0)
 
 
@@ -410,7 +410,7 @@ def check_call(folder: Folder, call: str) -> None:
 
 
 class Work:
-    """The work on a boat, and what comes of it."""
+    """The work on a boat, and its result."""
 
     def __init__(self, boat: Boat, job: Job) -> None:
         self.boat, self.job, self.start = boat, job, time.monotonic()
@@ -593,7 +593,7 @@ class Tables:
 
 
 def when(stamp: str) -> tuple[Optional[int], str]:
-    """A stamp in nanoseconds since 1970, and its day as Parquet's partitions have it; what is no time is missing."""
+    """A timestamp in nanoseconds since 1970, and its day as in Parquet's partitions; missing if it is not a time."""
     with contextlib.suppress(ValueError):
         if it := STAMP.fullmatch(stamp):
             clock, _, fraction = it[4].partition(".")
@@ -727,7 +727,7 @@ def table_text(done: Sequence[Done], seconds: float) -> str:
 
 
 def run_child(writer: multiprocessing.connection.Connection, boat: Boat, job: Job) -> None:
-    """What a process of this computer does."""
+    """The work of a process of this computer."""
     # Ctrl-C goes to all; the parent ends its children.
     signal.signal(signal.SIGINT, signal.SIG_IGN)
     signal.signal(signal.SIGTERM, signal.SIG_DFL)
@@ -738,7 +738,7 @@ def run_child(writer: multiprocessing.connection.Connection, boat: Boat, job: Jo
 
 
 def on_this_computer(boats: Sequence[Boat], job: Job) -> Iterator[Done]:
-    """What comes of each boat. A boat whose process died gets another, three in all."""
+    """The result of each boat. A boat whose process died gets another, three in all."""
     # fsspec has threads, and a process with threads cannot be forked.
     is_plain = not any(map(is_remote, [job.folder, *(log.file for boat in boats for log in boat.logs)]))
     context: Any = multiprocessing.get_context("fork" if is_plain else "spawn")
@@ -786,7 +786,7 @@ def by_worker(boat: bytes, handed: tuple[str, str, str, tuple[Any, ...]]) -> tup
 
 
 def work_for(boat: bytes, plain: tuple[Any, ...]) -> tuple[Any, ...]:
-    """What comes of a boat, or the worker and what it lacks. The boat is pickled: a worker may have no module that knows it."""
+    """The result of a boat, or the worker and what it lacks. The boat is pickled: a worker may have no module that knows it."""
     job = Job(*plain)._replace(program=Program(*plain[1]))
     if text := difference(job):
         import distributed
@@ -795,7 +795,7 @@ def work_for(boat: bytes, plain: tuple[Any, ...]) -> tuple[Any, ...]:
 
 
 def on_cluster(address: str, boats: Sequence[Boat], job: Job) -> Iterator[Done]:
-    """What comes of each boat. A boat whose worker died goes to another worker. Lost if the scheduler does not answer."""
+    """The result of each boat. A boat whose worker died goes to another worker. Lost if the scheduler does not answer."""
     import distributed
     # What Dask logs of a lost scheduler is said here, in a sentence.
     logging.disable(logging.CRITICAL)
@@ -942,7 +942,7 @@ def main(words: Sequence[str]) -> int:
 
 
 def decode_all(boats: Sequence[Boat], job: Job, folder: Folder, options: argparse.Namespace, start: float) -> int:
-    """Makes what is not made yet, and says what came of it."""
+    """Makes everything that is not made yet, and reports the results."""
     done: dict[str, Done] = {}
 
     def look() -> list[Boat]:

@@ -1,9 +1,9 @@
-# Takes the raw lines of a gateway, gives log lines: awk -f gateway.awk FILE | n2k
+# Converts the raw lines of a gateway to log lines: awk -f gateway.awk FILE | n2k
 #
-# Of Yacht Devices (YDWG, YDEN, YDNU): `17:33:21.107 R 19F51323 01 2F 30 70`, a frame that was received. Of Actisense (N2K ASCII):
-# `A173321.107 23FF7 1F513 012F3070`, a whole message, so the command behind it is n2k --whole. Both have the time of day and no
+# Yacht Devices (YDWG, YDEN, YDNU): `17:33:21.107 R 19F51323 01 2F 30 70`, a received frame. Actisense (N2K ASCII):
+# `A173321.107 23FF7 1F513 012F3070`, a whole message, so the command after it is n2k --whole. Both have the time of day without a
 # date: `-v date=2026-11-30` is that of the first line, and a time that goes back by more than twelve hours is of the next day.
-# Without it the first are of 1970-01-01, and the second keep their time as it is. Other lines become comments.
+# Without it the lines of Yacht Devices are of 1970-01-01, and those of Actisense keep their time. Other lines become comments.
 function hex(text,    at, number) {
     for (at = 1; at <= length(text); at++) number = 16 * number + index("123456789ABCDEF", toupper(substr(text, at, 1)))
     return number + 0

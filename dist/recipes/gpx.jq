@@ -1,8 +1,8 @@
-# Takes JSON lines, gives the track and the waypoints as GPX 1.1, for chart plotters and OpenCPN: jq -rf gpx.jq boat.json
+# Prints track and waypoints of JSON lines as GPX 1.1, for chart plotters and OpenCPN: jq -rf gpx.jq boat.json
 #
-# A point is kept each 10 seconds, or each N with --arg every N. Positions are those of the first sender that gives them;
-# another takes its place where nothing came for a minute. Where there was no position for ten minutes, a new segment begins.
-# Waypoints are the destinations (129284), men overboard (127233), and those of routes and lists where the table has them.
+# The track has a point every 10 seconds, or every N with --arg every N. Positions are those of the first sender; another one takes
+# its place after a minute without a position. After ten minutes without a position a new segment begins. Waypoints are the
+# destinations (129284), men overboard (127233), and those of routes and lists if the table has them.
 include "n2k" {search: "./"};
 
 # What XML may not have, or what turns writing round, is a space.

@@ -1,10 +1,10 @@
-# Takes JSON lines, gives the last value of everything as a table: watch -n 1 'tail -n 2000 boat.json | jq -rf last.jq'
+# Prints the last value of everything as a table: watch -n 1 'tail -n 2000 boat.json | jq -rf last.jq'
 #
-# First is what is looked for on board, from depth to engines; last are address claims and product information. Times are UTC, with
-# dates if the lines are of several days. Of each sender, PGN and thing (n2k.jq lists what tells these apart) the last message
-# counts: what it lacks is not available now. The values of sets are not shown. Units are those of units.json; behind convert degrees, --arg units degrees
-# names its units, and --arg units knots those with knots. A table of your own wants --slurpfile own FILE, of what
-# `tools/units TABLE` prints.
+# The values most looked for on board, from depth to engines, come first; address claims and product information come last. Times are
+# UTC, with dates if the lines are of several days. The last message of each sender, PGN and thing (n2k.jq lists the fields that
+# distinguish things) counts: a field that it lacks is not available now. The values of sets are not shown. Units are those of
+# units.json; after convert degrees, --arg units degrees gives its units, and --arg units knots those with knots. For a table of your
+# own use --slurpfile own FILE, with the output of `tools/units TABLE`.
 include "n2k" {search: "./"};
 import "units" as $known {search: ["..", "../../tables"]};
 

@@ -1,7 +1,7 @@
-# What the recipes share. It takes and gives nothing by itself: they include it.
+# Functions of the recipes, which include this file. It does nothing by itself.
 
-# The messages of a run, whether jq was called with -n or not. With -R, by which each line is a text, a line that was cut is left out,
-# and a log that is not decoded is refused.
+# The messages of a run, whether jq was called with -n or not. With -R each line is a text: a truncated line is left out, and a log
+# that is not decoded is refused.
 def lines:
     foreach (values, inputs) as $it ({};
         if $it | type != "string" then .message = $it

@@ -1,8 +1,7 @@
-# Takes JSON lines, gives JSON lines with ids in the place of names, as canboat's -camel makes them: jq -cf named.jq
+# Prints JSON lines with ids instead of names, like canboat's -camel: jq -cf named.jq
 #
-# `COG Reference` is `cogReference`, and the message gets an `id`, as `cogSogRapidUpdate`. An id is made of its name
-# alone, so it is the same in each run. The recipes that look at names (convert, signalk.jq, last.jq) stand before this
-# one in a pipe.
+# `COG Reference` is `cogReference`, and the message gets an `id`, such as `cogSogRapidUpdate`. An id depends only on its name, so it
+# is the same in each run. In a pipe put the recipes that use names (convert, signalk.jq, last.jq) before this one.
 include "n2k" {search: "./"};
 
 # A list has sets, or flags, which have no names.

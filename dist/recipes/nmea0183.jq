@@ -1,11 +1,11 @@
-# Takes JSON lines, gives sentences of NMEA 0183 with their checksums: jq -rf nmea0183.jq; on a live bus with --unbuffered
+# Prints JSON lines as sentences of NMEA 0183 with checksums: jq -rf nmea0183.jq; on a live bus with --unbuffered
 #
 # RMC (one a second), GGA, HDG or HDT, VHW, DBT, MWV, XTE, RSA, MTW, and XDR of engines, tanks, batteries, temperatures,
 # humidity, pressure, pitch and roll. AIS targets and other messages give nothing. Of several senders of one PGN the first
-# counts, and another where that was silent for ten seconds; things with an instance are told by it. Angles and distances
-# have the sentences' units; what takes more than the 82 bytes of a sentence is left out. The time of RMC is the stamp's; a
-# field that is not known is empty. Positive is east, starboard, and for XTE right of the track, as Signal K's converters
-# have it. The names in XDR are those of NMEA 0183 4.10, as FUEL#0.
+# counts, and another one after ten seconds of silence; things with an instance are distinguished by it. Angles and distances
+# have the sentences' units; a sentence of more than 82 bytes is left out. The time of RMC is the timestamp's; an unknown field is
+# empty. Positive is east, starboard, and for XTE right of the track, as in Signal K's converters. The names in XDR are those of
+# NMEA 0183 4.10, such as FUEL#0.
 include "n2k" {search: "./"};
 
 # A checksum is all bytes by exclusive or, which jq has not: how often each of the seven bits is 1 is counted, all in one sum

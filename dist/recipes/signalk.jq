@@ -1,11 +1,11 @@
-# Takes JSON lines, gives Signal K deltas of this boat by Signal K's paths and units: jq -jcf signalk.jq
+# Prints JSON lines as Signal K deltas of this boat, with Signal K's paths and units: jq -jcf signalk.jq
 #
 # Position, COG, SOG, heading, rate of turn, attitude, speed, log, depth, wind, current, rudder, autopilot, next point, engine
 # with its alarms, gear, battery, switches, tank, temperature, humidity, pressure and date; other messages, and AIS targets, give
-# nothing. Engine 0 is `port`, 1 is `starboard`. An alarm of an engine is told when it is set, and when it is over.
-# Wind whose reference is the boat or the water is angleTrueWater and speedTrue, as Signal K's own reader has it.
-# Numbers are those of the line but for rpm (Hz), percent (ratio), litres (m3) and wind angles (from -pi to pi). A stamp
-# that is no time is left out: Signal K then takes the time at which the delta comes.
+# nothing. Engine 0 is `port`, 1 is `starboard`. An alarm of an engine is sent when it is set, and when it is over.
+# Wind whose reference is the boat or the water is angleTrueWater and speedTrue, as in Signal K's own reader.
+# Numbers are those of the line, except rpm (Hz), percent (ratio), litres (m3) and wind angles (from -pi to pi). A timestamp
+# that is not a time is left out: Signal K then uses the time at which it receives the delta.
 include "n2k" {search: "./"};
 
 # No value is false, so null alone counts as no here and below: a test by `==` is a call, which jq is slow at.

@@ -1,1 +1,1 @@
-"""What the recipes `health`, `compare` and `trip` are made of."""
+"""The modules of the recipes `health`, `compare` and `trip`."""

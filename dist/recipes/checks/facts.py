@@ -1,6 +1,6 @@
-"""What a log says of the bus and of each device: frames, gaps, counters, claims and clocks. `findings` judges them.
+"""The facts of a log about the bus and each device: frames, gaps, counters, claims and clocks. `findings` judges them.
 
-All is counted line by line, in memory that does not grow with the log. The counts have these definitions:
+Everything is counted line by line, in memory that does not grow with the log. The counts have these definitions:
 
 - A frame is a line of candump with an identifier of 29 bits. A plain line of more than 8 bytes counts as the frames that it takes.
 - A flow is what one device sends of one PGN. It begins a message with each frame, or with each frame 0 if the table calls the PGN fast.
@@ -53,7 +53,7 @@ def rounded(seconds):
 
 
 class Gaps:
-    """The gaps of what comes again and again: how many there are of each length, in milliseconds, and the longest with their ends."""
+    """The gaps of something that comes repeatedly: the number of each length, in milliseconds, and the longest with their ends."""
 
     __slots__ = ("count", "first", "last", "newest", "lengths", "longest", "least")
 
@@ -147,8 +147,8 @@ def spread(times, at):
 
 
 class Facts:
-    """What the lines of logs say, with the messages and reports that the decoder made of them. `kinds` gives for PGNs how the
-    table says that they are sent."""
+    """The facts in the lines of logs, and in the messages and reports that the decoder made of them. `kinds` gives the kinds of
+    PGNs in the table."""
 
     def __init__(self, kinds, is_whole=False, window=10000):
         self.kinds, self.is_whole = kinds, is_whole
@@ -195,7 +195,7 @@ class Facts:
         self.window_end = (at // WINDOW + 1) * WINDOW
 
     def close(self, at):
-        """What goes on ends here: gaps, sequences, the window."""
+        """Ends everything that is under way: gaps, sequences, the window."""
         if at is None:
             return
         self.finish_window()
@@ -254,7 +254,7 @@ class Facts:
                 self.stamps[self.lines >> 4 & self.size - 1] = self.at or 0.0
 
     def kind(self, pgn):
-        """How the table says that a PGN is sent. All are asked for at once: each question takes a run of the program."""
+        """The kind of a PGN in the table. All are asked for at once: each question takes a run of the program."""
         if self.known is None:
             self.known = self.kinds([of << 16 | low for of in range(4) for low in (*range(0, 0xF000, 256), *range(0xF000, 0x10000))])
         return self.known.get(pgn, "unknown")
@@ -276,7 +276,7 @@ class Facts:
         return found
 
     def lane(self, word):
-        """The lane of an identifier; False if it is of no message."""
+        """The lane of an identifier; False if it is not that of a message."""
         number = int(word, 16)
         if len(word) == 3 or number >> 29:
             return False
@@ -375,7 +375,7 @@ class Facts:
             self.kinds_of_error.update(name for bit, name in CONTROLLER.items() if data[1] & bit)
 
     def plain(self, line):
-        """A line of canboat's readers. None if it is none."""
+        """A line of canboat's readers; None if it is not one."""
         words = line.rstrip(b"\r").split(b",")
         try:
             prio, pgn, sender, receiver, length = map(int, words[1:6])
@@ -419,7 +419,7 @@ class Facts:
     # -- Messages.
 
     def message(self, line, is_of_log=False, it=None):
-        """A line of JSON: its time, or None if it is no message. It may be a line of the log itself. `it` is what JSON says, if that is known."""
+        """A line of JSON: its time, or None if it is not a message. It may be a line of the log itself. `it` is the parsed line, if that is known."""
         head = HEAD.match(line)
         if not head:
             return None
@@ -471,7 +471,7 @@ class Facts:
                     break
 
     def clock(self, at, sender, ahead):
-        """A device says what time it is: how far that is ahead of the log."""
+        """A device sends the time: how far that is ahead of the log."""
         had = self.clocks.get(sender)
         if had is None:
             self.clocks[sender] = [1, ahead, ahead, ahead, at]
@@ -520,7 +520,7 @@ class Facts:
         return self.stamps[line >> 4 & self.size - 1] if line > self.lines - 16 * (self.size - 1) else self.begin or 0.0
 
     def report(self, text):
-        """A line of standard error. False if it is no report."""
+        """A line of standard error. False if it is not a report."""
         found = REPORT.match(text)
         if not found:
             return bool(SUMMARY.match(text))

@@ -1,4 +1,4 @@
-"""What of the facts is to be looked at: findings, each a sentence, ordered by harm."""
+"""Findings in the facts, each a sentence, ordered by harm."""
 import math
 
 from screen import page
@@ -111,7 +111,7 @@ class Loss:
 
 
 class Findings:
-    """All that is found of the facts: `found` has a dictionary of each, the most harmful first."""
+    """All findings: `found` has a dictionary of each, the most harmful first."""
 
     def __init__(self, facts):
         self.facts, self.found = facts, []
@@ -141,7 +141,7 @@ class Findings:
         return page.when(at, self.facts.begin, self.facts.at or at)
 
     def label(self, sender):
-        """What a device is called, with its address."""
+        """The name of a device, with its address."""
         name = self.name(sender)
         return f"{name} ({sender})" if name else f"Device {sender}"
 
@@ -200,8 +200,8 @@ class Findings:
                          max(devices.values()))
 
     def restarts(self):
-        """Claims that nobody asked for, of devices that were there. Where three devices or more claim at once, the bus was asked or
-        had no power; what claims regularly does so by habit."""
+        """Claims that nobody asked for, of devices that were there. If three devices or more claim at once, the bus was asked or
+        had no power; a device that claims regularly does so by habit."""
         facts, alone, rounds, regular = self.facts, [], [], set()
         unasked = sorted(it for it in facts.claims if not it[2])
         by_sender = {}

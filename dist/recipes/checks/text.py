@@ -3,13 +3,13 @@ from screen import page
 
 
 def text_of(value, most=40):
-    """A text of the bus in one line, without what a terminal obeys, and cut."""
+    """A text of the bus in one line, without control characters, and cut."""
     text = " ".join(page.CONTROLS.sub(" ", "".join(it if it.isprintable() else " " for it in str(value))).split())
     return text if len(text) <= most else text[:most - 1] + "…"
 
 
 def lasts(seconds):
-    """How long something takes."""
+    """A duration."""
     if seconds < 10:
         return f"{seconds:.1f} s"
     whole = round(seconds)

@@ -1,15 +1,15 @@
 """The sums of a trip: miles, hours, litres, ampere hours, the strongest wind and the least depth.
 
-A value holds from its message to the next one of its source, and no longer than GAP seconds: over a gap nothing is counted. The source of
+A value counts until the next message of its source, for at most GAP seconds: nothing is counted over a gap. The source of
 a sum is the first device that sends it; another one takes its place after GAP seconds without it.
 
-- Over ground: the way between positions, of which one counts if it is STEP metres from the last that counted, or ends a stretch. A
+- Over ground: the way between positions; a position counts if it is STEP metres from the last that counted, or ends a stretch. A
   minute of arc is a nautical mile.
 - Through the water: what the counter of the log (128275) rises by, or else the speed through the water (128259) over time.
 - Under way: the time in which the speed over ground, or else that through the water, is a knot or more.
 - Engines: the time in which the speed (127488) is over 0, or else what the counter of hours (127489) rises by; the fuel rate over time, or
   else what the counter of litres (127497) rises by.
-- Batteries: the current (127508) over time, what flows in and what flows out each for itself.
+- Batteries: the current (127508) over time, charge and discharge apart.
 """
 import math
 
@@ -46,7 +46,7 @@ class Source:
 
 
 class Over(Source):
-    """A value over time: what it sums up to above 0 and below, for how long it was above a limit, and for how long it was there."""
+    """A value over time: its sums above and below 0, the time above a limit, and the time with a value."""
 
     def __init__(self, limit=0.0):
         super().__init__()
@@ -70,7 +70,7 @@ class Over(Source):
 
 
 class Counter(Source):
-    """What a counter rises by, gaps and restarts left out."""
+    """The rise of a counter, without gaps and restarts."""
 
     def __init__(self):
         super().__init__()
@@ -123,7 +123,7 @@ class Way(Source):
         return self.sum + (miles(self.counted, self.end) if self.end else 0.0)
 
     def place(self, at):
-        """The last place, if it is not old."""
+        """The last place, unless it is old."""
         return self.end[1:] if self.end and 0 <= at - self.end[0] <= GAP else None
 
 
@@ -138,7 +138,7 @@ class Trip:
         self.wind, self.depth = {}, None
 
     def thing(self, things, name, make):
-        """What is kept of an engine or battery, or what is not kept where there are too many."""
+        """The sums of an engine or battery; if there are too many, sums that are not kept."""
         it = things.get(name)
         if it is None:
             it = make()
@@ -197,7 +197,7 @@ class Trip:
     # -- What came of it.
 
     def sums(self):
-        """All of it, for programs: miles, seconds, litres, ampere hours, m/s, m."""
+        """All sums, for programs: miles, seconds, litres, ampere hours, m/s, m."""
         water = None
         if self.log.last is not None:
             water = {"miles": round(self.log.sum / MILE, 4), "by": "log", "from": self.log.first}
@@ -218,7 +218,7 @@ class Trip:
                 "wind": {reference: list(it) for reference, it in sorted(self.wind.items())}, "depth": self.depth and list(self.depth)}
 
     def rows(self, page, speed=KNOT):
-        """All of it in words: names and values. `page` is the recipe of that name, whose forms of numbers these have."""
+        """All sums in words: names and values, with numbers as in the recipe `page`."""
         it, rows = self.sums(), []
         if it["from"] is None:
             return rows

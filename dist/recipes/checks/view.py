@@ -10,7 +10,7 @@ EVERY = 2.0  # seconds from one judgement to the next, and at least twenty times
 
 
 class Health(View):
-    """What is to be looked at, the most harmful first; then each device with what it lost."""
+    """The findings, the most harmful first; then each device with its losses."""
 
     name = "Health"
     nothing = "No line with a time has come yet."
@@ -20,7 +20,7 @@ class Health(View):
         self.facts, self.of, self.again, self.found = facts, None, 0.0, []
 
     def judged(self, bus):
-        """The findings and devices in words, each with a style. Of a picture that is held they are those of its first moment."""
+        """The findings and devices in words, each with a style. In a paused picture they are those of its first moment."""
         began = time.monotonic()
         if bus is not self.of or not bus.is_held and began > self.again:
             findings = Findings(self.facts)

@@ -1,4 +1,4 @@
-"""What the recipe `live` is made of. `page` is the recipe of that name, which knows units, times and alarms."""
+"""The modules of the recipe `live`. `page` is the recipe of that name, with units, times and alarms."""
 import importlib.machinery
 import importlib.util
 import pathlib

@@ -1,8 +1,8 @@
-"""How many bits of the bus a frame takes."""
+"""The number of bits that a frame takes on the bus."""
 
 
 def stuffed(state, bit):
-    """How many stuff bits come with a bit, and the state after them: the last bit, times 4, and how many bits like it stand there,
+    """The stuff bits for one bit, and the state after them: 4 times the last bit, plus the number of equal bits at the end,
     less one."""
     last, run = divmod(state, 4)
     if bit != last:
@@ -11,7 +11,7 @@ def stuffed(state, bit):
 
 
 def stuffing(width):
-    """The same for so many bits at once: by the state before them and the bits, the stuff bits, times 8, and the state after."""
+    """The same for several bits at once: by the state before them and the bits, 8 times the stuff bits, plus the state after."""
     table = []
     for state in range(8):
         for bits in range(1 << width):
@@ -39,10 +39,10 @@ CRC = checksums()
 
 
 class Frames:
-    """How many bits of the bus a frame takes, as CAN 2.0B (ISO 11898-1) lays it out: start 1, identifier 29 in two parts with
+    """The number of bits that a frame takes, as CAN 2.0B (ISO 11898-1) lays it out: start 1, identifier 29 in two parts with
     SRR and IDE between them, RTR, r1 and r0, length 4, the data, CRC 15; then its delimiter, acknowledgement 2, end 7, and
-    the 3 between frames: 67 bits and the data. (11 bits of identifier: 47.) From the start to the CRC a sender puts a stuff
-    bit behind each five equal bits; these are counted as they are sent. can-utils' `canbusload -e` counts so too."""
+    the 3 between frames: 67 bits and the data. (11 bits of identifier: 47.) From the start to the CRC a sender adds a stuff
+    bit after each five equal bits; these are counted exactly, as by can-utils' `canbusload -e`."""
 
     def __init__(self):
         # By identifier and length, what stands before the data: its CRC and state, and the frame's other bits.
@@ -71,7 +71,7 @@ class Frames:
         return found
 
     def bits(self, identifier, data):
-        """Of a frame with this identifier, 3 or 8 digits, and these bytes."""
+        """The bits of a frame with this identifier, 3 or 8 digits, and these bytes."""
         crc, state, count = self.fronts.get((identifier, len(data))) or self.front(identifier, len(data))
         for byte in data:
             crc = (crc << 8 & 0x7FFF) ^ CRC[(crc >> 7) ^ byte]

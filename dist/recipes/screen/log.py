@@ -1,4 +1,4 @@
-"""Where the lines come from, and the program that decodes them."""
+"""The source of the lines, and the program that decodes them."""
 import collections
 import json
 import os
@@ -13,7 +13,7 @@ LONGEST = 1 << 16  # bytes of a line that are kept; more than n2kdec takes of on
 
 
 class Log:
-    """Lines of an open file: as they come, or by their stamps."""
+    """The lines of an open file: as they come, or by their timestamps."""
 
     def __init__(self, file, speed):
         self.file, self.speed = file, speed
@@ -29,7 +29,7 @@ class Log:
         return not self.is_open and not self.waiting
 
     def wants(self):
-        """Whether more is to be read now."""
+        """Whether the screen reads more now."""
         if self.speed is not None and self.is_held:
             return False
         return self.is_open and len(self.waiting) < 5000
@@ -46,12 +46,12 @@ class Log:
         self.waiting.extend(lines)
 
     def close(self):
-        """No more of it is wanted."""
+        """The log is not read any further."""
         self.is_open = False
         self.waiting.clear()
 
     def rested(self):
-        """The computer's clock went on and the log did not."""
+        """The computer's clock went on, the log did not."""
         self.tick = time.monotonic()
 
     def due(self):
@@ -82,14 +82,14 @@ class Log:
 
 
 class Lag:
-    """How far what is shown is behind what comes: by how much more than usual the last message that was taken is older than the clock.
-    Usual is what it is when nothing waits, whatever clock made the stamps."""
+    """The delay of the screen in seconds: how much older than usual the last message shown is than the clock. The usual age is that of a
+    message when nothing waits, whatever clock made the timestamps."""
 
     def __init__(self):
         self.usual = self.last = None
 
     def took(self, age):
-        """A message was taken of this age, by a clock that goes as the log does."""
+        """A message of this age was shown, by a clock that runs like the log's."""
         self.last = age
         if self.usual is None or age < self.usual:
             self.usual = age
@@ -104,7 +104,7 @@ class Lag:
 
 
 class Decoder:
-    """The program that makes messages and reports of the lines."""
+    """The program that decodes the lines to messages and reports."""
 
     def __init__(self, command):
         # Ctrl-C and Ctrl-\ reach it too, and it is to sum up.
@@ -133,7 +133,7 @@ class Decoder:
                 self.backlog.clear()
 
     def drop(self):
-        """What waits is not wanted any more; but a line that it has in part would be a bad one, so that gets its end."""
+        """Drops the lines that wait, except the rest of a line of which the program has a part: it would be a bad line."""
         del self.backlog[self.backlog.find(b"\n") + 1 if self.is_within else 0:]
 
     def end(self):
@@ -144,7 +144,7 @@ class Decoder:
             self.backlog.clear()
 
     def read(self, file):
-        """The lines that are whole of what it printed or reported."""
+        """The complete lines that the program printed or reported."""
         piece = os.read(file, 1 << 16)
         *lines, rest = (self.files[file] + piece).split(b"\n")
         if piece:
@@ -156,8 +156,8 @@ class Decoder:
 
 
 def kinds_of(command, numbers):
-    """How the table says that these PGNs are sent: of those that it has `single` or `fast`, as the program shows. Each gets
-    two frames: the first is a whole fast packet of 6 bytes, the second can't be the first of one."""
+    """The kind of each of these PGNs that is in the table, `single` or `fast`, as the program shows. Each PGN gets two
+    frames: the first is a whole fast packet of 6 bytes, the second cannot begin one."""
     asked = [command[0], "decode", "--table", command[command.index("--table") + 1]]
     lines = [f"{stamp},7,{number},0,255,8,{first:02x},06,ff,ff,ff,ff,ff,ff\n" for number in numbers for stamp, first in (("first", 0), ("second", 1))]
     # Ctrl-Z would stop it too, and then it is waited for.

@@ -1,4 +1,4 @@
-"""What was seen of a bus: messages, devices, PGNs, alarms, lines, and how often they came."""
+"""Everything seen on a bus: messages, devices, PGNs, alarms, lines, and their rates."""
 import collections
 import copy
 import re
@@ -26,13 +26,13 @@ OWN_BOAT = set(page.FIRST[:page.FIRST.index(127493) + 1])
 
 
 def seconds(digits):
-    """Seconds since 1970 of candump's digits, or None where no stamp is so late."""
+    """Seconds since 1970 of candump's digits, or None if they are too many for a timestamp."""
     at = float(digits)
     return at if at < END else None
 
 
 def stamp_of(line):
-    """Seconds since 1970 of a line's stamp, or None."""
+    """Seconds since 1970 of a line's timestamp, or None."""
     if line[:1] == b"(":
         found = STAMP.match(line)
         return seconds(found[1]) if found else None
@@ -45,7 +45,7 @@ def stamp_of(line):
 
 
 class Often:
-    """How often something comes: its last stamps."""
+    """The rate of something, by its last timestamps."""
 
     def __init__(self, most=12):
         self.count, self.longest, self.stamps = 0, 0.0, collections.deque(maxlen=most)
@@ -78,7 +78,7 @@ class Often:
         return self.stamps[-1]
 
     def is_regular(self):
-        """Whether it came at a regular rate for a minute: of its last gaps none is five times as long as they mostly are."""
+        """Whether it came at a regular rate for a minute: none of its last gaps is five times the usual one."""
         if self.judged != self.count:
             stamps = [at for at in self.stamps if at >= self.since]
             gaps = [after - before for before, after in zip(stamps, stamps[1:])]
@@ -86,17 +86,17 @@ class Often:
         return self.regular
 
     def silent(self, now):
-        """The seconds since it came, where it came at a regular rate and now does not for more than twice its longest gap, else 0."""
+        """The seconds since it came, if it came at a regular rate and now is missing for more than twice its longest gap; otherwise 0."""
         age = now - self.stamps[-1]
         return age if age > 2 * self.longest + 1 and self.is_regular() else 0
 
     def late(self, now):
-        """The same, until it lapses: after ten times its longest gap, and a minute at least, or by a key."""
+        """The same, until it lapses: after ten times its longest gap, at least a minute, or by a key."""
         age, longest = now - self.stamps[-1], self.longest
         return age if 2 * longest + 1 < age <= max(MINUTE, 10 * longest) and self.known != self.count and self.is_regular() else 0
 
     def each_second(self, now):
-        """How often it comes in a second."""
+        """Its rate per second."""
         if len(self.stamps) < 2:
             return 0.0
         times = len(self.stamps) - 1
@@ -107,7 +107,7 @@ class Often:
 
 
 class Meter:
-    """How much came in the last two seconds, a second, counted by halves of a second."""
+    """The amount per second in the last two seconds, counted in half seconds."""
 
     def __init__(self):
         self.halves = collections.deque([(0, 0)], maxlen=5)
@@ -135,7 +135,7 @@ class Meter:
 
 
 class Stream(Often):
-    """How often something comes that is many messages: where it comes often, as it was counted of late."""
+    """The rate of something that is many messages; if it comes often, by the latest counts."""
 
     def __init__(self):
         super().__init__(32)
@@ -204,9 +204,9 @@ class Sender(Often):
 
 
 class Pgn(Stream):
-    """What came of a PGN. `kind` is how the table says that it is sent: single or fast; unknown where it is not there, and None
-    where that was not asked yet. `length` is that of the last frame, `total` what its frame 0 says where it is a fast packet:
-    the low five bits of the first byte are the frame's number."""
+    """A PGN. `kind` is its kind in the table, single or fast, unknown if it is not there, None if that was not asked yet.
+    `length` is that of the last frame, `total` that of the last frame 0 of a fast packet: the low five bits of the first byte are
+    the frame's number."""
 
     def __init__(self):
         super().__init__()
@@ -235,7 +235,7 @@ def seatalk_alarm(fields):
 
 
 def engine(fields):
-    """Where the table has names for the bits, they are flags, and so no numbers."""
+    """If the table has names for the bits, they are flags, not numbers."""
     for name in ("Discrete Status 1", "Discrete Status 2"):
         if isinstance(fields.get(name), int):
             yield name, f"{name} is {fields[name]}", fields[name] != 0
@@ -246,7 +246,7 @@ ALARMS = {126983: alert, 65288: seatalk_alarm, 127489: engine}
 
 
 class Bus:
-    """What was seen, of lines, messages and reports."""
+    """Everything seen in lines, messages and reports."""
 
     def __init__(self, units, is_whole):
         self.units, self.is_whole = units, is_whole
@@ -274,7 +274,7 @@ class Bus:
         self.summary = None
 
     def copy(self):
-        """What is there now, for a picture that is held."""
+        """A copy, for a picture that is paused."""
         it = copy.copy(self)
         it.is_held = True
         for name in ("messages", "devices", "pgns"):
@@ -288,7 +288,7 @@ class Bus:
         return it
 
     def acknowledge(self, now):
-        """What is late now is known to be."""
+        """Everything that is late now is acknowledged."""
         for it in (*self.messages.values(), *self.devices.values()):
             if it.late(now):
                 it.known = it.count
@@ -296,7 +296,7 @@ class Bus:
     # -- Lines of the log.
 
     def take(self, lines):
-        """Lines as they come, without their ends."""
+        """Takes lines as they come, without their ends."""
         self.lines += len(lines)
         self.ring.extend(lines)
         for line in lines:
@@ -327,7 +327,7 @@ class Bus:
             self.frame(pgn, int(identifier[-2:], 16), at, data)
 
     def identifier(self, word):
-        """The PGN of an identifier, or None for one of 11 bits, and its digits. None at all where it is of an error."""
+        """The PGN of an identifier (None for 11 bits), and its digits. None if it is that of an error frame."""
         number = int(word, 16)
         if number >> 29:
             return None
@@ -399,7 +399,7 @@ class Bus:
         return Sender()
 
     def known(self, kinds):
-        """What the table says of new PGNs."""
+        """Asks the table for new PGNs."""
         for number in self.new:
             self.pgns[number].kind = kinds.get(number, "unknown")
         self.new = []
@@ -411,7 +411,7 @@ class Bus:
     # -- Messages.
 
     def message(self, text):
-        """A line of JSON; gives what it says, or None if it is no message."""
+        """Takes a line of JSON; returns the message, or None if it is not one."""
         try:
             it = page.DECODE(text)
             fields, sender, pgn, description = it["fields"], it["src"], it["pgn"], it["description"]
@@ -478,8 +478,8 @@ class Bus:
         return it
 
     def enter(self, key):
-        """A new message, if there is a place for it. Other ships give way to newer ones. Of own devices none is forgotten; but if invented
-        messages take all places, who has most of them gives one up for who has fewer."""
+        """Enters a new message, if there is a place for it. Other ships give way to newer ones, own devices do not; but if invented messages
+        take all places, the device that has most of them gives one up for a device that has fewer."""
         sender, pgn = key[:2]
         self.born += 1
         if pgn in page.AIS:
@@ -531,9 +531,9 @@ class Bus:
             self.unset(where)
 
     def has_place(self, where, born):
-        """Whether a field that is set has a place. Each device has some, so one that invents alarms hides no other's. Of one device the kind
-        with most of them gives up the newest message's. Of one kind the older messages keep theirs: the real ones were there before
-        alarms were invented."""
+        """Whether a field that is set has a place. Each device has some, so a device that invents alarms hides no other's. In a device the
+        kind with most places gives up that of the newest message; in a kind the older messages keep theirs, since the real ones were
+        there before alarms were invented."""
         kinds, kind = self.alarmed.setdefault(where[0][0], {}), self.kind(where)
         if sum(map(len, kinds.values())) >= MOST_SET:
             self.left_out.add("alarms")
@@ -551,7 +551,7 @@ class Bus:
         return True
 
     def unset(self, where):
-        """A field of which nothing is set any more, or that gives up its place."""
+        """Removes a field of which nothing is set any more, or that gives up its place."""
         del self.set[where]
         kinds, kind = self.alarmed[where[0][0]], self.kind(where)
         del kinds[kind][where]
@@ -568,7 +568,7 @@ class Bus:
         return pgn, description, "" if pgn in (126983, 65288) else name
 
     def device(self, sender):
-        """What a device is called: maker, model and installation, as far as it has told them."""
+        """The name of a device: maker, model and installation, as far as it has sent them."""
         return page.device(self.claims.get(sender, {}), self.products.get(sender, {}), self.installed.get(sender, {}))
 
     def called(self, sender):
@@ -582,7 +582,7 @@ class Bus:
     # -- Reports.
 
     def report(self, text):
-        """A line of standard error. False where it is none of the reports."""
+        """Takes a line of standard error. False if it is not a report."""
         if found := re.match(r"line (\d+) (bad|broken) (.*)", text):
             if found[2] == "bad":
                 self.bad += 1

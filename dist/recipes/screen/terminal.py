@@ -1,4 +1,4 @@
-"""The terminal: its locale, colours, keys, and what is put on it."""
+"""The terminal: its locale, colours, keys and output."""
 import curses
 import fcntl
 import locale
@@ -11,7 +11,7 @@ PLAIN = str.maketrans({"–": "-", "°": " ", "′": "'", "…": "~", "’": "'"
 
 
 def cut(text, width):
-    """A text in so many columns; what a terminal would obey is a space."""
+    """A text cut to a number of columns, with a space for each control character."""
     if width < 1:
         return ""
     if text.isascii() and text.isprintable():
@@ -68,7 +68,7 @@ class Screen:
             curses.endwin()
 
     def size(self):
-        """Rows and columns as the terminal has them now."""
+        """The current rows and columns of the terminal."""
         columns, rows = os.get_terminal_size(1)
         if (rows, columns) != self.window.getmaxyx() and rows > 0 and columns > 0:
             curses.resizeterm(rows, columns)
@@ -76,14 +76,14 @@ class Screen:
         return self.window.getmaxyx()
 
     def key(self):
-        """A key that was pressed: a sign, or the number of a key that has none; None where there is no more."""
+        """A pressed key: a character, or the number of a key without one; None if no key is left."""
         try:
             return self.window.get_wch()
         except curses.error:
             return None
 
     def put(self, row, pieces, style=None):
-        """Pieces of a row: column, text, style. Each ends before the next begins."""
+        """Puts the pieces of a row: column, text, style. Each ends before the next begins."""
         rows, columns = self.window.getmaxyx()
         if not 0 <= row < rows:
             return
@@ -106,7 +106,7 @@ def fail(status, text):
 
 
 def take_terminal():
-    """The terminal becomes standard input, and the log gets another number, which is given."""
+    """Makes the terminal standard input; returns the new number of the log."""
     if not os.isatty(1):
         fail(2, "it needs the whole screen, but standard output is not a terminal; recipes/last.jq prints the last values")
     if os.isatty(0):
@@ -130,7 +130,7 @@ def take_terminal():
 
 
 def set_locale():
-    """The encoding of the terminal: that of the locale, and UTF-8 where it names none, as Python itself has it."""
+    """The encoding of the terminal: that of the locale, or UTF-8 if it names none, as in Python itself."""
     try:
         locale.setlocale(locale.LC_ALL, "")
     except locale.Error:

@@ -10,19 +10,19 @@ MOST_ALIKE = 3  # alarms of one device, message and field that are shown
 
 
 def seconds_of(value):
-    """How long something takes, briefly."""
+    """A duration, briefly."""
     return f"{value:.0f} s" if value < 10000 else f"{value / 3600:.0f} h"
 
 
 def age_of(often, now):
-    """Of what is late how long, and once that lapsed since when, with a style; or None."""
+    """How late something is, or, once that lapsed, since when, with a style; or None."""
     if late := often.late(now):
         return seconds_of(late), "alarm"
     return (f"last {page.clock(often.last, '%H:%M')}", "dim") if often.silent(now) else None
 
 
 def rate_of(often, now):
-    """How often something comes, in words: so often a second, or each so many seconds."""
+    """A rate in words: times a second, or every so many seconds."""
     value = often.each_second(now)
     if value >= 0.995:
         return f"{value:,.1f}/s"
@@ -30,19 +30,19 @@ def rate_of(often, now):
 
 
 def old(bus, width):
-    """At the end of a title: how old the values are, if the screen can't keep up; else nothing."""
+    """For the end of a title: how old the values are, if the screen can't keep up."""
     text = f"{seconds_of(bus.behind)} old"
     return [(width - 1 - len(text), text, "alarm")] if bus.behind else []
 
 
 def fits(text, words):
-    """Whether all words are in a text."""
+    """Whether a text contains all words."""
     text = text.lower()
     return all(word in text for word in words)
 
 
 class View:
-    """One of the views: its rows, of which those from `top` on are shown."""
+    """A view: its rows, shown from `top` on."""
 
     nothing = "Nothing has come yet."
 
@@ -51,16 +51,16 @@ class View:
         self.top, self.is_open = 0, False
 
     def head(self, width):
-        """What stands above the rows, or None."""
+        """The title above the rows, or None."""
 
     def rows(self, bus, now, width, words):
-        """All rows, or what makes them: `row` draws one."""
+        """All rows, or the values of which `row` draws each."""
 
     def row(self, bus, now, width, it):
         return it
 
     def pieces(self, bus, now, fresh, width, height, words):
-        """The rows that are shown, and which of how many they are."""
+        """The rows shown, and their place among all."""
         rows = self.rows(bus, now, width, words)
         self.top = max(0, min(self.top, len(rows) - height))
         shown = [self.row(bus, now, width, it) for it in rows[self.top:self.top + height]]
@@ -144,7 +144,7 @@ class Values(View):
 
     @staticmethod
     def value(bus, now, fresh, width, message, name, nth, is_last):
-        """A row of a message, of those that are shown the nth."""
+        """The row of a message, the nth of those shown."""
         age = [(width - 1 - len(text), text, style) for text, style in [age_of(message, now)]] if nth == 0 and message.silent(now) else []
         # Of the own boat each message says who sends it.
         front = f"{message.sender:3} " if message.title_of[0] < 0 else ""
@@ -173,7 +173,7 @@ class Values(View):
 
 
 class Devices(View):
-    """Who sends."""
+    """The devices."""
 
     name = "Devices"
 
@@ -208,7 +208,7 @@ class Devices(View):
 
 
 class Pgns(View):
-    """What kinds of messages come."""
+    """The PGNs that come."""
 
     name = "PGNs"
 
@@ -247,7 +247,7 @@ class Pgns(View):
 
 
 class Alarms(View):
-    """What is set of alarms and states, what is late, and what was set."""
+    """Alarms and states that are set, everything late, and those that were set."""
 
     name = "Alarms"
     nothing = "No alarm was set, and no message is late."
@@ -257,7 +257,7 @@ class Alarms(View):
         self.known, self.list, self.again = None, [], 0.0
 
     def rows(self, bus, now, width, words):
-        """Each row as an entry and a place in it. If it takes long, it is looked at less often."""
+        """Each row as an entry and a place in it. If this takes long, it is repeated less often."""
         known, began = (bus, words, width < NARROW), time.monotonic()
         if known != self.known or began > self.again:
             self.known, self.list = known, [(it, row) for it in self.found(bus, now, words) for row in range(3 if width < NARROW else 2)]
@@ -266,7 +266,7 @@ class Alarms(View):
 
     @staticmethod
     def found(bus, now, words):
-        """Entries: what, its style, of what, since when, until when. First what is set, the last first, then what is late, then what was."""
+        """Entries: what, its style, of what, since when, until when. First everything set, the newest first, then late, then past ones."""
         entries = []
         for alike in (alike for kinds in bus.alarmed.values() for alike in kinds.values()):
             # Of many messages alike those that came first are shown: the others may be invented.
