@@ -48,7 +48,7 @@ pub struct InPlaceStep<'t> {
 /// let mut join = Join::new(alloc, &table, Window::new(10_000).unwrap());
 /// assert_eq!(rt; join.expire(), None);
 /// let mut entry = read_line("(1.0) can0 09F8027F#0500".as_bytes(), Packing::Frames);
-/// let step = join.lend(&table, &mut entry)?;
+/// let step = join.accept_in_place(&table, &mut entry)?;
 /// assert_eq!(rt; step.line, 1);
 /// let message = message_of(step.message, &entry).ok_or("a message")?;
 /// assert_eq!(rt; message.packet.id().pgn, 129026);

@@ -195,22 +195,22 @@ impl Sink for MemorySink {
 
     ghost contents = { λ s. Some s.held };
 
-    fn write(&mut self, chunk: &[u8]) -> Result<usize, Failed>
-        ensures bound { IfOk result (λ n. n ≤ length chunk.now) }
-        ensures moves { IfOk result (λ n. 0 < length chunk.now → 0 < n) }
-        ensures bytes { WriteAppends (Some self.old.held) (Some self.new.held) result chunk.now }
+    fn write(&mut self, bytes: &[u8]) -> Result<usize, Failed>
+        ensures bound { IfOk result (λ n. n ≤ length bytes.now) }
+        ensures moves { IfOk result (λ n. 0 < length bytes.now → 0 < n) }
+        ensures bytes { WriteAppends (Some self.old.held) (Some self.new.held) result bytes.now }
         ensures counted { CountsFailure self.old.failed_calls self.new.failed_calls result }
 
         // A write also fails if memory is refused.
         ensures fails { self.old.fails_at ≡ 1 → IsErr result }
-        ensures count { IfOk result (λ n. n ≡ min self.old.chunk (length chunk.now)) }
-        ensures device { IfOk result (λ n. self.new ≡ after_write self.old (take n chunk.now)) }
+        ensures count { IfOk result (λ n. n ≡ min self.old.chunk (length bytes.now)) }
+        ensures device { IfOk result (λ n. self.new ≡ after_write self.old (take n bytes.now)) }
         ensures failed_device { OnErr result (self.new ≡ after_failed_write self.old) }
     {
         let fails = self.fails_at == 1;
         self.fails_at = self.fails_at.saturating_sub(1);
-        let count = self.chunk.min(chunk.len());
-        if fails || self.held.extend_from_slice(&chunk[..count]).is_err() {
+        let count = self.chunk.min(bytes.len());
+        if fails || self.held.extend_from_slice(&bytes[..count]).is_err() {
             self.failed_calls = self.failed_calls.saturating_add(1);
             return Err(Failed);
         }

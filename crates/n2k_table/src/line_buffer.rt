@@ -107,8 +107,8 @@ impl<const SIZE: usize> TextBuffer<SIZE> {
     /// ```rust
     /// let mut lines = LineBuffer::new(alloc);
     /// lines.push_plain(&frame_in("(1.0) can0 18EAFF01#14F001")?)?;
-    /// let (front, rest) = lines.parts();
-    /// assert_eq!(rt; (front.len(), rest.len()), (0, 50));
+    /// let (prefix, rest) = lines.parts();
+    /// assert_eq!(rt; (prefix.len(), rest.len()), (0, 50));
     /// ```
     pub fn parts(&self) -> (&[u8], &[u8])
         ensures { result.0.now ++ result.1.now ≡ self.now.items }

@@ -86,7 +86,7 @@ fn lines_taken(rt: HostRuntime) -> Result<(), Fail> {
     Ok(())
 }
 
-// Join::lend, message_of
+// Join::accept_in_place, message_of
 #[test]
 fn messages_in_place(rt: HostRuntime) -> Result<(), Fail> {
     let alloc = rt.alloc();

@@ -140,8 +140,8 @@ impl<D: Sink> Sink for Telling<D> {
 
     ghost contents = { λ t. D.contents t.device };
 
-    fn write(&mut self, chunk: &[u8]) -> Result<usize, Failed> {
-        let answer = self.device.write(chunk);
+    fn write(&mut self, bytes: &[u8]) -> Result<usize, Failed> {
+        let answer = self.device.write(bytes);
         if answer.is_err() {
             self.failed_calls = self.failed_calls.saturating_add(1);
         }
