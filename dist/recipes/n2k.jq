@@ -11,7 +11,7 @@ def lines:
               elif $it | test("^\\s*[{]") then .cut = (.cut // 0) + 1
               else
                   # jq 1.6 goes on with the next line, where there is one.
-                  (reduce inputs as $rest (null; .)) | "there is no message: give it the output of n2kdec decode; for a log: n2k with --last, --named, --gpx or --nmea0183\n" | halt_error(3)
+                  (reduce inputs as $rest (null; .)) | "no messages: the input must be the output of n2kdec decode; for a log: n2k with --last, --named, --gpx or --nmea0183\n" | halt_error(3)
               end
         end;
         .message // (if .cut == 1 then "lines that are no message are left out" | stderr | empty else empty end));

@@ -110,7 +110,7 @@ def take_terminal():
     if not os.isatty(1):
         fail(2, "it needs the whole screen, but standard output is not a terminal; recipes/last.jq prints the last values")
     if os.isatty(0):
-        fail(2, "there is no log on standard input: candump -L can0 | n2k --live")
+        fail(2, "no log on standard input: try candump -L can0 | n2k --live")
     try:
         curses.setupterm(fd=1)
         is_able = curses.tigetstr("cup") is not None
