@@ -7,10 +7,10 @@ use n2k_wire::{Id, Packet};
 const LONGEST: usize = 223;
 
 /// The number after a key in a text, such as `at = 8`.
-fn number_behind(text: &str, key: &str) -> Option<u64> {
-    let (_, behind) = text.split_once(key)?;
+fn number_after(text: &str, key: &str) -> Option<u64> {
+    let (_, after) = text.split_once(key)?;
     let mut number = 0u64;
-    for byte in behind.bytes() {
+    for byte in after.bytes() {
         if !byte.is_ascii_digit() {
             break;
         }
@@ -35,16 +35,16 @@ fn put_bits(data: &mut [u8; LONGEST], at: u64, bits: u64, number: u64) {
 
 /// A message of a definition that has one field a line: a `match` field gets its value, all other fields are random.
 pub(crate) fn described(definition: &str, mut random: u64) -> Option<Packet> {
-    let pgn = u32::try_from(number_behind(definition, "number = ")?).ok()?;
+    let pgn = u32::try_from(number_after(definition, "number = ")?).ok()?;
     let mut data = [0; LONGEST];
     for byte in data.iter_mut() {
         random = next_random(random);
         *byte = (random / 256 % 256) as u8;
     }
     for field in definition.lines() {
-        if let Some(wanted) = number_behind(field, "match = ") {
-            let at = number_behind(field, "at = ")?;
-            let bits = number_behind(field, "bits = ")?;
+        if let Some(wanted) = number_after(field, "match = ") {
+            let at = number_after(field, "at = ")?;
+            let bits = number_after(field, "bits = ")?;
             put_bits(&mut data, at, bits, wanted);
         }
     }

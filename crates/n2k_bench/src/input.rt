@@ -15,9 +15,9 @@ impl<'a> Input<'a> {
     /// The lines between this heading and the next one.
     pub(crate) fn section(&self, head: &str) -> &'a str {
         match self.text.split_once(head) {
-            Some((_, behind)) => match behind.split_once("=== ") {
+            Some((_, after)) => match after.split_once("=== ") {
                 Some((lines, _)) => lines,
-                None => behind,
+                None => after,
             },
             None => "",
         }

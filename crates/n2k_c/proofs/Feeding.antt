@@ -26,9 +26,9 @@ use Rattle.n2k_run.specs.Lines.{line_feed, is_line_feed, whole_lines}
 use Rattle.n2k_run.specs.More.{EndsMore}
 use Rattle.n2k_run.specs.Reading.{most_reads}
 use Rattle.n2k_run.specs.Runs.{Devices}
-use Rattle.n2k_run.proofs.Fronts.{ends_feed, entries-append, whole_front}
+use Rattle.n2k_run.proofs.Prefixes.{ends_feed, entries-append, whole_prefix}
 use Rattle.n2k_c.specs.declared.decoder.Decoder.{Decoder}
-use Rattle.n2k_c.specs.Answers.{EndsLog, Spends}
+use Rattle.n2k_c.specs.Answers.{EndsLog, ClosesDecoder}
 use Rattle.n2k_c.specs.Inner.{RunsCut, refusal_of_run}
 use Rattle.n2k_c.specs.Stands.{HasDecoded, Stands, taken_of}
 
@@ -79,7 +79,7 @@ cut_of [] = record { lines = []; rest = []; is = refl; ends = λ some. absurd (o
 cut_of (b ∷ bs) = let cut = cut_of bs in cut_before b bs cut.lines cut.rest cut.is cut.ends cut.none
 
 whole_is : (bytes : List ℕ) (cut : Cut bytes) → whole_lines bytes ≡ cut.lines
-whole_is bytes cut = ap whole_lines cut.is ∙ whole_front cut.lines cut.rest cut.ends cut.none
+whole_is bytes cut = ap whole_lines cut.is ∙ whole_prefix cut.lines cut.rest cut.ends cut.none
 
 pub whole_ends : (bytes : List ℕ) → IsEmptyOrEndsWith (whole_lines bytes) line_feed
 whole_ends bytes = let cut = cut_of bytes in subst (λ ls. IsEmptyOrEndsWith ls line_feed) (sym (whole_is bytes cut)) cut.ends
@@ -121,7 +121,7 @@ options_are p e w o is_p is_e is_w = rw (is_p, is_e, is_w) refl
 
 -- what a run over more promises, after each prefix
 More : TableParts → Options → State → List ℕ → Devices → Devices → State → Result (Unit {0}) RunFault → Type 0
-More t o old more before after new result = (front : List ℕ) → IsEmptyOrEndsWith front line_feed → old ≡ state_after t o front → EndsMore t o front more before after new result
+More t o old more before after new result = (prefix : List ℕ) → IsEmptyOrEndsWith prefix line_feed → old ≡ state_after t o prefix → EndsMore t o prefix more before after new result
 
 -- the devices of a run whose sinks are what waits
 abbrev pub sinks : List ℕ → List ℕ → ℕ → ℕ → Devices
@@ -152,8 +152,8 @@ module _ (t : TableParts) (o : Options) (taken printed reported : List ℕ) (d d
 
   pub runs_cut : (window : Window) (more : List ℕ) (fw fr fw' fr' : ℕ) (result : Result (Unit {0}) RunFault) → window ≡ d.join.window → more ≡ d.cut.items
       → d'.table ≡ d.table → d'.packing ≡ d.packing → d'.empty ≡ d.empty
-      → ((front : List ℕ) → IsEmptyOrEndsWith front line_feed → d.join ≡ state_after d.table (record { packing = d.packing; empty = d.empty; window = window }) front
-      → EndsMore d.table (record { packing = d.packing; empty = d.empty; window = window }) front more (sinks d.output.held d.reports.held fw fr) (sinks d'.output.held d'.reports.held fw' fr') d'.join result)
+      → ((prefix : List ℕ) → IsEmptyOrEndsWith prefix line_feed → d.join ≡ state_after d.table (record { packing = d.packing; empty = d.empty; window = window }) prefix
+      → EndsMore d.table (record { packing = d.packing; empty = d.empty; window = window }) prefix more (sinks d.output.held d.reports.held fw fr) (sinks d'.output.held d'.reports.held fw' fr') d'.join result)
       → IsEmptyOrEndsWith taken line_feed → HasDecoded t o taken printed reported d → RunsCut t o taken printed reported d d' result
   unfolding More
   runs_cut window more fw fr fw' fr' result is_window is_more same_t same_p same_e head whole b =
@@ -176,7 +176,7 @@ module _ (t : TableParts) (o : Options) (fed printed reported : List ℕ) where
   stands_longer d d' bytes none cut log to s =
       let both : HasNoFeed (d.cut.items ++ bytes) = both_no_feed d.cut.items bytes (waits_no_feed fed d.cut.items s.fed_is) (nowhere_no_feed bytes none) in
       let split : fed ++ bytes ≡ whole_lines fed ++ (d.cut.items ++ bytes) = ap (λ x. x ++ bytes) s.fed_is ∙ append_assoc (whole_lines fed) d.cut.items bytes in
-      let whole : whole_lines (fed ++ bytes) ≡ whole_lines fed = ap whole_lines split ∙ whole_front (whole_lines fed) (d.cut.items ++ bytes) (whole_ends fed) both in
+      let whole : whole_lines (fed ++ bytes) ≡ whole_lines fed = ap whole_lines split ∙ whole_prefix (whole_lines fed) (d.cut.items ++ bytes) (whole_ends fed) both in
       record {
         ended = log ∙ s.ended;
         fed_is = split ∙ ap (λ x. x ++ (d.cut.items ++ bytes)) (sym whole) ∙ ap (λ x. whole_lines (fed ++ bytes) ++ x) (sym cut);
@@ -186,20 +186,20 @@ module _ (t : TableParts) (o : Options) (fed printed reported : List ℕ) where
   -- d at first, d₁ with lines to take, d₂ after them, and d₃ with the rest
   module _ (d d₁ : Decoder) (bytes lines rest : List ℕ) (last : ℕ) (is_lines : lines ≡ take (last + 1) bytes) (is_rest : rest ≡ drop (last + 1) bytes)
       (none : NoneAfter (Passes (is_byte 10) bytes) 0 (length bytes) last) (passes : Passes (is_byte 10) bytes last) (cut : d₁.cut.items ≡ d.cut.items ++ lines) (s : Stands t o fed false printed reported d) where
-    front : List ℕ
-    front = whole_lines fed ++ d₁.cut.items
+    prefix : List ℕ
+    prefix = whole_lines fed ++ d₁.cut.items
 
     split : bytes ≡ lines ++ rest
     split = sym (ap (λ x. x ++ rest) is_lines ∙ ap (λ x. take (last + 1) bytes ++ x) is_rest ∙ take-append-drop (last + 1) bytes)
 
-    all : fed ++ bytes ≡ front ++ rest
-    unfolding front
+    all : fed ++ bytes ≡ prefix ++ rest
+    unfolding prefix
     all =
         ap (λ x. x ++ bytes) s.fed_is ∙ ap (λ x. (whole_lines fed ++ d.cut.items) ++ x) split ∙ sym (append_assoc (whole_lines fed ++ d.cut.items) lines rest)
         ∙ ap (λ x. x ++ rest) (append_assoc (whole_lines fed) d.cut.items lines ∙ ap (λ x. whole_lines fed ++ x) (sym cut))
 
-    whole : IsEmptyOrEndsWith front line_feed
-    unfolding front
+    whole : IsEmptyOrEndsWith prefix line_feed
+    unfolding prefix
     whole =
         let before = take last bytes in
         let shape : whole_lines fed ++ d₁.cut.items ≡ (whole_lines fed ++ (d.cut.items ++ before)) ++ (10 ∷ []) =
@@ -211,20 +211,20 @@ module _ (t : TableParts) (o : Options) (fed printed reported : List ℕ) where
         → ((ls : List ℕ) → IsEmptyOrEndsWith ls line_feed → HasDecoded t o ls printed reported d₁ → HasDecoded t o (ls ++ d₁.cut.items) printed reported d₂)
         → ((ls : List ℕ) → HasDecoded t o ls printed reported d₂ → HasDecoded t o ls printed reported d₃)
         → Stands t o (fed ++ bytes) false printed reported d₃
-    unfolding front
+    unfolding prefix
     stands_more d₂ d₃ none_left cut₃ log₁ log₂ log₃ to₁ to₂ to₃ =
         let left : d₃.cut.items ≡ rest = cut₃ ∙ ap (λ x. x ++ rest) none_left in
-        let is : whole_lines (fed ++ bytes) ≡ front = ap whole_lines all ∙ whole_front front rest whole (no_feed_after bytes rest last is_rest none) in
+        let is : whole_lines (fed ++ bytes) ≡ prefix = ap whole_lines all ∙ whole_prefix prefix rest whole (no_feed_after bytes rest last is_rest none) in
         record {
           ended = log₃ ∙ log₂ ∙ log₁ ∙ s.ended;
           fed_is = all ∙ ap (λ x. x ++ rest) (sym is) ∙ ap (λ x. whole_lines (fed ++ bytes) ++ x) (sym left);
-          taken = subst (λ ls. HasDecoded t o ls printed reported d₃) (sym is) (to₃ front (to₂ (whole_lines fed) (whole_ends fed) (to₁ (whole_lines fed) s.taken)));
+          taken = subst (λ ls. HasDecoded t o ls printed reported d₃) (sym is) (to₃ prefix (to₂ (whole_lines fed) (whole_ends fed) (to₁ (whole_lines fed) s.taken)));
         }
 
     pub too_many : most_lines < length (entries o.packing (whole_lines fed ++ d₁.cut.items)) → most_lines < length (entries o.packing (fed ++ bytes))
-    unfolding front
+    unfolding prefix
     too_many past =
-        let es = ap length (ap (entries o.packing) all ∙ entries-append o.packing front rest whole) ∙ length-append (entries o.packing front) (entries o.packing rest) in
+        let es = ap length (ap (entries o.packing) all ∙ entries-append o.packing prefix rest whole) ∙ length-append (entries o.packing prefix) (entries o.packing rest) in
         omega (arith, es, past)
 
     pub too_long : most_reads ≤ length d₁.cut.items + 1 → most_reads ≤ length d.cut.items + length bytes + 1
@@ -238,7 +238,7 @@ pub spends_more : (d d₁ d₂ : Decoder) (bytes lines rest : List ℕ) (last : 
     → NoneAfter (Passes (is_byte 10) bytes) 0 (length bytes) last → Passes (is_byte 10) bytes last → d₁.cut.items ≡ d.cut.items ++ lines
     → ((t : TableParts) (o : Options) (ls printed reported : List ℕ) → HasDecoded t o ls printed reported d → HasDecoded t o ls printed reported d₁)
     → ((t : TableParts) (o : Options) (ls printed reported : List ℕ) → IsEmptyOrEndsWith ls line_feed → HasDecoded t o ls printed reported d₁ → RunsCut t o ls printed reported d₁ d₂ (Err fault))
-    → Spends bytes d (refusal_of_run fault)
+    → ClosesDecoder bytes d (refusal_of_run fault)
 spends_more d d₁ d₂ bytes lines rest last of_run.TooManyLines is_lines is_rest none passes cut to runs = λ t o fed printed reported s.
     inl (too_many t o fed printed reported d d₁ bytes lines rest last is_lines is_rest none passes cut s (runs t o (whole_lines fed) printed reported (whole_ends fed) (to t o (whole_lines fed) printed reported s.taken)))
 spends_more d d₁ d₂ bytes lines rest last of_run.Read is_lines is_rest none passes cut to runs = λ t o fed printed reported s.
@@ -257,7 +257,7 @@ ends_log d d' d'' cut cut' log to to' = λ t o fed printed reported s. record {
 }
 
 pub spends_end : (d d' : Decoder) (fault : RunFault)
-    → ((t : TableParts) (o : Options) (ls printed reported : List ℕ) → IsEmptyOrEndsWith ls line_feed → HasDecoded t o ls printed reported d → RunsCut t o ls printed reported d d' (Err fault)) → Spends [] d (refusal_of_run fault)
+    → ((t : TableParts) (o : Options) (ls printed reported : List ℕ) → IsEmptyOrEndsWith ls line_feed → HasDecoded t o ls printed reported d → RunsCut t o ls printed reported d d' (Err fault)) → ClosesDecoder [] d (refusal_of_run fault)
 spends_end d d' of_run.TooManyLines runs = λ t o fed printed reported s.
     inl (subst (λ x. most_lines < length (entries o.packing x)) (sym (append-nil fed ∙ s.fed_is)) (runs t o (whole_lines fed) printed reported (whole_ends fed) s.taken))
 spends_end d d' of_run.Read runs = λ t o fed printed reported s.
@@ -275,20 +275,20 @@ module _ (t : TableParts) (o : Options) (fed : List ℕ) (is_whole : Bool) (prin
   counts_are counted is = is ∙ ap (λ (x : State). x.counts) s.taken.leads_to
 
 -- a decoder that was opened after a prefix
-pub opened_at : (t : TableParts) (o : Options) (front : List ℕ) (d : Decoder) → d.table ≡ t → d.packing ≡ o.packing → d.empty ≡ o.empty → d.ended ≡ false → d.cut.items ≡ [] → d.output.held ≡ [] → d.reports.held ≡ []
-    → IsEmptyOrEndsWith front line_feed → d.join ≡ state_after t o front → Stands t o front false (out t o front) (reports t o front) d
-opened_at t o front d is_t is_p is_e log cut output told whole join =
-    let is : whole_lines front ≡ front = ap whole_lines (sym (append-nil front)) ∙ whole_front front [] whole (λ k d below. absurd (omega (arith, below))) in
+pub opened_at : (t : TableParts) (o : Options) (prefix : List ℕ) (d : Decoder) → d.table ≡ t → d.packing ≡ o.packing → d.empty ≡ o.empty → d.ended ≡ false → d.cut.items ≡ [] → d.output.held ≡ [] → d.reports.held ≡ []
+    → IsEmptyOrEndsWith prefix line_feed → d.join ≡ state_after t o prefix → Stands t o prefix false (out t o prefix) (reports t o prefix) d
+opened_at t o prefix d is_t is_p is_e log cut output told whole join =
+    let is : whole_lines prefix ≡ prefix = ap whole_lines (sym (append-nil prefix)) ∙ whole_prefix prefix [] whole (λ k d below. absurd (omega (arith, below))) in
     record {
       ended = log;
-      fed_is = sym (ap (λ x. whole_lines front ++ x) cut ∙ append-nil (whole_lines front) ∙ is);
-      taken = subst (λ ls. HasDecoded t o ls (out t o front) (reports t o front) d) (sym is) (record {
+      fed_is = sym (ap (λ x. whole_lines prefix ++ x) cut ∙ append-nil (whole_lines prefix) ∙ is);
+      taken = subst (λ ls. HasDecoded t o ls (out t o prefix) (reports t o prefix) d) (sym is) (record {
         table = is_t;
         packing = is_p;
         empty = is_e;
         leads_to = join;
-        output = sym (ap (λ x. out t o front ++ x) output ∙ append-nil (out t o front));
-        reports = sym (ap (λ x. reports t o front ++ x) told ∙ append-nil (reports t o front));
+        output = sym (ap (λ x. out t o prefix ++ x) output ∙ append-nil (out t o prefix));
+        reports = sym (ap (λ x. reports t o prefix ++ x) told ∙ append-nil (reports t o prefix));
       });
     }
 

@@ -3,7 +3,7 @@ use Rattle.std.proofs.Common.{◌≡◌, ℕ, Bool, true, false, true≢false, L
 use Rattle.n2k_table.specs.Table.{TableParts, faults, table}
 use Rattle.n2k_run.specs.declared.options.Options.{Options}
 use Rattle.n2k_run.specs.Decoded.{out, reports}
-use Rattle.n2k_run.specs.Parts.{IsFront}
+use Rattle.n2k_run.specs.Parts.{IsPrefix}
 use Rattle.n2k_c.specs.declared.Settings.{Settings}
 use Rattle.n2k_c.specs.declared.decoder.Decoder.{Decoder}
 use Rattle.n2k_c.specs.declared.refusal.Refusal.{Refusal}
@@ -21,14 +21,14 @@ unfolding reports
 nothing_told t o = refl
 
 -- and no state is that of the empty prefix
-first : (t : TableParts) (o : Options) → IsFront t o [] None
+first : (t : TableParts) (o : Options) → IsPrefix t o [] None
 first t o = record { whole_lines = λ some. absurd (omega (arith, some)); leads_to = refl }
 
 Gives : TableParts → Options → Option (List ℕ) → Decoder → Type 0
-Gives t o handed d = (front : List ℕ) → IsFront t o front handed → Stands t o front false (out t o front) (reports t o front) d
+Gives t o handed d = (prefix : List ℕ) → IsPrefix t o prefix handed → Stands t o prefix false (out t o prefix) (reports t o prefix) d
 
 pub decodes_by : (toml : List ℕ) (settings : Settings) (handed : Option (List ℕ)) (t : TableParts) (o : Options) (d : Decoder) → faults toml ≡ [] → are_known settings ≡ true → t ≡ table toml → o ≡ settings_options settings
-    → ((front : List ℕ) → IsFront t o front handed → Stands t o front false (out t o front) (reports t o front) d) → IsDecoderOf toml settings handed d
+    → ((prefix : List ℕ) → IsPrefix t o prefix handed → Stands t o prefix false (out t o prefix) (reports t o prefix) d) → IsDecoderOf toml settings handed d
 unfolding Gives
 decodes_by toml settings handed t o d sound known is_t is_o gives =
     let a : Gives t o handed d = gives in
@@ -38,7 +38,7 @@ decodes_by toml settings handed t o d sound known is_t is_o gives =
       sound = sound;
       known = known;
       begins = λ none.
-          let at = c [] (subst (λ (h : Option (List ℕ)). IsFront (table toml) (settings_options settings) [] h) (sym none) (first (table toml) (settings_options settings))) in
+          let at = c [] (subst (λ (h : Option (List ℕ)). IsPrefix (table toml) (settings_options settings) [] h) (sym none) (first (table toml) (settings_options settings))) in
           let printed = subst (λ (text : List ℕ). Stands (table toml) (settings_options settings) [] false text (reports (table toml) (settings_options settings) []) d) (nothing_out (table toml) (settings_options settings)) at in
           subst (λ (text : List ℕ). Stands (table toml) (settings_options settings) [] false [] text d) (nothing_told (table toml) (settings_options settings)) printed;
       goes_on = c;

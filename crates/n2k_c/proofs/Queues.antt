@@ -34,22 +34,22 @@ pub no_line : (bytes : List ℕ) → HasNoFeed bytes → first_line bytes ≡ by
 no_line [] none = refl
 no_line (byte ∷ bytes) none = no_line_at byte bytes (is_line_feed byte) (All-head is_plain byte bytes none) (no_line bytes (All-tail is_plain byte bytes none))
 
-line_at : (byte : ℕ) (front rest : List ℕ) (feed : Bool) → feed ≡ false → first_line (front ++ (10 ∷ rest)) ≡ front ++ (10 ∷ [])
-    → (if feed then byte ∷ [] else byte ∷ first_line (front ++ (10 ∷ rest))) ≡ byte ∷ (front ++ (10 ∷ []))
-line_at byte front rest true plain is = absurd (true≢false plain)
-line_at byte front rest false plain is = ap (λ l. byte ∷ l) is
+line_at : (byte : ℕ) (prefix rest : List ℕ) (feed : Bool) → feed ≡ false → first_line (prefix ++ (10 ∷ rest)) ≡ prefix ++ (10 ∷ [])
+    → (if feed then byte ∷ [] else byte ∷ first_line (prefix ++ (10 ∷ rest))) ≡ byte ∷ (prefix ++ (10 ∷ []))
+line_at byte prefix rest true plain is = absurd (true≢false plain)
+line_at byte prefix rest false plain is = ap (λ l. byte ∷ l) is
 
-line_of : (front rest : List ℕ) → HasNoFeed front → first_line (front ++ (10 ∷ rest)) ≡ front ++ (10 ∷ [])
+line_of : (prefix rest : List ℕ) → HasNoFeed prefix → first_line (prefix ++ (10 ∷ rest)) ≡ prefix ++ (10 ∷ [])
 line_of [] rest none = refl
-line_of (byte ∷ front) rest none = line_at byte front rest (is_line_feed byte) (All-head is_plain byte front none) (line_of front rest (All-tail is_plain byte front none))
+line_of (byte ∷ prefix) rest none = line_at byte prefix rest (is_line_feed byte) (All-head is_plain byte prefix none) (line_of prefix rest (All-tail is_plain byte prefix none))
 
 pub line_found : (bytes : List ℕ) (end : ℕ) → EndsAt bytes end → take (end + 1) bytes ≡ first_line bytes
 line_found bytes end at =
-    let front = take end bytes in
+    let prefix = take end bytes in
     let rest = drop (end + 1) bytes in
-    let long : length (front ++ (10 ∷ [])) ≡ end + 1 = omega (arith, length-append front (10 ∷ []), length-take-le end bytes (omega (arith, at.within))) in
-    let split : bytes ≡ (front ++ (10 ∷ [])) ++ rest = at.split ∙ sym (append_assoc front (10 ∷ []) rest) in
-    ap (take (end + 1)) split ∙ take_at (front ++ (10 ∷ [])) rest (end + 1) long ∙ sym (ap first_line at.split ∙ line_of front rest at.no_feed)
+    let long : length (prefix ++ (10 ∷ [])) ≡ end + 1 = omega (arith, length-append prefix (10 ∷ []), length-take-le end bytes (omega (arith, at.within))) in
+    let split : bytes ≡ (prefix ++ (10 ∷ [])) ++ rest = at.split ∙ sym (append_assoc prefix (10 ∷ []) rest) in
+    ap (take (end + 1)) split ∙ take_at (prefix ++ (10 ∷ [])) rest (end + 1) long ∙ sym (ap first_line at.split ∙ line_of prefix rest at.no_feed)
 
 split_at : (byte : ℕ) (bytes : List ℕ) (feed : Bool) → bytes ≡ first_line bytes ++ drop (length (first_line bytes)) bytes
     → (let line : List ℕ = if feed then byte ∷ [] else byte ∷ first_line bytes in byte ∷ bytes ≡ line ++ drop (length line) (byte ∷ bytes))

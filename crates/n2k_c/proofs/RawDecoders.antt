@@ -18,7 +18,7 @@ use Rattle.std.specs.contracts.impls.GlobalAllocator.TheImpl as impl
 use Rattle.n2k_c.specs.declared.decoder.Decoder.{Decoder}
 use Rattle.n2k_c.specs.contracts.decoder.Decoder as kept
 use Rattle.n2k_c.specs.contracts.raw_decoder.RawDecoder as raw_decoder
-use Rattle.n2k_c.specs.Held.{owned_of}
+use Rattle.n2k_c.specs.DecoderView.{owned_of}
 
 abbrev pub R : RattleType
 R = kept.the_row

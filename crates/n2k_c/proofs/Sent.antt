@@ -8,7 +8,7 @@ use denote.RawPtr.{Ptr, block_ptr, null_ptr, lies_at}
 use denote.Param.Send.{IsSend, part_keyless}
 use Rattle.std.specs.Prelude.{Option, Some, None}
 use Rattle.std.proofs.Crossing.{frees}
-use Rattle.n2k_c.specs.Held.{heap, owned_of}
+use Rattle.n2k_c.specs.DecoderView.{heap, owned_of}
 
 -- a value behind a pointer
 lies : (R : RattleType) → IsSend R → (p : Ptr) (x : R.Denot) → Keyless (lies_at R full_share p x)

@@ -13,7 +13,7 @@ use Rattle.n2k_run.specs.declared.options.Options.{Options}
 use Rattle.n2k_run.specs.Decoded.{out, reports}
 use Rattle.n2k_run.specs.Entries.{entries}
 use Rattle.n2k_run.specs.Headline.{save}
-use Rattle.n2k_run.specs.Parts.{IsFront, begun}
+use Rattle.n2k_run.specs.Parts.{IsPrefix, begun}
 use Rattle.n2k_run.specs.Reading.{most_reads}
 use Rattle.n2k_c.specs.Frame.{frame_line, is_frame}
 use Rattle.n2k_c.specs.Queue.{IsNextLine}
@@ -50,9 +50,9 @@ pub record IsDecoderOf (toml : List ℕ) (settings : Settings) (handed : Option 
   pub sound : faults toml ≡ []
   pub known : are_known settings ≡ true
   pub begins : handed ≡ None → Stands (table toml) (settings_options settings) [] false [] [] d
-  pub goes_on : (front : List ℕ) → IsFront (table toml) (settings_options settings) front handed
-      → Stands (table toml) (settings_options settings) front false (out (table toml) (settings_options settings) front)
-      (reports (table toml) (settings_options settings) front) d
+  pub goes_on : (prefix : List ℕ) → IsPrefix (table toml) (settings_options settings) prefix handed
+      → Stands (table toml) (settings_options settings) prefix false (out (table toml) (settings_options settings) prefix)
+      (reports (table toml) (settings_options settings) prefix) d
 
 -- none was open, and such a decoder is
 pub record OpensDecoder (toml : List ℕ) (settings : Settings) (handed : Option (List ℕ))
@@ -79,7 +79,7 @@ NotOpened toml settings handed old new refusal = (new ≡ old) × NotMade toml s
 -- ---- calls of a decoder
 
 -- a decoder was open and is so, and what became of it
-pub record Turns (old new : Option Decoder) (How : Decoder → Decoder → Type 0) : Type 0 where
+pub record Updates (old new : Option Decoder) (How : Decoder → Decoder → Type 0) : Type 0 where
   pub from : Decoder
   pub to : Decoder
   pub was : old ≡ Some from
@@ -112,21 +112,21 @@ IsTooMuch bytes d =
     → (most_lines < length (entries o.packing (fed ++ bytes))) ⊎ (most_reads ≤ length d.cut.items + length bytes + 1)
 
 -- why a decoder did not take these bytes, and is spent
-abbrev pub Spends : List ℕ → Decoder → Refusal → Type 0
-Spends bytes d Memory = Unit {0}
-Spends bytes d TooMuch = IsTooMuch bytes d
-Spends bytes d _ = ⊥
+abbrev pub ClosesDecoder : List ℕ → Decoder → Refusal → Type 0
+ClosesDecoder bytes d Memory = Unit {0}
+ClosesDecoder bytes d TooMuch = IsTooMuch bytes d
+ClosesDecoder bytes d _ = ⊥
 
 -- why no bytes are taken: none is open, or its log has ended, and it is as it was
 abbrev pub IsNotUnderWay : Option Decoder → Option Decoder → Refusal → Type 0
 IsNotUnderWay old new Closed = IsClosed old new
-IsNotUnderWay old new Ended = Turns old new (λ from to. (to ≡ from) × (from.ended ≡ true))
+IsNotUnderWay old new Ended = Updates old new (λ from to. (to ≡ from) × (from.ended ≡ true))
 IsNotUnderWay old new _ = ⊥
 
 -- why they were not taken: so, or the decoder was spent, and none is open
 abbrev pub NotTaken : List ℕ → Option Decoder → Option Decoder → Refusal → Type 0
 NotTaken bytes old new refusal =
-    IsNotUnderWay old new refusal ⊎ ((d : Decoder) × (old ≡ Some d) × (new ≡ None) × Spends bytes d refusal)
+    IsNotUnderWay old new refusal ⊎ ((d : Decoder) × (old ≡ Some d) × (new ≡ None) × ClosesDecoder bytes d refusal)
 
 -- ---- n2k_frame
 
@@ -146,7 +146,7 @@ FeedsFrame identifier payload seconds nanoseconds old new =
 abbrev pub NotFramed : ℕ → List ℕ → ℕ → ℕ → Option Decoder → Option Decoder → Refusal → Type 0
 NotFramed identifier payload seconds nanoseconds old new refusal =
     ((refusal ≡ Frame) × (is_frame identifier payload seconds nanoseconds ≡ false) × (new ≡ old))
-    ⊎ (((refusal ≡ Unfinished) × Turns old new (λ from to. (to ≡ from) × (size : ℕ) × (0 < size) × Waits size from))
+    ⊎ (((refusal ≡ Unfinished) × Updates old new (λ from to. (to ≡ from) × (size : ℕ) × (0 < size) × Waits size from))
     ⊎ NotTaken (frame_line identifier payload seconds nanoseconds) old new refusal)
 
 -- ---- n2k_take, n2k_next, n2k_take_reports, n2k_counts and n2k_save
@@ -166,8 +166,8 @@ PrintsNext text old new =
     → IsNextLine (out t o (taken_of ended fed)) printed text × Stands t o fed ended (printed ++ text) reported new
 
 -- so for the reports
-abbrev pub Tells : List ℕ → Decoder → Decoder → Type 0
-Tells text old new =
+abbrev pub TakesReports : List ℕ → Decoder → Decoder → Type 0
+TakesReports text old new =
     (t : TableParts) (o : Options) (fed : List ℕ) (ended : Bool) (printed reported : List ℕ)
     → Stands t o fed ended printed reported old
     → (reports t o (taken_of ended fed) ≡ reported ++ text) × Stands t o fed ended printed (reported ++ text) new
@@ -204,12 +204,12 @@ IsStateOf text d =
 -- At the beginning of a room a text of so many bytes was written, and nothing after it.
 pub record Fills (room_old room_new : List ℕ) (told : ℕ) : Type 0 where
   pub fits : told ≤ length room_new
-  pub behind : drop told room_new ≡ drop told room_old
+  pub after : drop told room_new ≡ drop told room_old
 
 -- A text came to the beginning of a room, and its length was returned.
 pub record HasRoom (text room_old room_new : List ℕ) (told : ℕ) : Type 0 where
   pub size : told ≡ length text
-  pub front : take told room_new ≡ text
+  pub prefix : take told room_new ≡ text
   pub fills : Fills room_old room_new told
 
 -- a text did not fit: the room is unchanged, and the text's size was returned
@@ -226,7 +226,7 @@ Sized = List ℕ × ℕ
 abbrev pub NotMoved : (Decoder → List ℕ) → Sized → Sized → Option Decoder → Option Decoder → Refusal → Type 0
 NotMoved waiting was is old new Closed = IsClosed old new × (is ≡ was)
 NotMoved waiting was is old new Room =
-    Turns old new (λ from to. (to ≡ from) × WantsRoom (waiting from) was.0 is.0 is.1)
+    Updates old new (λ from to. (to ≡ from) × WantsRoom (waiting from) was.0 is.0 is.1)
 NotMoved waiting was is old new _ = ⊥
 
 -- why a state did not come into a room
@@ -238,7 +238,7 @@ NotSavedInto was is d _ = ⊥
 -- why nothing was saved; what is open is as it was
 abbrev pub NotSaved : Sized → Sized → Option Decoder → Option Decoder → Refusal → Type 0
 NotSaved was is old new Closed = IsClosed old new × (is ≡ was)
-NotSaved was is old new refusal = Turns old new (λ from to. (to ≡ from) × NotSavedInto was is from refusal)
+NotSaved was is old new refusal = Updates old new (λ from to. (to ≡ from) × NotSavedInto was is from refusal)
 
 -- why nothing was returned: none is open, and the room is unchanged
 abbrev pub NotTold : (A : Type 0) → A → A → Option Decoder → Option Decoder → Refusal → Type 0

@@ -1,6 +1,6 @@
 pub mod Answers
 pub mod Frame
-pub mod Held
+pub mod DecoderView
 pub mod Inner
 pub mod Queue
 pub mod Stands

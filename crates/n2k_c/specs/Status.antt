@@ -52,7 +52,7 @@ answer_status (Ok done) = pos 0
 answer_status (Err refusal) = code refusal
 
 -- Status 0 means that the call was done; any other says why not. No two results have one status (`statuses_differ`).
-pub record Says (status : ℤ) (Done : Type 0) (Why : Refusal → Type 0) : Type 0 where
+pub record StatusMeans (status : ℤ) (Done : Type 0) (Why : Refusal → Type 0) : Type 0 where
   pub answer : Result (Unit {0}) Refusal
   pub status_is : status ≡ answer_status answer
   pub says : MatchResult answer (λ _. Done) Why

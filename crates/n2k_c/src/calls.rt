@@ -1,7 +1,7 @@
 //! What the calls do, with their refusals by name.
 ghost use Rattle.std.specs.Prelude.{◌≡◌, ℕ, [], Err, MatchResult, None, Some, option_map, take};
 ghost use Rattle.n2k_join.specs.Window.{IsWindow};
-ghost use Rattle.n2k_c.specs.Answers.{IsDecoderOf, EndsLog, Feeds, FeedsFrame, Fills, IsClosed, IsCounted, IsNotUnderWay, IsStateOf, NotFramed, NotMade, NotMoved, NotOpened, NotSaved, NotSavedInto, NotTaken, NotTold, OpensDecoder, Prints, PrintsNext, Tells, Turns, Waits, are_known, handed_of, settings_options};
+ghost use Rattle.n2k_c.specs.Answers.{IsDecoderOf, EndsLog, Feeds, FeedsFrame, Fills, IsClosed, IsCounted, IsNotUnderWay, IsStateOf, NotFramed, NotMade, NotMoved, NotOpened, NotSaved, NotSavedInto, NotTaken, NotTold, OpensDecoder, Prints, PrintsNext, TakesReports, Updates, Waits, are_known, handed_of, settings_options};
 ghost use Rattle.n2k_c.specs.Queue.{first_line};
 ghost use Rattle.n2k_c.specs.declared.Counted.{Counted as Counts};
 ghost use Rattle.n2k_c.specs.declared.refusal.Refusal.TheVariants.{Closed, Window as NoWindow};
@@ -174,7 +174,7 @@ fn under_way(alloc: Global, h: &mut Handle) -> Result<Box<Decoder, Global>, Refu
 
 /// Feeds bytes to what is open.
 pub fn feed(alloc: Global, h: &mut Handle, bytes: &[u8]) -> Result<(), Refusal>
-    ensures { MatchResult result (λ _. Turns h.old.hold.holds h.new.hold.holds (Feeds bytes.now))
+    ensures { MatchResult result (λ _. Updates h.old.hold.holds h.new.hold.holds (Feeds bytes.now))
         (NotTaken bytes.now h.old.hold.holds h.new.hold.holds) }
 {
     let mut decoder = match under_way(alloc, h) {
@@ -193,7 +193,7 @@ pub fn feed(alloc: Global, h: &mut Handle, bytes: &[u8]) -> Result<(), Refusal>
 /// Takes a frame as its candump line.
 pub fn take_frame(alloc: Global, h: &mut Handle, frame: &Frame<'_>) -> Result<(), Refusal>
     ensures { let f = frame.now in
-        MatchResult result (λ _. Turns h.old.hold.holds h.new.hold.holds
+        MatchResult result (λ _. Updates h.old.hold.holds h.new.hold.holds
         (FeedsFrame f.identifier f.«data».now f.seconds f.nanoseconds))
         (NotFramed f.identifier f.«data».now f.seconds f.nanoseconds h.old.hold.holds h.new.hold.holds) }
 {
@@ -219,7 +219,7 @@ pub fn take_frame(alloc: Global, h: &mut Handle, frame: &Frame<'_>) -> Result<()
 
 /// Ends the log of what is open.
 pub fn end(alloc: Global, h: &mut Handle) -> Result<(), Refusal>
-    ensures { MatchResult result (λ _. Turns h.old.hold.holds h.new.hold.holds EndsLog)
+    ensures { MatchResult result (λ _. Updates h.old.hold.holds h.new.hold.holds EndsLog)
         (NotTaken [] h.old.hold.holds h.new.hold.holds) }
 {
     let mut decoder = match under_way(alloc, h) {
@@ -238,7 +238,7 @@ pub fn end(alloc: Global, h: &mut Handle) -> Result<(), Refusal>
 /// Moves the output that waits.
 pub fn take(alloc: Global, h: &mut Handle, room: &mut [u8], size: &mut usize) -> Result<(), Refusal>
     ensures { MatchResult result (λ _. Fills room.old room.new size.new
-        × Turns h.old.hold.holds h.new.hold.holds (Prints (take size.new room.new)))
+        × Updates h.old.hold.holds h.new.hold.holds (Prints (take size.new room.new)))
         (NotMoved (λ d. d.output.held) (room.old, size.old) (room.new, size.new) h.old.hold.holds h.new.hold.holds) }
 {
     let mut decoder = match taken(alloc, h) {
@@ -262,7 +262,7 @@ pub fn take_next(
     size: &mut usize,
 ) -> Result<(), Refusal>
     ensures { MatchResult result (λ _. Fills room.old room.new size.new
-        × Turns h.old.hold.holds h.new.hold.holds (PrintsNext (take size.new room.new)))
+        × Updates h.old.hold.holds h.new.hold.holds (PrintsNext (take size.new room.new)))
         (NotMoved (λ d. first_line d.output.held) (room.old, size.old) (room.new, size.new) h.old.hold.holds h.new.hold.holds) }
 {
     let mut decoder = match taken(alloc, h) {
@@ -286,7 +286,7 @@ pub fn take_reports(
     size: &mut usize,
 ) -> Result<(), Refusal>
     ensures { MatchResult result (λ _. Fills room.old room.new size.new
-        × Turns h.old.hold.holds h.new.hold.holds (Tells (take size.new room.new)))
+        × Updates h.old.hold.holds h.new.hold.holds (TakesReports (take size.new room.new)))
         (NotMoved (λ d. d.reports.held) (room.old, size.old) (room.new, size.new) h.old.hold.holds h.new.hold.holds) }
 {
     let mut decoder = match taken(alloc, h) {
@@ -304,7 +304,7 @@ pub fn take_reports(
 
 /// Tells what the lines count.
 pub fn count(alloc: Global, h: &mut Handle, counted: &mut Counted) -> Result<(), Refusal>
-    ensures { MatchResult result (λ _. Turns h.old.hold.holds h.new.hold.holds (λ from to. (to ≡ from)
+    ensures { MatchResult result (λ _. Updates h.old.hold.holds h.new.hold.holds (λ from to. (to ≡ from)
         × IsCounted counted.new from))
         (NotTold Counts counted.old counted.new h.old.hold.holds h.new.hold.holds) }
 {
@@ -328,7 +328,7 @@ pub fn count(alloc: Global, h: &mut Handle, counted: &mut Counted) -> Result<(),
 
 /// Tells how many bytes wait of a line that has not ended.
 pub fn waiting(alloc: Global, h: &mut Handle, size: &mut usize) -> Result<(), Refusal>
-    ensures { MatchResult result (λ _. Turns h.old.hold.holds h.new.hold.holds (λ from to. (to ≡ from) × Waits size.new from))
+    ensures { MatchResult result (λ _. Updates h.old.hold.holds h.new.hold.holds (λ from to. (to ≡ from) × Waits size.new from))
         (NotTold ℕ size.old size.new h.old.hold.holds h.new.hold.holds) }
 {
     let decoder = match taken(alloc, h) {
@@ -359,7 +359,7 @@ fn save_into(
 /// Saves the state of what is open.
 pub fn save(alloc: Global, h: &mut Handle, room: &mut [u8], size: &mut usize) -> Result<(), Refusal>
     ensures { MatchResult result (λ _. Fills room.old room.new size.new
-        × Turns h.old.hold.holds h.new.hold.holds (λ from to. (to ≡ from) × IsStateOf (take size.new room.new) from))
+        × Updates h.old.hold.holds h.new.hold.holds (λ from to. (to ≡ from) × IsStateOf (take size.new room.new) from))
         (NotSaved (room.old, size.old) (room.new, size.new) h.old.hold.holds h.new.hold.holds) }
 {
     let decoder = match taken(alloc, h) {

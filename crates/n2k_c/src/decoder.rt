@@ -10,9 +10,9 @@ ghost use Rattle.n2k_run.specs.declared.options.Options.{Options};
 ghost use Rattle.n2k_run.specs.Decoded.{out, reports};
 ghost use Rattle.n2k_run.specs.Inner.Block.{FindsEnd};
 ghost use Rattle.n2k_run.specs.Lines.{line_feed};
-ghost use Rattle.n2k_run.specs.Parts.{IsFront, begun};
+ghost use Rattle.n2k_run.specs.Parts.{IsPrefix, begun};
 ghost use Rattle.n2k_c.specs.declared.refusal.Refusal.TheVariants.{Room};
-ghost use Rattle.n2k_c.specs.Answers.{EndsLog, Feeds, Fills, HasCounts, HasRoom, IsStateOf, Prints, PrintsNext, Spends, Tells, Waits, WantsRoom};
+ghost use Rattle.n2k_c.specs.Answers.{EndsLog, Feeds, Fills, HasCounts, HasRoom, IsStateOf, Prints, PrintsNext, ClosesDecoder, TakesReports, Waits, WantsRoom};
 ghost use Rattle.n2k_c.specs.Inner.{RunsCut};
 ghost use Rattle.n2k_c.specs.Frame.{frame_line};
 ghost use Rattle.n2k_c.specs.Queue.{first_line};
@@ -66,9 +66,9 @@ pub fn open(
     options: Options,
     handed: Option<&[u8]>,
 ) -> Result<Decoder, StateFault>
-    ensures stands { IfOk result (λ d. (front : List ℕ)
-        → IsFront table options front (option_map (λ bytes. bytes.now) handed.entry)
-        → Stands table options front false (out table options front) (reports table options front) d) }
+    ensures stands { IfOk result (λ d. (prefix : List ℕ)
+        → IsPrefix table options prefix (option_map (λ bytes. bytes.now) handed.entry)
+        → Stands table options prefix false (out table options prefix) (reports table options prefix) d) }
     ensures refused { IfErr result (λ fault. fault ≢ Memory
         → begun table options (option_map (λ bytes. bytes.now) handed.entry) ≡ Err fault) }
 {
@@ -122,7 +122,7 @@ impl Decoder {
 
     /// Takes more of a log: its lines as they complete. After a refusal it is spent.
     pub fn feed(&mut self, alloc: Global, bytes: &[u8]) -> Result<(), Refusal>
-        ensures { MatchResult result (λ _. Feeds bytes.now self.old self.new) (Spends bytes.now self.old) }
+        ensures { MatchResult result (λ _. Feeds bytes.now self.old self.new) (ClosesDecoder bytes.now self.old) }
     {
         match memrchr(b'\n', bytes) {
             None => self.wait(bytes),
@@ -133,7 +133,7 @@ impl Decoder {
     /// Lets bytes wait in which no line ends.
     fn wait(&mut self, bytes: &[u8]) -> Result<(), Refusal>
         requires { Nowhere (Passes (is_byte 10) bytes.now) 0 (length bytes.now) }
-        ensures { MatchResult result (λ _. Feeds bytes.now self.old self.new) (Spends bytes.now self.old) }
+        ensures { MatchResult result (λ _. Feeds bytes.now self.old self.new) (ClosesDecoder bytes.now self.old) }
     {
         self.cut.extend_from_slice(bytes)?;
         Ok(())
@@ -143,7 +143,7 @@ impl Decoder {
     fn take_lines(&mut self, alloc: Global, bytes: &[u8], last: usize) -> Result<(), Refusal>
         requires after { NoneAfter (Passes (is_byte 10) bytes.now) 0 (length bytes.now) last }
         requires here { Passes (is_byte 10) bytes.now last }
-        ensures { MatchResult result (λ _. Feeds bytes.now self.old self.new) (Spends bytes.now self.old) }
+        ensures { MatchResult result (λ _. Feeds bytes.now self.old self.new) (ClosesDecoder bytes.now self.old) }
     {
         let (lines, rest) = bytes.split_at(last + 1);
         self.cut.extend_from_slice(lines)?;
@@ -160,7 +160,7 @@ impl Decoder {
         requires short { length frame.now.«data».now ≤ frame_payload }
         requires time { frame.now.nanoseconds < 1000000000 }
         ensures { let line = frame_line frame.now.identifier frame.now.«data».now frame.now.seconds frame.now.nanoseconds in
-            MatchResult result (λ _. Feeds line self.old self.new) (Spends line self.old) }
+            MatchResult result (λ _. Feeds line self.old self.new) (ClosesDecoder line self.old) }
     {
         match line_of(alloc, frame) {
             Ok(line) => self.feed(alloc, &line),
@@ -170,7 +170,7 @@ impl Decoder {
 
     /// Takes the line that is cut as the log's last. After a refusal it is spent.
     pub fn end(&mut self, alloc: Global) -> Result<(), Refusal>
-        ensures { MatchResult result (λ _. EndsLog self.old self.new) (Spends [] self.old) }
+        ensures { MatchResult result (λ _. EndsLog self.old self.new) (ClosesDecoder [] self.old) }
     {
         match self.run_cut(alloc) {
             Ok(()) => {
@@ -203,7 +203,7 @@ impl Decoder {
 
     /// Moves the waiting reports to a room, if they fit.
     pub fn take_reports(&mut self, room: &mut [u8], wanted: &mut usize) -> Result<(), Refusal>
-        ensures { MatchResult result (λ _. Fills room.old room.new wanted.new × Tells (take wanted.new room.new) self.old self.new)
+        ensures { MatchResult result (λ _. Fills room.old room.new wanted.new × TakesReports (take wanted.new room.new) self.old self.new)
             (λ refusal. (refusal ≡ Room) × (self.new ≡ self.old)
             × WantsRoom self.old.reports.held room.old room.new wanted.new) }
     {

@@ -2,10 +2,10 @@
 #![tactic(auto)]
 
 ghost use Rattle.std.specs.Prelude.{◌≡◌, ℕ, [], None, is_some, take};
-ghost use Rattle.n2k_c.specs.Answers.{EndsLog, Feeds, FeedsFrame, Fills, IsCounted, IsStateOf, NotFramed, NotMoved, NotOpened, NotSaved, NotTaken, NotTold, OpensDecoder, Prints, PrintsNext, Tells, Turns, Waits, handed_of};
+ghost use Rattle.n2k_c.specs.Answers.{EndsLog, Feeds, FeedsFrame, Fills, IsCounted, IsStateOf, NotFramed, NotMoved, NotOpened, NotSaved, NotTaken, NotTold, OpensDecoder, Prints, PrintsNext, TakesReports, Updates, Waits, handed_of};
 ghost use Rattle.n2k_c.specs.declared.Counted.{Counted as Counts};
 ghost use Rattle.n2k_c.specs.Queue.{first_line};
-ghost use Rattle.n2k_c.specs.Status.{Says};
+ghost use Rattle.n2k_c.specs.Status.{StatusMeans};
 
 mod calls;
 mod decoder;
@@ -66,7 +66,7 @@ pub extern "C" fn n2k_open(
     h: &mut Handle,
 ) -> i32
     ensures { let handed = handed_of resumes state.now in
-        Says result (OpensDecoder toml.now settings.now handed h.old.hold.holds h.new.hold.holds)
+        StatusMeans result (OpensDecoder toml.now settings.now handed h.old.hold.holds h.new.hold.holds)
         (NotOpened toml.now settings.now handed h.old.hold.holds h.new.hold.holds) }
 {
     status(calls::open(alloc, toml, resumes, state, settings, h))
@@ -75,7 +75,7 @@ pub extern "C" fn n2k_open(
 /// Takes more of a log: its lines as they complete.
 #[unsafe(no_mangle)]
 pub extern "C" fn n2k_feed(alloc: Global, h: &mut Handle, bytes: &[u8]) -> i32
-    ensures { Says result (Turns h.old.hold.holds h.new.hold.holds (Feeds bytes.now))
+    ensures { StatusMeans result (Updates h.old.hold.holds h.new.hold.holds (Feeds bytes.now))
         (NotTaken bytes.now h.old.hold.holds h.new.hold.holds) }
 {
     status(calls::feed(alloc, h, bytes))
@@ -91,8 +91,8 @@ pub extern "C" fn n2k_frame(
     seconds: u64,
     nanoseconds: u32,
 ) -> i32
-    ensures { Says result
-        (Turns h.old.hold.holds h.new.hold.holds (FeedsFrame identifier payload.now seconds nanoseconds))
+    ensures { StatusMeans result
+        (Updates h.old.hold.holds h.new.hold.holds (FeedsFrame identifier payload.now seconds nanoseconds))
         (NotFramed identifier payload.now seconds nanoseconds h.old.hold.holds h.new.hold.holds) }
 {
     let frame = Frame {
@@ -107,7 +107,7 @@ pub extern "C" fn n2k_frame(
 /// Ends the log: its last line is taken, though no line feed ends it.
 #[unsafe(no_mangle)]
 pub extern "C" fn n2k_end(alloc: Global, h: &mut Handle) -> i32
-    ensures { Says result (Turns h.old.hold.holds h.new.hold.holds EndsLog)
+    ensures { StatusMeans result (Updates h.old.hold.holds h.new.hold.holds EndsLog)
         (NotTaken [] h.old.hold.holds h.new.hold.holds) }
 {
     status(calls::end(alloc, h))
@@ -116,8 +116,8 @@ pub extern "C" fn n2k_end(alloc: Global, h: &mut Handle) -> i32
 /// Moves the waiting output to a room, if it fits, and returns its size.
 #[unsafe(no_mangle)]
 pub extern "C" fn n2k_take(alloc: Global, h: &mut Handle, room: &mut [u8], size: &mut usize) -> i32
-    ensures { Says result (Fills room.old room.new size.new
-        × Turns h.old.hold.holds h.new.hold.holds (Prints (take size.new room.new)))
+    ensures { StatusMeans result (Fills room.old room.new size.new
+        × Updates h.old.hold.holds h.new.hold.holds (Prints (take size.new room.new)))
         (NotMoved (λ d. d.output.held) (room.old, size.old) (room.new, size.new) h.old.hold.holds h.new.hold.holds) }
 {
     status(calls::take(alloc, h, room, size))
@@ -126,8 +126,8 @@ pub extern "C" fn n2k_take(alloc: Global, h: &mut Handle, room: &mut [u8], size:
 /// Moves the line of the next message to a room, if it fits, and returns its size. If none waits it is empty.
 #[unsafe(no_mangle)]
 pub extern "C" fn n2k_next(alloc: Global, h: &mut Handle, room: &mut [u8], size: &mut usize) -> i32
-    ensures { Says result (Fills room.old room.new size.new
-        × Turns h.old.hold.holds h.new.hold.holds (PrintsNext (take size.new room.new)))
+    ensures { StatusMeans result (Fills room.old room.new size.new
+        × Updates h.old.hold.holds h.new.hold.holds (PrintsNext (take size.new room.new)))
         (NotMoved (λ d. first_line d.output.held) (room.old, size.old) (room.new, size.new) h.old.hold.holds h.new.hold.holds) }
 {
     status(calls::take_next(alloc, h, room, size))
@@ -141,8 +141,8 @@ pub extern "C" fn n2k_take_reports(
     room: &mut [u8],
     size: &mut usize,
 ) -> i32
-    ensures { Says result (Fills room.old room.new size.new
-        × Turns h.old.hold.holds h.new.hold.holds (Tells (take size.new room.new)))
+    ensures { StatusMeans result (Fills room.old room.new size.new
+        × Updates h.old.hold.holds h.new.hold.holds (TakesReports (take size.new room.new)))
         (NotMoved (λ d. d.reports.held) (room.old, size.old) (room.new, size.new) h.old.hold.holds h.new.hold.holds) }
 {
     status(calls::take_reports(alloc, h, room, size))
@@ -151,7 +151,7 @@ pub extern "C" fn n2k_take_reports(
 /// Counts the lines that were taken, those before a saved state too.
 #[unsafe(no_mangle)]
 pub extern "C" fn n2k_counts(alloc: Global, h: &mut Handle, counted: &mut Counted) -> i32
-    ensures { Says result (Turns h.old.hold.holds h.new.hold.holds (λ from to. (to ≡ from)
+    ensures { StatusMeans result (Updates h.old.hold.holds h.new.hold.holds (λ from to. (to ≡ from)
         × IsCounted counted.new from))
         (NotTold Counts counted.old counted.new h.old.hold.holds h.new.hold.holds) }
 {
@@ -161,7 +161,7 @@ pub extern "C" fn n2k_counts(alloc: Global, h: &mut Handle, counted: &mut Counte
 /// Tells how many bytes wait of a line that has not ended.
 #[unsafe(no_mangle)]
 pub extern "C" fn n2k_waiting(alloc: Global, h: &mut Handle, size: &mut usize) -> i32
-    ensures { Says result (Turns h.old.hold.holds h.new.hold.holds (λ from to. (to ≡ from) × Waits size.new from))
+    ensures { StatusMeans result (Updates h.old.hold.holds h.new.hold.holds (λ from to. (to ≡ from) × Waits size.new from))
         (NotTold ℕ size.old size.new h.old.hold.holds h.new.hold.holds) }
 {
     status(calls::waiting(alloc, h, size))
@@ -170,8 +170,8 @@ pub extern "C" fn n2k_waiting(alloc: Global, h: &mut Handle, size: &mut usize) -
 /// Puts the state after the lines that were taken into a room, if it fits, and returns its size.
 #[unsafe(no_mangle)]
 pub extern "C" fn n2k_save(alloc: Global, h: &mut Handle, room: &mut [u8], size: &mut usize) -> i32
-    ensures { Says result (Fills room.old room.new size.new
-        × Turns h.old.hold.holds h.new.hold.holds (λ from to. (to ≡ from) × IsStateOf (take size.new room.new) from))
+    ensures { StatusMeans result (Fills room.old room.new size.new
+        × Updates h.old.hold.holds h.new.hold.holds (λ from to. (to ≡ from) × IsStateOf (take size.new room.new) from))
         (NotSaved (room.old, size.old) (room.new, size.new) h.old.hold.holds h.new.hold.holds) }
 {
     status(calls::save(alloc, h, room, size))

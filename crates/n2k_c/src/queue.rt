@@ -89,11 +89,11 @@ impl Sink for Queue {
     ghost contents = { λ q. Some q.held };
 
     #[tactic(auto, using(crate::proofs::Queues::dropped_before, crate::proofs::Queues::all_taken))]
-    fn write(&mut self, piece: &[u8]) -> Result<usize, Failed> {
-        if self.bytes.extend_from_slice(piece).is_err() {
+    fn write(&mut self, chunk: &[u8]) -> Result<usize, Failed> {
+        if self.bytes.extend_from_slice(chunk).is_err() {
             self.failed_calls = self.failed_calls.saturating_add(1);
             return Err(Failed);
         }
-        Ok(piece.len())
+        Ok(chunk.len())
     }
 }

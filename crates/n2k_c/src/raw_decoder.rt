@@ -2,7 +2,7 @@
 ghost use Rattle.std.specs.Prelude.{◌≡◌, Option, Some, None, IsSome};
 ghost use Rattle.n2k_c.specs.declared.decoder.Decoder.{Decoder};
 ghost use Rattle.n2k_c.specs.contracts.decoder.Decoder.{the_row};
-ghost use Rattle.n2k_c.specs.Held.{owned_of};
+ghost use Rattle.n2k_c.specs.DecoderView.{owned_of};
 
 use crate::decoder::Decoder;
 use crate::raw_box::RawBox;

@@ -1,5 +1,5 @@
 pub mod Firsts
-pub mod Fronts
+pub mod Prefixes
 pub mod Near
 pub mod NoObjects
 pub mod Pieces

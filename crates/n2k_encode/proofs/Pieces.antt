@@ -17,12 +17,12 @@ is_empty-nil (b ∷ bs) e = absurd cc
 pub pieces_are : (piece : ℕ → List ℕ) (ns text : List ℕ) → has_pieces piece ns text ≡ true → text ≡ flat_map piece ns
 pieces_are piece [] text e = is_empty-nil text e
 pieces_are piece (n ∷ ns) text e =
-    let front = piece n in
-    elim (cases_Bool (bytes_eq (take (length front) text) front)) [
+    let prefix = piece n in
+    elim (cases_Bool (bytes_eq (take (length prefix) text) prefix)) [
       | inl same ↦
-          let rest : has_pieces piece ns (drop (length front) text) ≡ true = rw same at e in
-          let begins : take (length front) text ≡ front = same_text _ _ (sym same) in
-          sym (take-append-drop (length front) text) ∙ ap (λ (t : List ℕ). t ++ drop (length front) text) begins ∙ ap (λ (t : List ℕ). front ++ t) (pieces_are piece ns (drop (length front) text) rest)
+          let rest : has_pieces piece ns (drop (length prefix) text) ≡ true = rw same at e in
+          let begins : take (length prefix) text ≡ prefix = same_text _ _ (sym same) in
+          sym (take-append-drop (length prefix) text) ∙ ap (λ (t : List ℕ). t ++ drop (length prefix) text) begins ∙ ap (λ (t : List ℕ). prefix ++ t) (pieces_are piece ns (drop (length prefix) text) rest)
       | inr other ↦
           let none : false ≡ true = rw other at e in
           absurd cc

@@ -82,14 +82,14 @@ zeros_is : (ds : List ℕ) (w p pt y : ℕ) → length ds < w + 2 ^ 63 → IsPoi
 zeros_is ds w p pt y short at e = elim at [ inl same ↦ omega (arith, same, e) | inr far ↦ omega (arith, far.0, far.1, short, e) ]
 
 -- the whole part, or the limit if it is greater
-pub whole_found : (ds : List ℕ) (w p pt kept zeros front size : ℕ) → length ds < w + 2 ^ 63 → IsPoint w pt p → kept ≡ min pt (length ds) → zeros ≡ min (pt - length ds) 31
-    → front ≡ min (digits_value 10 (take kept ds)) (2 ^ 100) → size ≡ min (front * 10 ^ zeros) (2 ^ 100)
+pub whole_found : (ds : List ℕ) (w p pt kept zeros prefix size : ℕ) → length ds < w + 2 ^ 63 → IsPoint w pt p → kept ≡ min pt (length ds) → zeros ≡ min (pt - length ds) 31
+    → prefix ≡ min (digits_value 10 (take kept ds)) (2 ^ 100) → size ≡ min (prefix * 10 ^ zeros) (2 ^ 100)
     → size ≡ min (digits_value 10 (take p ds) * 10 ^ (p - length ds)) (2 ^ 100)
-whole_found ds w p pt kept zeros front size short at kept_e zeros_e front_e size_e =
+whole_found ds w p pt kept zeros prefix size short at kept_e zeros_e prefix_e size_e =
     let v = digits_value 10 (take p ds) in
     let digits : take kept ds ≡ take p ds = kept_digits ds p kept (kept_is ds w p pt kept short at kept_e) in
-    let front_is : front ≡ min v (2 ^ 100) = front_e ∙ ap (λ xs. min (digits_value 10 xs) (2 ^ 100)) digits in
-    size_e ∙ capped_first v front zeros (2 ^ 100) front_is ∙ zeros_capped v (p - length ds) zeros (zeros_is ds w p pt zeros short at zeros_e)
+    let prefix_is : prefix ≡ min v (2 ^ 100) = prefix_e ∙ ap (λ xs. min (digits_value 10 xs) (2 ^ 100)) digits in
+    size_e ∙ capped_first v prefix zeros (2 ^ 100) prefix_is ∙ zeros_capped v (p - length ds) zeros (zeros_is ds w p pt zeros short at zeros_e)
 
 -- a digit that is not 0 is left
 pub rest_found : (ds : List ℕ) (w p pt kept s : ℕ) → length ds < w + 2 ^ 63 → IsPoint w pt p → kept ≡ min pt (length ds) → kept ≤ s

@@ -3,7 +3,7 @@ use Rattle.std.specs.Prelude.{ℕ, zero, suc, ◌+◌, ◌-◌, ◌*◌, ◌/◌
 use Rattle.std.specs.Prelude.{List, [], ◌∷◌, length, slice_index, slice_set, bit_and, bit_or, Option, Some, None, option_map, if◌then◌else◌}
 use Rattle.n2k_table.specs.Bits.{has_bit}
 use Rattle.n2k_table.specs.Field.{FieldParts}
-use Rattle.n2k_table.specs.Strings.{data_behind}
+use Rattle.n2k_table.specs.Strings.{data_after}
 use Rattle.n2k_encode.specs.Value.{CodeParts, bits, bytes}
 
 -- a byte with bit i set or cleared
@@ -28,7 +28,7 @@ put_bytes payload a (b ∷ bs) = if nat_lt a (length payload) then put_bytes (sl
 
 -- the byte from which a field's place counts, if each string before it has an end
 abbrev pub start : FieldParts → List ℕ → Option ℕ
-start f payload = option_map (λ rest. length payload - length rest) (data_behind f.behind payload)
+start f payload = option_map (λ rest. length payload - length rest) (data_after f.after payload)
 
 -- data with a field that counts from byte s
 abbrev pub put_at : FieldParts → CodeParts → List ℕ → ℕ → List ℕ

@@ -46,7 +46,7 @@ slack nearest meaning = if nearest then half_unit meaning else 0
 
 -- the rest of a text that begins with these bytes
 abbrev pub after : List ℕ → List ℕ → Option (List ℕ)
-after front text = if bytes_eq (take (length front) text) front then Some (drop (length front) text) else None
+after prefix text = if bytes_eq (take (length prefix) text) prefix then Some (drop (length prefix) text) else None
 
 abbrev pub is_empty : List ℕ → Bool
 is_empty [] = true

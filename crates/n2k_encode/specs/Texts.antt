@@ -18,7 +18,7 @@ within (Some bs) = some_if (nat_le (length bs) most_bytes) bs
 
 -- these bytes before others
 abbrev pub before : List ℕ → Option (List ℕ) → Option (List ℕ)
-before front rest = option_map (λ bs. front ++ bs) rest
+before prefix rest = option_map (λ bs. prefix ++ bs) rest
 
 -- a byte for each character of a text in UTF-8, if each character is at most U+00FF
 abbrev mutual

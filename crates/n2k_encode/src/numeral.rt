@@ -34,7 +34,7 @@ fn without_sign(text: &[u8]) -> &[u8]
 }
 
 /// The number that the first digits make, or `LIMIT` if it is greater.
-fn front_value(whole: &[u8], fraction: &[u8], count: usize) -> u128
+fn prefix_value(whole: &[u8], fraction: &[u8], count: usize) -> u128
     requires digits { AllDigits 10 (whole.now ++ fraction.now) }
     requires within { count ≤ length whole.now + length fraction.now }
     ensures { result ≡ min (digits_value 10 (take count (whole.now ++ fraction.now))) (2 ^ 100) }
@@ -82,7 +82,7 @@ fn scaled_parts(numeral: &Numeral<'_>, shift: u16) -> Option<Magnitude>
     let point = point(numeral, shift);
     let kept = point.min(count as u128) as usize;
     let zeros = point.saturating_sub(count as u128).min(31) as u64;
-    let size = with_zeros(front_value(whole, fraction, kept), zeros);
+    let size = with_zeros(prefix_value(whole, fraction, kept), zeros);
     if size >= LIMIT {
         return None;
     }

@@ -68,10 +68,10 @@ fn slack(nearest: bool, field: &Field) -> u128
 }
 
 /// What is left of a text that begins with these bytes.
-fn after<'a>(front: &[u8], text: &'a [u8]) -> Option<&'a [u8]>
-    ensures { option_map (λ rest. rest.now) result ≡ after front.now text.now }
+fn after<'a>(prefix: &[u8], text: &'a [u8]) -> Option<&'a [u8]>
+    ensures { option_map (λ rest. rest.now) result ≡ after prefix.now text.now }
 {
-    text.strip_prefix(front)
+    text.strip_prefix(prefix)
 }
 
 /// What is left of a text that begins with this character.
@@ -108,12 +108,12 @@ fn has_wide(bytes: &[u8], text: &[u8]) -> bool
 {
     let mut rest = text;
     let mut left = bytes;
-    while let Some((letter, behind)) = split_character(left) {
+    while let Some((letter, following)) = split_character(left) {
         let Some(more) = after_character(letter, rest) else {
             return false;
         };
         rest = more;
-        left = behind;
+        left = following;
     }
     is_empty(rest)
 }

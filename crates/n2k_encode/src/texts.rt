@@ -24,14 +24,14 @@ fn push(byte: u8, bytes: &mut FieldBytes) -> Option<()>
 }
 
 /// A byte for each character of a text in UTF-8, if each is at most U+00FF.
-#[tactic(auto, using(crate::proofs::Fronts::front_rules))]
+#[tactic(auto, using(crate::proofs::Prefixes::prefix_rules))]
 pub(crate) fn latin1(text: &[u8]) -> Option<FieldBytes>
     ensures { option_map (λ bytes. bytes.items) result ≡ within (latin1 text.now) }
 {
     let mut bytes = FieldBytes::new();
     let mut rest = text;
-    while let [byte, behind @ ..] = rest {
-        rest = behind;
+    while let [byte, following @ ..] = rest {
+        rest = following;
         if *byte < 128 {
             push(*byte, &mut bytes)?;
             continue;
@@ -71,11 +71,11 @@ fn hex_byte(high: u8, low: u8) -> Option<u8>
 /// The bytes that pairs of upper hexadecimal digits with a space between them spell.
 pub(crate) fn hex_bytes(text: &[u8]) -> Option<FieldBytes> {
     let mut bytes = FieldBytes::new();
-    let [high, low, behind @ ..] = text else {
+    let [high, low, following @ ..] = text else {
         return if text.is_empty() { Some(bytes) } else { None };
     };
     push(hex_byte(*high, *low)?, &mut bytes)?;
-    let mut rest = behind;
+    let mut rest = following;
     while let [b' ', high, low, more @ ..] = rest {
         push(hex_byte(*high, *low)?, &mut bytes)?;
         rest = more;
@@ -105,25 +105,25 @@ fn digits_byte(high: u8, low: u8) -> Option<u8>
 pub(crate) fn digit_pairs(text: &[u8]) -> Option<FieldBytes> {
     let mut bytes = FieldBytes::new();
     let mut rest = text;
-    while let [high, low, behind @ ..] = rest {
+    while let [high, low, following @ ..] = rest {
         push(digits_byte(*high, *low)?, &mut bytes)?;
-        rest = behind;
+        rest = following;
     }
     if rest.is_empty() { Some(bytes) } else { None }
 }
 
 /// Bytes after others.
-fn joined(front: &[u8], rest: &[u8]) -> Option<FieldBytes>
-    ensures { option_map (λ bytes. bytes.items) result ≡ within (Some (front.now ++ rest.now)) }
+fn joined(prefix: &[u8], rest: &[u8]) -> Option<FieldBytes>
+    ensures { option_map (λ bytes. bytes.items) result ≡ within (Some (prefix.now ++ rest.now)) }
 {
     let mut bytes = FieldBytes::new();
-    bytes.try_extend_from_slice(front).ok()?;
+    bytes.try_extend_from_slice(prefix).ok()?;
     bytes.try_extend_from_slice(rest).ok()?;
     Some(bytes)
 }
 
 /// So many bytes FF.
-#[tactic(auto, using(crate::proofs::Fronts::fill_rules))]
+#[tactic(auto, using(crate::proofs::Prefixes::fill_rules))]
 pub(crate) fn ones(count: usize) -> FieldBytes
     requires { count ≤ most_bytes }
     ensures { result.items ≡ replicate count 255 }
@@ -137,7 +137,7 @@ pub(crate) fn ones(count: usize) -> FieldBytes
 }
 
 /// Bytes padded with FF to a length; none if they are longer.
-#[tactic(auto, using(crate::proofs::Fronts::fill_rules))]
+#[tactic(auto, using(crate::proofs::Prefixes::fill_rules))]
 pub(crate) fn filled(bytes: &[u8], length: usize) -> Option<FieldBytes>
     requires { length ≤ most_bytes }
     ensures { option_map (λ bytes. bytes.items) result ≡ filled length bytes.now }

@@ -20,21 +20,21 @@ use Rattle.n2k_run.specs.declared.fault.RunFault.TheVariants.{Memory, TooManyLin
 use Rattle.n2k_run.specs.Blocks.{HasNoFeed}
 use Rattle.n2k_run.specs.Inner.Block.{EndsAt}
 use Rattle.n2k_run.specs.Lines.{line_feed, lines, without_return}
-use Rattle.n2k_run.proofs.Answering.{lines_piece, lines_rest}
+use Rattle.n2k_run.proofs.Answering.{lines_chunk, lines_rest}
 use Rattle.n2k_run.proofs.Feeds.{is_plain}
-use Rattle.n2k_run.proofs.Fronts.{ends_feed}
+use Rattle.n2k_run.proofs.Prefixes.{ends_feed}
 use Rattle.n2k_run.proofs.Splits.{lines-append}
 use Rattle.n2k_encode_run.specs.declared.ledger.Ledger.{Ledger}
 use Rattle.n2k_encode_run.specs.Outcomes.{Outcome, skipped, encoded, refused, Gives, GiveAll, count_one, counts_after, report_of, reports_from, text_of, texts}
 use Rattle.n2k_encode_run.specs.Inner.Taking.{FeedsBytes, FeedsRest, TakesBytes, TakesLine, TakesLines, TakesMost, most_kept}
 
 -- a carriage return is one byte
-pub return_once : (piece : List ℕ) → length piece ≤ length (without_return piece) + 1
-return_once piece = grind (arith, length-take)
+pub return_once : (chunk : List ℕ) → length chunk ≤ length (without_return chunk) + 1
+return_once chunk = grind (arith, length-take)
 
 -- the prefix of a line can be cut from its kept prefix and the bytes after it
-pub front_of_front : (n : ℕ) (part more : List ℕ) → take n (take n part ++ more) ≡ take n (part ++ more)
-front_of_front n part more = elim (cases_lt n (length part)) [
+pub prefix_of_prefix : (n : ℕ) (part more : List ℕ) → take n (take n part ++ more) ≡ take n (part ++ more)
+prefix_of_prefix n part more = elim (cases_lt n (length part)) [
   | inl over ↦ take-append-le n (take n part) more (omega (arith, over, length-take n part)) ∙ take-take n n part (omega arith) ∙ sym (take-append-le n part more (omega (arith, over)))
   | inr within ↦ ap (λ p. take n (p ++ more)) (take_all n part within)
 ]
@@ -70,32 +70,32 @@ module _ (t : TableParts) (nearest : Bool) where
   gives_long line line' (refused c) long long' gives = elim gives [ inl g ↦ inl (long', g.1) | inr g ↦ absurd (omega (arith, long, g.0)) ]
 
   -- a line has the outcome of its kept prefix
-  pub gives_kept : (piece : List ℕ) (o : Outcome) → Gives t nearest (without_return (take most_kept piece)) o → Gives t nearest (without_return piece) o
-  gives_kept piece o gives = elim (cases_lt most_kept (length piece)) [
-    | inl over ↦ gives_long (without_return (take most_kept piece)) (without_return piece) o (omega (arith, over, return_once (take most_kept piece), length-take most_kept piece)) (omega (arith, over, return_once piece)) gives
-    | inr within ↦ subst (λ k. Gives t nearest (without_return k) o) (take_all most_kept piece within) gives
+  pub gives_kept : (chunk : List ℕ) (o : Outcome) → Gives t nearest (without_return (take most_kept chunk)) o → Gives t nearest (without_return chunk) o
+  gives_kept chunk o gives = elim (cases_lt most_kept (length chunk)) [
+    | inl over ↦ gives_long (without_return (take most_kept chunk)) (without_return chunk) o (omega (arith, over, return_once (take most_kept chunk), length-take most_kept chunk)) (omega (arith, over, return_once chunk)) gives
+    | inr within ↦ subst (λ k. Gives t nearest (without_return k) o) (take_all most_kept chunk within) gives
   ]
 
-  one_kept : (piece : List ℕ) (os : List Outcome) → GiveAll t nearest (without_return (take most_kept piece) ∷ []) os → GiveAll t nearest (without_return piece ∷ []) os
-  one_kept piece [] given = absurd given
-  one_kept piece (o ∷ []) given = (gives_kept piece o given.0, given.1)
-  one_kept piece (o ∷ p ∷ os) given = absurd given.1
+  one_kept : (chunk : List ℕ) (os : List Outcome) → GiveAll t nearest (without_return (take most_kept chunk) ∷ []) os → GiveAll t nearest (without_return chunk ∷ []) os
+  one_kept chunk [] given = absurd given
+  one_kept chunk (o ∷ []) given = (gives_kept chunk o given.0, given.1)
+  one_kept chunk (o ∷ p ∷ os) given = absurd given.1
 
-  takes_kept : (kept piece : List ℕ) (l l' : Ledger) → kept ≡ take most_kept piece → TakesLines t nearest (without_return kept ∷ []) l l' → TakesLines t nearest (without_return piece ∷ []) l l'
-  takes_kept kept piece l l' is takes = record {
+  takes_kept : (kept chunk : List ℕ) (l l' : Ledger) → kept ≡ take most_kept chunk → TakesLines t nearest (without_return kept ∷ []) l l' → TakesLines t nearest (without_return chunk ∷ []) l l'
+  takes_kept kept chunk l l' is takes = record {
     outcomes = takes.outcomes;
-    given = one_kept piece takes.outcomes (subst (λ k. GiveAll t nearest (without_return k ∷ []) takes.outcomes) is takes.given);
+    given = one_kept chunk takes.outcomes (subst (λ k. GiveAll t nearest (without_return k ∷ []) takes.outcomes) is takes.given);
     counted = takes.counted;
     text_is = takes.text_is;
     report_is = takes.report_is;
   }
 
   -- so does its result
-  pub takes_line_kept : (kept piece : List ℕ) (l l' : Ledger) (r : Result (Unit {0}) RunFault) → kept ≡ take most_kept piece → TakesLine t nearest (without_return kept) l l' r → TakesLine t nearest (without_return piece) l l' r
-  takes_line_kept kept piece l l' (Ok x) is takes = takes_kept kept piece l l' is takes
-  takes_line_kept kept piece l l' (Err TooManyLines) is takes = takes
-  takes_line_kept kept piece l l' (Err Memory) is takes = takes
-  takes_line_kept kept piece l l' (Err _) is takes = absurd takes
+  pub takes_line_kept : (kept chunk : List ℕ) (l l' : Ledger) (r : Result (Unit {0}) RunFault) → kept ≡ take most_kept chunk → TakesLine t nearest (without_return kept) l l' r → TakesLine t nearest (without_return chunk) l l' r
+  takes_line_kept kept chunk l l' (Ok x) is takes = takes_kept kept chunk l l' is takes
+  takes_line_kept kept chunk l l' (Err TooManyLines) is takes = takes
+  takes_line_kept kept chunk l l' (Err Memory) is takes = takes
+  takes_line_kept kept chunk l l' (Err _) is takes = absurd takes
 
   pub takes_none : (l : Ledger) → TakesLines t nearest [] l l
   takes_none l = record {
@@ -120,57 +120,57 @@ module _ (t : TableParts) (nearest : Bool) where
 
   module _ (part bytes : List ℕ) where
     pub feed_begins : (kept : List ℕ) (l : Ledger) → HasNoFeed part → kept ≡ take most_kept part → TakesBytes t nearest part bytes bytes kept l l
-    feed_begins kept l none is = record { front = []; rest = part; split = refl; ends = λ some. absurd (omega (arith, some)); no_feed = none; kept_is = is; taken = takes_none l }
+    feed_begins kept l none is = record { prefix = []; rest = part; split = refl; ends = λ some. absurd (omega (arith, some)); no_feed = none; kept_is = is; taken = takes_none l }
 
     -- the kept prefix of a line that ends
     pub line_kept : (left kept mid : List ℕ) (size : ℕ) (l l' : Ledger) (fed : TakesBytes t nearest part bytes left kept l l') → mid ≡ take most_kept (kept ++ take size left) → mid ≡ take most_kept (fed.rest ++ take size left)
-    line_kept left kept mid size l l' fed is = is ∙ ap (λ k. take most_kept (k ++ take size left)) fed.kept_is ∙ front_of_front most_kept fed.rest (take size left)
+    line_kept left kept mid size l l' fed is = is ∙ ap (λ k. take most_kept (k ++ take size left)) fed.kept_is ∙ prefix_of_prefix most_kept fed.rest (take size left)
 
     -- a line more ends
     pub feeds_line : (left kept mid kept' : List ℕ) (size : ℕ) (l l' l'' : Ledger) → TakesBytes t nearest part bytes left kept l l' → EndsAt left size → mid ≡ take most_kept (kept ++ take size left) → kept' ≡ []
-        → ((piece : List ℕ) → mid ≡ take most_kept piece → TakesLines t nearest (without_return piece ∷ []) l' l'') → TakesBytes t nearest part bytes (drop (size + 1) left) kept' l l''
+        → ((chunk : List ℕ) → mid ≡ take most_kept chunk → TakesLines t nearest (without_return chunk ∷ []) l' l'') → TakesBytes t nearest part bytes (drop (size + 1) left) kept' l l''
     feeds_line left kept mid kept' size l l' l'' fed at is none takes =
-        let piece : List ℕ = fed.rest ++ take size left in
-        let line : List ℕ = piece ++ (10 ∷ []) in
+        let chunk : List ℕ = fed.rest ++ take size left in
+        let line : List ℕ = chunk ++ (10 ∷ []) in
         let rest : List ℕ = drop (size + 1) left in
-        let plain : HasNoFeed piece = All-append is_plain fed.rest (take size left) fed.no_feed at.no_feed in
-        let mid_is : mid ≡ take most_kept piece = line_kept left kept mid size l l' fed is in
-        let one : lines (fed.front ++ line) ≡ lines fed.front ++ (without_return piece ∷ []) = lines-append fed.front line fed.ends ∙ ap (λ ls. lines fed.front ++ ls) (lines_piece piece [] plain) in
+        let plain : HasNoFeed chunk = All-append is_plain fed.rest (take size left) fed.no_feed at.no_feed in
+        let mid_is : mid ≡ take most_kept chunk = line_kept left kept mid size l l' fed is in
+        let one : lines (fed.prefix ++ line) ≡ lines fed.prefix ++ (without_return chunk ∷ []) = lines-append fed.prefix line fed.ends ∙ ap (λ ls. lines fed.prefix ++ ls) (lines_chunk chunk [] plain) in
         record {
-          front = fed.front ++ line;
+          prefix = fed.prefix ++ line;
           rest = [];
-          split = fed.split ∙ ap (λ b. fed.front ++ (fed.rest ++ b)) at.split ∙ ap (λ b. fed.front ++ b) (sym (append_assoc fed.rest (take size left) (10 ∷ rest)) ∙ sym (append_assoc piece (10 ∷ []) rest)) ∙ sym (append_assoc fed.front line rest);
-          ends = subst (λ b. IsEmptyOrEndsWith b line_feed) (append_assoc fed.front piece (10 ∷ [])) (ends_feed (fed.front ++ piece));
+          split = fed.split ∙ ap (λ b. fed.prefix ++ (fed.rest ++ b)) at.split ∙ ap (λ b. fed.prefix ++ b) (sym (append_assoc fed.rest (take size left) (10 ∷ rest)) ∙ sym (append_assoc chunk (10 ∷ []) rest)) ∙ sym (append_assoc fed.prefix line rest);
+          ends = subst (λ b. IsEmptyOrEndsWith b line_feed) (append_assoc fed.prefix chunk (10 ∷ [])) (ends_feed (fed.prefix ++ chunk));
           no_feed = λ k d below. absurd (omega (arith, below));
           kept_is = none ∙ sym (take_all most_kept [] (omega arith));
-          taken = subst (λ ls. TakesLines t nearest ls l l'') (sym one) (takes_more _ _ l l' l'' fed.taken (takes piece mid_is));
+          taken = subst (λ ls. TakesLines t nearest ls l l'') (sym one) (takes_more _ _ l l' l'' fed.taken (takes chunk mid_is));
         }
 
     -- the bytes after the last line are kept
     pub feeds_end : (left kept kept' : List ℕ) (l l' : Ledger) → TakesBytes t nearest part bytes left kept l l' → HasNoFeed left → kept' ≡ take most_kept (kept ++ left) → TakesBytes t nearest part bytes [] kept' l l'
     feeds_end left kept kept' l l' fed none is = record {
-      front = fed.front;
+      prefix = fed.prefix;
       rest = fed.rest ++ left;
-      split = fed.split ∙ ap (λ b. fed.front ++ b) (sym (append-nil (fed.rest ++ left)));
+      split = fed.split ∙ ap (λ b. fed.prefix ++ b) (sym (append-nil (fed.rest ++ left)));
       ends = fed.ends;
       no_feed = All-append is_plain fed.rest left fed.no_feed none;
-      kept_is = is ∙ ap (λ k. take most_kept (k ++ left)) fed.kept_is ∙ front_of_front most_kept fed.rest left;
+      kept_is = is ∙ ap (λ k. take most_kept (k ++ left)) fed.kept_is ∙ prefix_of_prefix most_kept fed.rest left;
       taken = fed.taken;
     }
 
     -- its fault, if more bytes are left
-    pub feeds_fault : (left kept kept' : List ℕ) (size : ℕ) (piece : List ℕ) (l l' l'' : Ledger) (fault : RunFault) → TakesBytes t nearest part bytes left kept l l' → EndsAt left size → TakesLine {T = Unit {0}} t nearest piece l' l'' (Err fault) → FeedsBytes {T = Unit {0}} t nearest part bytes kept' l l'' (Err fault)
-    feeds_fault left kept kept' size piece l l' l'' TooManyLines fed at most = record {
-      front = fed.front;
+    pub feeds_fault : (left kept kept' : List ℕ) (size : ℕ) (chunk : List ℕ) (l l' l'' : Ledger) (fault : RunFault) → TakesBytes t nearest part bytes left kept l l' → EndsAt left size → TakesLine {T = Unit {0}} t nearest chunk l' l'' (Err fault) → FeedsBytes {T = Unit {0}} t nearest part bytes kept' l l'' (Err fault)
+    feeds_fault left kept kept' size chunk l l' l'' TooManyLines fed at most = record {
+      prefix = fed.prefix;
       more = fed.rest ++ left;
       split = fed.split;
       ends = fed.ends;
       some = omega (arith, length-append fed.rest left, at.within);
       full = ap (λ (k : Ledger). k.counts.lines) most.0 ∙ most.1;
-      taken = subst (TakesLines t nearest (lines fed.front) l) (sym most.0) fed.taken;
+      taken = subst (TakesLines t nearest (lines fed.prefix) l) (sym most.0) fed.taken;
     }
-    feeds_fault left kept kept' size piece l l' l'' Memory fed at takes = tt
-    feeds_fault left kept kept' size piece l l' l'' _ fed at takes = absurd takes
+    feeds_fault left kept kept' size chunk l l' l'' Memory fed at takes = tt
+    feeds_fault left kept kept' size chunk l l' l'' _ fed at takes = absurd takes
 
   -- the part of a line at the end is a line
   pub rest_line : (part kept : List ℕ) (l l' : Ledger) → HasNoFeed part → kept ≡ take most_kept part → 0 < length kept → TakesLines t nearest (without_return part ∷ []) l l' → TakesLines t nearest (lines part) l l'

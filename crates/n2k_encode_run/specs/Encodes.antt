@@ -10,7 +10,7 @@ use Rattle.n2k_run.specs.declared.fault.RunFault.TheVariants.{Read, Write, Repor
 use Rattle.n2k_run.specs.Lines.{line_feed, lines, whole_lines}
 use Rattle.n2k_run.specs.Reading.{ReadsBytes}
 use Rattle.n2k_run.specs.Runs.{Devices, IsOfDevice}
-use Rattle.n2k_run.specs.Writing.{AppendsFront}
+use Rattle.n2k_run.specs.Writing.{AppendsPrefix}
 use Rattle.n2k_encode_run.specs.Outcomes.{Outcome, GiveAll, counts_of, reports_from, texts}
 
 -- The lines of these bytes were taken: each gave its outcome, the output has gained exactly their texts and the errors
@@ -39,13 +39,13 @@ pub record IsCut (t : TableParts) (nearest : Bool) (before after : Devices) (cou
 
 -- after TooManyLines: the line limit is reached, and more bytes follow
 pub record IsFull (t : TableParts) (nearest : Bool) (before after : Devices) (counts : Counts) : Type 0 where
-  pub front : List ℕ
+  pub prefix : List ℕ
   pub more : List ℕ
-  pub given : Consumes before.left after.left (front ++ more)
-  pub ends : IsEmptyOrEndsWith front line_feed
+  pub given : Consumes before.left after.left (prefix ++ more)
+  pub ends : IsEmptyOrEndsWith prefix line_feed
   pub some : 0 < length more
   pub full : counts.lines ≡ most_lines
-  pub taken : Takes t nearest before after counts front
+  pub taken : Takes t nearest before after counts prefix
 
 -- After Write, Report and Memory: the errors have gained all reports up to some line, and perhaps a prefix of the later
 -- ones. The output has gained a prefix of the texts up to that line: no text is written if the report of its own line
@@ -56,9 +56,9 @@ pub record BreaksOff (t : TableParts) (nearest : Bool) (before after : Devices) 
   pub reported_of : List Outcome
   pub others : List Outcome
   pub given : GiveAll t nearest taken (reported_of ++ others)
-  pub printed : AppendsFront before.written after.written (texts reported_of)
+  pub printed : AppendsPrefix before.written after.written (texts reported_of)
   pub reported : (more : List ℕ) × Appends before.reported after.reported (reports_from 1 reported_of ++ more)
-  pub report_front : AppendsFront before.reported after.reported (reports_from 1 (reported_of ++ others))
+  pub report_prefix : AppendsPrefix before.reported after.reported (reports_from 1 (reported_of ++ others))
 
 -- how a run ends
 abbrev pub EncodingEnds : {T : Type 0} → TableParts → Bool → Devices → Devices → Counts → Result T RunFault → Type 0

@@ -90,8 +90,8 @@ impl Encoder<'_> {
     /// Takes the kept line, which is complete.
     fn take_kept(&self, room: &mut Room, ledger: &mut Ledger) -> Result<(), RunFault>
         requires { AreCounts ledger.old.counts }
-        ensures taken { (piece : List ℕ) → room.old.kept.items ≡ take most_kept piece
-            → TakesLine self.now.table.now self.now.nearest (without_return piece) ledger.old ledger.new result }
+        ensures taken { (chunk : List ℕ) → room.old.kept.items ≡ take most_kept chunk
+            → TakesLine self.now.table.now self.now.nearest (without_return chunk) ledger.old ledger.new result }
         ensures counts { OnOk result (AreCounts ledger.new.counts) }
         ensures none_kept { room.new.kept.items ≡ [] }
     {

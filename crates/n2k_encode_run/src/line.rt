@@ -33,12 +33,12 @@ pub(crate) fn split_line(bytes: &[u8], end: usize) -> (&[u8], &[u8])
 }
 
 /// The bytes without one carriage return at their end.
-pub(crate) fn without_return(piece: &[u8]) -> &[u8]
-    ensures { result.now ≡ without_return piece.now }
+pub(crate) fn without_return(chunk: &[u8]) -> &[u8]
+    ensures { result.now ≡ without_return chunk.now }
 {
-    match piece {
+    match chunk {
         [line @ .., RETURN] => line,
-        _ => piece,
+        _ => chunk,
     }
 }
 

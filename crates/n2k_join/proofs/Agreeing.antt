@@ -21,7 +21,7 @@ use Rattle.n2k_join.proofs.Cuts.{next, so_far, within-ends}
 use Rattle.n2k_join.proofs.Held.{carried-kept}
 use Rattle.n2k_join.proofs.Given.{completed, keyed, gathered-last, gathered-none, message_by}
 use Rattle.n2k_join.proofs.Opened.{IsFine, so_far-fine, numbers_of_key, found-open, open_of-so_far, ends-kept, complete-kept, complete-kept_push}
-use Rattle.n2k_join.proofs.Overdue.{told-waiting, told-front, runs_out-past, runs_out-now, breaks-past, breaks-now, none-run_out, next-waiting}
+use Rattle.n2k_join.proofs.Overdue.{told-waiting, told-prefix, runs_out-past, runs_out-now, breaks-past, breaks-now, none-run_out, next-waiting}
 use Rattle.n2k_join.proofs.Resumed.{open_groups-open}
 use Rattle.n2k_join.proofs.Rising.{range-push, all-map, all-zip}
 use Rattle.n2k_join.proofs.Logs.{frames-log, frames-push, entry_at-last, message-before, broken-before, sum_by-range}
@@ -97,7 +97,7 @@ module _ (w : Window) (some : 0 < w.lines) (kind : ℕ → Option Kind) (es : Li
       (last-alone i)
       ((ap (λ fs. broken_with w fs (n + 1)) fs ∙ broken-none w some n (frames kind es) log
       ∙ told-waiting w some n t (open_groups (within w) n (frames kind es)) (λ o past. runs_out-past w some n o past)
-      ∙ told-front w some n 1 t log_groups (all-map (λ (g : Group). is_waiting w n g ≡ true) (λ (g : Group). is_waiting w (n + 1) g ≡ false → t g ≡ true) log_groups (λ o now next. runs_out-now w some n o now next) log-wait) log-open.rise
+      ∙ told-prefix w some n 1 t log_groups (all-map (λ (g : Group). is_waiting w n g ≡ true) (λ (g : Group). is_waiting w (n + 1) g ≡ false → t g ≡ true) log_groups (λ o now next. runs_out-now w some n o now next) log-wait) log-open.rise
       ∙ ap (λ bs. map as_broken (ended w (n + 1) log_groups) ++ bs) (none-run_out w some (n + 1) log_kept (all-waiting w (n + 1) log_groups))
       ∙ append-nil (map as_broken (ended w (n + 1) log_groups))) i)
 
@@ -131,7 +131,7 @@ module _ (w : Window) (some : 0 < w.lines) (kind : ℕ → Option Kind) (es : Li
       let broken_is : broken_with w (frames kind (es ++ e ∷ [])) (n + 1) ≡ map as_broken (ended w (n + 1) log_groups) ++ filter_map (told_if w some t) log_kept =
       ap (λ fs. broken_with w fs (n + 1)) fs ∙ broken-last w some n (frames kind es) x log only.line
       ∙ told-waiting w some n t all (λ o p. breaks-past w some n x o only.line p)
-      ∙ told-front w some n 1 t log_groups
+      ∙ told-prefix w some n 1 t log_groups
       (all-map (λ (g : Group). IsOpen g × (is_waiting w n g ≡ true)) (λ (g : Group). is_waiting w (n + 1) g ≡ false → t g ≡ true) log_groups (λ o h next. breaks-now w some n x o only.line h.0 h.1 next) (all-zip IsOpen (λ (g : Group). is_waiting w n g ≡ true) log_groups log-open.each log-wait))
       log-open.rise in
       (λ i. given_of (gathered_is i) ((last-alone ∙ only.alone) i) (broken_is i))

@@ -116,11 +116,11 @@ settles w kind ms es scattered k =
     )) xs gs falls.each in
     let whole : AllByRecursion (IsStretch (within w)) gs =
     zip-all Fits (IsStretch (within w)) (λ x g is. as_stretch (within w) x g is.0 is.1) xs gs on in
-    let cut_is : cut (within w) fs ≡ gs = ap (cut (within w)) falls.one_behind_the_other ∙ cut_stretches (within w) gs whole in
-    let rise : RiseFrom 1 (all_frames gs) = subst (RiseFrom 1) falls.one_behind_the_other (key-rise kind es k) in
+    let cut_is : cut (within w) fs ≡ gs = ap (cut (within w)) falls.one_after_the_other ∙ cut_stretches (within w) gs whole in
+    let rise : RiseFrom 1 (all_frames gs) = subst (RiseFrom 1) falls.one_after_the_other (key-rise kind es k) in
     let Stand : List Frame → Type 0 = AllByRecursion (StandsAt (frames kind es) k) in
     let standing : AllByRecursion Stand gs =
-    all-joined (StandsAt (frames kind es) k) gs (subst Stand falls.one_behind_the_other (stand kind es k)) in
+    all-joined (StandsAt (frames kind es) k) gs (subst Stand falls.one_after_the_other (stand kind es k)) in
     let nonempty : AllByRecursion IsGroup gs = all-map (IsStretch (within w)) IsGroup gs (λ g is. is.nonempty) whole in
     let both = all-zip Stand (IsDone gs) gs standing (done_found 1 gs nonempty rise) in
     record {

@@ -22,47 +22,47 @@ unfolding fast_frame
 bad-nothing kind e bad = grind arith
 
 module _ (w : Window) (kind : ℕ → Option Kind) (e : Entry) (nothing : IsNothing kind e) where
-  frames_from-same : (n : ℕ) (front back : List Entry) → frames_from kind n (front ++ e ∷ back) ≡ frames_from kind n (front ++ entries.Skip ∷ back)
+  frames_from-same : (n : ℕ) (prefix back : List Entry) → frames_from kind n (prefix ++ e ∷ back) ≡ frames_from kind n (prefix ++ entries.Skip ∷ back)
   frames_from-same n [] back = ap (λ o. cons_option o (frames_from kind (n + 1) back)) (nothing.no_frame n)
-  frames_from-same n (f ∷ front) back = ap (cons_option (frame_in kind n f)) (frames_from-same (n + 1) front back)
+  frames_from-same n (f ∷ prefix) back = ap (cons_option (frame_in kind n f)) (frames_from-same (n + 1) prefix back)
 
-  alone-same : (front back : List Entry) (i : ℕ) → option_and_then (alone kind) (slice_get (front ++ e ∷ back) i) ≡ option_and_then (alone kind) (slice_get (front ++ entries.Skip ∷ back) i)
+  alone-same : (prefix back : List Entry) (i : ℕ) → option_and_then (alone kind) (slice_get (prefix ++ e ∷ back) i) ≡ option_and_then (alone kind) (slice_get (prefix ++ entries.Skip ∷ back) i)
   alone-same [] back zero = nothing.no_message
   alone-same [] back (suc i) = refl
-  alone-same (f ∷ front) back zero = refl
-  alone-same (f ∷ front) back (suc i) = alone-same front back i
+  alone-same (f ∷ prefix) back zero = refl
+  alone-same (f ∷ prefix) back (suc i) = alone-same prefix back i
 
-  message-same : (front back : List Entry) (i : ℕ) → message w kind (front ++ e ∷ back) i ≡ message w kind (front ++ entries.Skip ∷ back) i
-  message-same front back i = grind (arith, frames_from-same, alone-same)
+  message-same : (prefix back : List Entry) (i : ℕ) → message w kind (prefix ++ e ∷ back) i ≡ message w kind (prefix ++ entries.Skip ∷ back) i
+  message-same prefix back i = grind (arith, frames_from-same, alone-same)
 
-  broken-same : (front back : List Entry) (i : ℕ) → broken w kind (front ++ e ∷ back) i ≡ broken w kind (front ++ entries.Skip ∷ back) i
-  broken-same front back i = ap (λ fs. broken_with w fs i) (frames_from-same 1 front back)
+  broken-same : (prefix back : List Entry) (i : ℕ) → broken w kind (prefix ++ e ∷ back) i ≡ broken w kind (prefix ++ entries.Skip ∷ back) i
+  broken-same prefix back i = ap (λ fs. broken_with w fs i) (frames_from-same 1 prefix back)
 
-  length-same : (front back : List Entry) → length (front ++ e ∷ back) ≡ length (front ++ entries.Skip ∷ back)
-  length-same front back = length-append front (e ∷ back) ∙ sym (length-append front (entries.Skip ∷ back))
+  length-same : (prefix back : List Entry) → length (prefix ++ e ∷ back) ≡ length (prefix ++ entries.Skip ∷ back)
+  length-same prefix back = length-append prefix (e ∷ back) ∙ sym (length-append prefix (entries.Skip ∷ back))
 
   -- the count of a list of entries is the sum of the counts before, of and after this entry
-  count-with : (p : Entry → Bool) (x : Entry) (front back : List Entry) → count_by p (front ++ x ∷ back) ≡ count_by p front + (cond (p x) 1 0 + count_by p back)
-  count-with p x front back = sum_by-append (λ x. cond (p x) 1 0) front (x ∷ back) ∙ ap (λ n. count_by p front + n) (sum_by-cons (λ x. cond (p x) 1 0) x back)
+  count-with : (p : Entry → Bool) (x : Entry) (prefix back : List Entry) → count_by p (prefix ++ x ∷ back) ≡ count_by p prefix + (cond (p x) 1 0 + count_by p back)
+  count-with p x prefix back = sum_by-append (λ x. cond (p x) 1 0) prefix (x ∷ back) ∙ ap (λ n. count_by p prefix + n) (sum_by-cons (λ x. cond (p x) 1 0) x back)
 
-  count-same : (p : Entry → Bool) (front back : List Entry) → p e ≡ p entries.Skip → count_by p (front ++ e ∷ back) ≡ count_by p (front ++ entries.Skip ∷ back)
-  count-same p front back same = grind (arith, count-with)
+  count-same : (p : Entry → Bool) (prefix back : List Entry) → p e ≡ p entries.Skip → count_by p (prefix ++ e ∷ back) ≡ count_by p (prefix ++ entries.Skip ∷ back)
+  count-same p prefix back same = grind (arith, count-with)
 
-  count-one : (p : Entry → Bool) (front back : List Entry) → p e ≡ true → p entries.Skip ≡ false → count_by p (front ++ e ∷ back) ≡ count_by p (front ++ entries.Skip ∷ back) + 1
-  count-one p front back counts_it not_skip = grind (arith, count-with)
+  count-one : (p : Entry → Bool) (prefix back : List Entry) → p e ≡ true → p entries.Skip ≡ false → count_by p (prefix ++ e ∷ back) ≡ count_by p (prefix ++ entries.Skip ∷ back) + 1
+  count-one p prefix back counts_it not_skip = grind (arith, count-with)
 
-  open-same : (front back : List Entry) → open_within w (length (front ++ e ∷ back)) (frames kind (front ++ e ∷ back)) ≡ open_within w (length (front ++ entries.Skip ∷ back)) (frames kind (front ++ entries.Skip ∷ back))
-  open-same front back = λ i. open_within w (length-same front back i) (frames_from-same 1 front back i)
+  open-same : (prefix back : List Entry) → open_within w (length (prefix ++ e ∷ back)) (frames kind (prefix ++ e ∷ back)) ≡ open_within w (length (prefix ++ entries.Skip ∷ back)) (frames kind (prefix ++ entries.Skip ∷ back))
+  open-same prefix back = λ i. open_within w (length-same prefix back i) (frames_from-same 1 prefix back i)
 
-  counts-same : (front back : List Entry) → is_some (cause_in kind e) ≡ true → counts w kind (front ++ e ∷ back) ≡ record (counts w kind (front ++ entries.Skip ∷ back)) { bad = (counts w kind (front ++ entries.Skip ∷ back)).bad + 1 }
-  counts-same front back bad = λ i. record {
-    lines = length-same front back i;
-    messages = count_by (λ line. is_some (message-same front back line i)) (range_with_len 1 (length-same front back i));
-    bad = count-one (λ e. is_some (cause_in kind e)) front back bad refl i;
-    unknown = count-same (is_unknown kind) front back nothing.known i;
-    broken = sum_by (λ line. length (broken-same front back line i)) (range_with_len 1 (length-same front back i));
-    held = length (open-same front back i);
+  counts-same : (prefix back : List Entry) → is_some (cause_in kind e) ≡ true → counts w kind (prefix ++ e ∷ back) ≡ record (counts w kind (prefix ++ entries.Skip ∷ back)) { bad = (counts w kind (prefix ++ entries.Skip ∷ back)).bad + 1 }
+  counts-same prefix back bad = λ i. record {
+    lines = length-same prefix back i;
+    messages = count_by (λ line. is_some (message-same prefix back line i)) (range_with_len 1 (length-same prefix back i));
+    bad = count-one (λ e. is_some (cause_in kind e)) prefix back bad refl i;
+    unknown = count-same (is_unknown kind) prefix back nothing.known i;
+    broken = sum_by (λ line. length (broken-same prefix back line i)) (range_with_len 1 (length-same prefix back i));
+    held = length (open-same prefix back i);
   }
 
-pub bad_alone : (w : Window) (kind : ℕ → Option Kind) (front : List Entry) (e : Entry) (back : List Entry) → is_some (cause_in kind e) ≡ true → BadAlone w kind front e back
-bad_alone w kind front e back bad = grind (arith, bad-nothing, message-same, broken-same, open-same, counts-same)
+pub bad_alone : (w : Window) (kind : ℕ → Option Kind) (prefix : List Entry) (e : Entry) (back : List Entry) → is_some (cause_in kind e) ≡ true → BadAlone w kind prefix e back
+bad_alone w kind prefix e back bad = grind (arith, bad-nothing, message-same, broken-same, open-same, counts-same)

@@ -37,18 +37,18 @@ window_repeats w = record { repeated = λ g x e. or_left (misfits w g x) (is_lat
 
 -- ---- the first group
 
-is_last : (ends : EndTest) (f : Frame) (front rest : List Frame) → HasEnded ends (f ∷ front) rest → cut_from ends (f ∷ front) rest ≡ (f ∷ front) ∷ cut ends rest
+is_last : (ends : EndTest) (f : Frame) (prefix rest : List Frame) → HasEnded ends (f ∷ prefix) rest → cut_from ends (f ∷ prefix) rest ≡ (f ∷ prefix) ∷ cut ends rest
 unfolding cut
-is_last ends f front [] ended = refl
-is_last ends f front (x ∷ rest) ended = ap (λ b. cond b ((f ∷ front) ∷ cut_from ends (x ∷ []) rest) (cut_from ends ((f ∷ front) ++ x ∷ []) rest)) ended
+is_last ends f prefix [] ended = refl
+is_last ends f prefix (x ∷ rest) ended = ap (λ b. cond b ((f ∷ prefix) ∷ cut_from ends (x ∷ []) rest) (cut_from ends ((f ∷ prefix) ++ x ∷ []) rest)) ended
 
 -- no shorter prefix of a group has ended
 abbrev NoneEnds : EndTest → List Frame → Type 0
-NoneEnds ends group = (f g : Frame) (front back : List Frame) → group ≡ (f ∷ front) ++ (g ∷ back) → closes ends (f ∷ front) g ≡ false
+NoneEnds ends group = (f g : Frame) (prefix back : List Frame) → group ≡ (f ∷ prefix) ++ (g ∷ back) → closes ends (f ∷ prefix) g ≡ false
 
-goes_on : (ends : EndTest) (f : Frame) (front more rest group : List Frame) → group ≡ (f ∷ front) ++ more → NoneEnds ends group → HasEnded ends group rest → cut_from ends (f ∷ front) (more ++ rest) ≡ group ∷ cut ends rest
-goes_on ends f front [] rest group e none ended = grind (arith, append-nil, is_last)
-goes_on ends f front (x ∷ more) rest group e none ended = grind (arith, goes_on ends f (front ++ x ∷ []) more rest group (e ∙ sym (append_assoc (f ∷ front) (x ∷ []) more)) none ended)
+goes_on : (ends : EndTest) (f : Frame) (prefix more rest group : List Frame) → group ≡ (f ∷ prefix) ++ more → NoneEnds ends group → HasEnded ends group rest → cut_from ends (f ∷ prefix) (more ++ rest) ≡ group ∷ cut ends rest
+goes_on ends f prefix [] rest group e none ended = grind (arith, append-nil, is_last)
+goes_on ends f prefix (x ∷ more) rest group e none ended = grind (arith, goes_on ends f (prefix ++ x ∷ []) more rest group (e ∙ sym (append_assoc (f ∷ prefix) (x ∷ []) more)) none ended)
 
 pub first_follows : (ends : EndTest) (fs group rest : List Frame) → IsFirstGroup ends fs group rest → cut ends fs ≡ group ∷ cut ends rest
 unfolding cut
@@ -72,23 +72,23 @@ last_or_none (x ∷ xs) = by (last_or_none xs)
     by (inl e) = inr (record { before = []; last = x; is = ap (λ t. x ∷ t) e })
     by (inr h) = inr (record { before = x ∷ h.before; last = h.last; is = ap (λ t. x ∷ t) h.is })
 
-none_more : (ends : EndTest) (f : Frame) (front : List Frame) (x : Frame) → NoneEnds ends (f ∷ front) → closes ends (f ∷ front) x ≡ false → NoneEnds ends ((f ∷ front) ++ x ∷ [])
-none_more ends f front x none open_still h g before back e = by (last_or_none back)
+none_more : (ends : EndTest) (f : Frame) (prefix : List Frame) (x : Frame) → NoneEnds ends (f ∷ prefix) → closes ends (f ∷ prefix) x ≡ false → NoneEnds ends ((f ∷ prefix) ++ x ∷ [])
+none_more ends f prefix x none open_still h g before back e = by (last_or_none back)
   where
     by : (back ≡ []) ⊎ HasLast back → closes ends (h ∷ before) g ≡ false
     by (inl is) = grind (arith, same_from_push)
-    by (inr l) = grind (arith, same_from_push (f ∷ front) ((h ∷ before) ++ (g ∷ l.before)) x l.last (e ∙ ap (λ t. (h ∷ before) ++ (g ∷ t)) l.is ∙ sym (append_assoc (h ∷ before) (g ∷ l.before) (l.last ∷ []))))
+    by (inr l) = grind (arith, same_from_push (f ∷ prefix) ((h ∷ before) ++ (g ∷ l.before)) x l.last (e ∙ ap (λ t. (h ∷ before) ++ (g ∷ t)) l.is ∙ sym (append_assoc (h ∷ before) (g ∷ l.before) (l.last ∷ []))))
 
 none_alone : (ends : EndTest) (f : Frame) → NoneEnds ends (f ∷ [])
 none_alone ends f h g before back e = absurd (omega (arith, ap length e, length-append (h ∷ before) (g ∷ back)))
 
-first_from : (ends : EndTest) (f : Frame) (front rest : List Frame) → NoneEnds ends (f ∷ front) → HasFirstGroup ends ((f ∷ front) ++ rest)
-first_from ends f front [] none = record { group = f ∷ front; rest = []; is = record { joined = refl; nonempty = omega arith; ended = tt; shortest = none } }
-first_from ends f front (x ∷ rest) none = by (closes ends (f ∷ front) x) refl (first_from ends f (front ++ x ∷ []) rest)
+first_from : (ends : EndTest) (f : Frame) (prefix rest : List Frame) → NoneEnds ends (f ∷ prefix) → HasFirstGroup ends ((f ∷ prefix) ++ rest)
+first_from ends f prefix [] none = record { group = f ∷ prefix; rest = []; is = record { joined = refl; nonempty = omega arith; ended = tt; shortest = none } }
+first_from ends f prefix (x ∷ rest) none = by (closes ends (f ∷ prefix) x) refl (first_from ends f (prefix ++ x ∷ []) rest)
   where
-    by : (b : Bool) → closes ends (f ∷ front) x ≡ b → (NoneEnds ends ((f ∷ front) ++ x ∷ []) → HasFirstGroup ends (((f ∷ front) ++ x ∷ []) ++ rest)) → HasFirstGroup ends ((f ∷ front) ++ (x ∷ rest))
-    by true e later = record { group = f ∷ front; rest = x ∷ rest; is = record { joined = refl; nonempty = omega arith; ended = e; shortest = none } }
-    by false e later = subst (HasFirstGroup ends) (append_assoc (f ∷ front) (x ∷ []) rest) (later (none_more ends f front x none e))
+    by : (b : Bool) → closes ends (f ∷ prefix) x ≡ b → (NoneEnds ends ((f ∷ prefix) ++ x ∷ []) → HasFirstGroup ends (((f ∷ prefix) ++ x ∷ []) ++ rest)) → HasFirstGroup ends ((f ∷ prefix) ++ (x ∷ rest))
+    by true e later = record { group = f ∷ prefix; rest = x ∷ rest; is = record { joined = refl; nonempty = omega arith; ended = e; shortest = none } }
+    by false e later = subst (HasFirstGroup ends) (append_assoc (f ∷ prefix) (x ∷ []) rest) (later (none_more ends f prefix x none e))
 
 pub cut_first : (ends : EndTest) (fs : List Frame) → CutFirst ends fs
 unfolding cut
@@ -151,6 +151,6 @@ cut_grows ends fs (x ∷ back) =
 
 -- ---- more lines after the first lines of a log
 
-pub settles : (w : Window) → 0 < w.lines → (kind : ℕ → Option Kind) (front back : List Entry) → HasSettled w kind front back
-settles w some kind front [] = grind (arith, append-nil)
-settles w some kind front (e ∷ back) = grind (arith, settles w some kind (front ++ e ∷ []) back, append_assoc front (e ∷ []) back, length-append front (e ∷ []), message-before, broken-before)
+pub settles : (w : Window) → 0 < w.lines → (kind : ℕ → Option Kind) (prefix back : List Entry) → HasSettled w kind prefix back
+settles w some kind prefix [] = grind (arith, append-nil)
+settles w some kind prefix (e ∷ back) = grind (arith, settles w some kind (prefix ++ e ∷ []) back, append_assoc prefix (e ∷ []) back, length-append prefix (e ∷ []), message-before, broken-before)

@@ -23,7 +23,7 @@ use Rattle.n2k_join.proofs.Lines.{RiseFrom, frames-rise, line_of}
 use Rattle.n2k_join.proofs.GroupLines.{IsGroup, IsDone, first_above, done_found}
 use Rattle.n2k_join.proofs.Arriving.{StandsAt, stand, key-rise, brings}
 use Rattle.n2k_join.specs.Window.{Window}
-use Rattle.n2k_join.proofs.Rising.{last-all, all-front, all-back, all-joined, rise-least, rise-rest}
+use Rattle.n2k_join.proofs.Rising.{last-all, all-prefix, all-back, all-joined, rise-least, rise-rest}
 use Rattle.n2k_join.specs.State.{Rise}
 
 -- if the group so far ends before a frame, the frames before that frame and the frames from it on are cut separately
@@ -114,20 +114,20 @@ ends_before : (w : Window) (n : ℕ) (o : Option (List Frame)) (h : List Frame) 
 ends_before w n o h f up zeroth past open_has last = grind (arith, first-le, and_from, lt-ltb, some-from, or_left, or_right, le-leb, cases_lt)
 
 -- the next frame of the key comes after all entries before it
-next_past : (kind : ℕ → Option Kind) (front back : List Entry) (k : Key) (f : Frame) (g : List Frame) → of_key k (frames kind (front ++ back)) ≡ of_key k (frames kind front) ++ (f ∷ g) → length front < f.line
-next_past kind front back k f g next = grind (arith, frames_from-append kind 1 front back, frames-rise kind (1 + length front) back, of_key-append, append_cancel_left, of_key-keeps, rise-least)
+next_past : (kind : ℕ → Option Kind) (prefix back : List Entry) (k : Key) (f : Frame) (g : List Frame) → of_key k (frames kind (prefix ++ back)) ≡ of_key k (frames kind prefix) ++ (f ∷ g) → length prefix < f.line
+next_past kind prefix back k f g next = grind (arith, frames_from-append kind 1 prefix back, frames-rise kind (1 + length prefix) back, of_key-append, append_cancel_left, of_key-keeps, rise-least)
 
 -- the open group has a frame 0, unless the window is in order
 abbrev HasZero : Window → (ℕ → Option Kind) → List Entry → Sending → Type 0
-HasZero w kind front x = IfSome (open_of (within w) (key_of_sending x) (frames kind front)) (λ last. w.in_order ≡ false → length front < first last + w.lines → has_number 0 last ≡ true)
+HasZero w kind prefix x = IfSome (open_of (within w) (key_of_sending x) (frames kind prefix)) (λ last. w.in_order ≡ false → length prefix < first last + w.lines → has_number 0 last ≡ true)
 
-heals_by : (w : Window) (kind : ℕ → Option Kind) (front back : List Entry) (x : Sending) (group after : List Frame) → ComesNext w kind front back x group after → HasZero w kind front x → Heals w kind front back x group
+heals_by : (w : Window) (kind : ℕ → Option Kind) (prefix back : List Entry) (x : Sending) (group after : List Frame) → ComesNext w kind prefix back x group after → HasZero w kind prefix x → Heals w kind prefix back x group
 unfolding broken_with
-heals_by w kind front back x [] after comes left_open = absurd (let none : 0 ≡ last_piece x.message + 1 = rising-length 0 _ [] comes.rising in omega arith)
-heals_by w kind front back x (f ∷ g) after comes left_open =
+heals_by w kind prefix back x [] after comes left_open = absurd (let none : 0 ≡ last_piece x.message + 1 = rising-length 0 _ [] comes.rising in omega arith)
+heals_by w kind prefix back x (f ∷ g) after comes left_open =
     let k = key_of_sending x in
-    let es = front ++ back in
-    let before = of_key k (frames kind front) in
+    let es = prefix ++ back in
+    let before = of_key k (frames kind prefix) in
     let pieces : AllByRecursion (IsPieceOf x) (f ∷ g) = recursion_from_All (IsPieceOf x) (f ∷ g) comes.each in
     let apart : has_twice (f ∷ g) ≡ false = rising-apart 0 _ (f ∷ g) comes.rising in
     let full : length (f ∷ g) ≡ last_piece x.message + 1 = rising-length 0 _ (f ∷ g) comes.rising in
@@ -137,13 +137,13 @@ heals_by w kind front back x (f ∷ g) after comes left_open =
     let gs = cut (within w) before ++ ((f ∷ g) ∷ cut (within w) after) in
     let cuts : cut (within w) (of_key k (frames kind es)) ≡ gs =
     ap (cut (within w)) comes.next
-    ∙ (cut_splits (within w) before f (g ++ after) (λ h last. ends_before w (length front) (last_or None (cut (within w) before)) h f (last-all (IsUpTo (length front)) None (cut (within w) before) tt (up_to (within w) (length front) k (frames kind front) (frames-log kind front))) zeroth (next_past kind front back k f (g ++ after) comes.next) left_open last)
+    ∙ (cut_splits (within w) before f (g ++ after) (λ h last. ends_before w (length prefix) (last_or None (cut (within w) before)) h f (last-all (IsUpTo (length prefix)) None (cut (within w) before) tt (up_to (within w) (length prefix) k (frames kind prefix) (frames-log kind prefix))) zeroth (next_past kind prefix back k f (g ++ after) comes.next) left_open last)
     ∙ ap (λ l. cut (within w) before ++ l) (cut_stretch (within w) (f ∷ g) after stretch)) in
     let some : AllByRecursion IsGroup gs = subst (AllByRecursion IsGroup) cuts (cut-nonempty (within w) (of_key k (frames kind es))) in
     let rise : RiseFrom 1 (all_frames gs) = subst (λ hs. RiseFrom 1 (all_frames hs)) cuts (subst (RiseFrom 1) (sym (cut-joined (within w) (of_key k (frames kind es)))) (key-rise kind es k)) in
     let done : IsDone gs (f ∷ g) = (all-back (IsDone gs) (cut (within w) before) ((f ∷ g) ∷ cut (within w) after) (done_found 1 gs some rise)).0 in
     let standing : AllByRecursion (StandsAt (frames kind es) k) (f ∷ g) =
-    all-front (StandsAt (frames kind es) k) (f ∷ g) after (all-back (StandsAt (frames kind es) k) before ((f ∷ g) ++ after) (subst (AllByRecursion (StandsAt (frames kind es) k)) comes.next (stand kind es k))) in
+    all-prefix (StandsAt (frames kind es) k) (f ∷ g) after (all-back (StandsAt (frames kind es) k) before ((f ∷ g) ++ after) (subst (AllByRecursion (StandsAt (frames kind es) k)) comes.next (stand kind es k))) in
     let all_stand : AllByRecursion (AllByRecursion (StandsAt (frames kind es) k)) gs = subst (AllByRecursion (AllByRecursion (StandsAt (frames kind es) k))) cuts (cut-all (within w) (StandsAt (frames kind es) k) (of_key k (frames kind es)) (stand kind es k)) in
     let brought : Brings w kind es x (f ∷ g) =
     brings w kind es k x (f ∷ g) (record { stretch = record { pieces = record { each = comes.each; apart = apart }; whole = full }; goes_on = goes_on; stands = standing; found = ap (find (is_done_at (last_line (f ∷ g)))) cuts ∙ done stretch.whole }) in
@@ -153,42 +153,42 @@ heals_by w kind front back x (f ∷ g) after comes left_open =
     }
   where
     told : Option (List Frame) → Type 0
-    told o = IfSome o (λ left. Contains (broken w kind (front ++ back) (min (first left + w.lines) f.line)) (broken_of (key_of_sending x) left))
+    told o = IfSome o (λ left. Contains (broken w kind (prefix ++ back) (min (first left + w.lines) f.line)) (broken_of (key_of_sending x) left))
 
     at_left : (left : List Frame) (b : List (List Frame)) (gs : List (List Frame)) → gs ≡ b ++ (left ∷ (f ∷ g) ∷ cut (within w) after) → complete left ≡ false → Rise first 1 gs → AllByRecursion IsGroup gs
-        → AllByRecursion (AllByRecursion (StandsAt (frames kind (front ++ back)) (key_of_sending x))) gs → AllByRecursion (AllByRecursion (λ (i : Frame). 1 ≤ i.line)) gs → cut (within w) (of_key (key_of_sending x) (frames kind (front ++ back))) ≡ gs
-        → Contains (broken w kind (front ++ back) (min (first left + w.lines) f.line)) (broken_of (key_of_sending x) left)
+        → AllByRecursion (AllByRecursion (StandsAt (frames kind (prefix ++ back)) (key_of_sending x))) gs → AllByRecursion (AllByRecursion (λ (i : Frame). 1 ≤ i.line)) gs → cut (within w) (of_key (key_of_sending x) (frames kind (prefix ++ back))) ≡ gs
+        → Contains (broken w kind (prefix ++ back) (min (first left + w.lines) f.line)) (broken_of (key_of_sending x) left)
     at_left left b gs e c rise some stands lines cuts =
         let later = (f ∷ g) ∷ cut (within w) after in
         let rise' : Rise first 1 (b ++ (left ∷ later)) = subst (Rise first 1) e rise in
         let some' : IsGroup left = (all-back IsGroup b (left ∷ later) (subst (AllByRecursion IsGroup) e some)).0 in
-        let stands' : AllByRecursion (StandsAt (frames kind (front ++ back)) (key_of_sending x)) left = (all-back (AllByRecursion (StandsAt (frames kind (front ++ back)) (key_of_sending x))) b (left ∷ later) (subst (AllByRecursion (AllByRecursion (StandsAt (frames kind (front ++ back)) (key_of_sending x)))) e stands)).0 in
+        let stands' : AllByRecursion (StandsAt (frames kind (prefix ++ back)) (key_of_sending x)) left = (all-back (AllByRecursion (StandsAt (frames kind (prefix ++ back)) (key_of_sending x))) b (left ∷ later) (subst (AllByRecursion (AllByRecursion (StandsAt (frames kind (prefix ++ back)) (key_of_sending x)))) e stands)).0 in
         let lines' : AllByRecursion (λ (i : Frame). 1 ≤ i.line) left = (all-back (AllByRecursion (λ (i : Frame). 1 ≤ i.line)) b (left ∷ later) (subst (AllByRecursion (AllByRecursion (λ (i : Frame). 1 ≤ i.line))) e lines)).0 in
         let from : 1 ≤ first left = first_above 1 left some' lines' in
         let before : first left + 1 ≤ f.line = (rise-rest first 1 b (left ∷ (f ∷ g) ∷ cut (within w) after) rise').1.0 in
         let up_to : first left < 1 + min (first left + w.lines) f.line = omega (arith, before) in
-        given_among (broken_begun w (frames kind (front ++ back)) (min (first left + w.lines) f.line)) (broken_of (key_of_sending x) left) (first left) 1 (min (first left + w.lines) f.line) from up_to
-        (broken_where w (frames kind (front ++ back)) (key_of_sending x) left (min (first left + w.lines) f.line) some' stands'
+        given_among (broken_begun w (frames kind (prefix ++ back)) (min (first left + w.lines) f.line)) (broken_of (key_of_sending x) left) (first left) 1 (min (first left + w.lines) f.line) from up_to
+        (broken_where w (frames kind (prefix ++ back)) (key_of_sending x) left (min (first left + w.lines) f.line) some' stands'
         (ap (broken_among w (first left) (min (first left + w.lines) f.line)) (cuts ∙ e) ∙ broken_among-at w 1 b left (f ∷ g) (cut (within w) after) rise' c))
 
-    by_open : (o : Option (List Frame)) → last_or None (cut (within w) (of_key (key_of_sending x) (frames kind front))) ≡ o
-        → Rise first 1 (cut (within w) (of_key (key_of_sending x) (frames kind front)) ++ ((f ∷ g) ∷ cut (within w) after))
-        → AllByRecursion IsGroup (cut (within w) (of_key (key_of_sending x) (frames kind front)) ++ ((f ∷ g) ∷ cut (within w) after))
-        → AllByRecursion (AllByRecursion (StandsAt (frames kind (front ++ back)) (key_of_sending x))) (cut (within w) (of_key (key_of_sending x) (frames kind front)) ++ ((f ∷ g) ∷ cut (within w) after))
-        → AllByRecursion (AllByRecursion (λ (i : Frame). 1 ≤ i.line)) (cut (within w) (of_key (key_of_sending x) (frames kind front)) ++ ((f ∷ g) ∷ cut (within w) after))
-        → cut (within w) (of_key (key_of_sending x) (frames kind (front ++ back))) ≡ cut (within w) (of_key (key_of_sending x) (frames kind front)) ++ ((f ∷ g) ∷ cut (within w) after)
+    by_open : (o : Option (List Frame)) → last_or None (cut (within w) (of_key (key_of_sending x) (frames kind prefix))) ≡ o
+        → Rise first 1 (cut (within w) (of_key (key_of_sending x) (frames kind prefix)) ++ ((f ∷ g) ∷ cut (within w) after))
+        → AllByRecursion IsGroup (cut (within w) (of_key (key_of_sending x) (frames kind prefix)) ++ ((f ∷ g) ∷ cut (within w) after))
+        → AllByRecursion (AllByRecursion (StandsAt (frames kind (prefix ++ back)) (key_of_sending x))) (cut (within w) (of_key (key_of_sending x) (frames kind prefix)) ++ ((f ∷ g) ∷ cut (within w) after))
+        → AllByRecursion (AllByRecursion (λ (i : Frame). 1 ≤ i.line)) (cut (within w) (of_key (key_of_sending x) (frames kind prefix)) ++ ((f ∷ g) ∷ cut (within w) after))
+        → cut (within w) (of_key (key_of_sending x) (frames kind (prefix ++ back))) ≡ cut (within w) (of_key (key_of_sending x) (frames kind prefix)) ++ ((f ∷ g) ∷ cut (within w) after)
         → told (option_and_then incomplete o)
     by_open o is rise some stands lines cuts = grind (arith, told, ends_with, at_left, append_assoc)
 
-pub heals : (w : Window) (kind : ℕ → Option Kind) (front back : List Entry) (x : Sending) (group after : List Frame) → ComesNext w kind front back x group after → LeavesZero w kind front x → Heals w kind front back x group
-heals w kind front back x group after comes has = heals_by w kind front back x group after comes (by (open_of (within w) (key_of_sending x) (frames kind front)) has)
+pub heals : (w : Window) (kind : ℕ → Option Kind) (prefix back : List Entry) (x : Sending) (group after : List Frame) → ComesNext w kind prefix back x group after → LeavesZero w kind prefix x → Heals w kind prefix back x group
+heals w kind prefix back x group after comes has = heals_by w kind prefix back x group after comes (by (open_of (within w) (key_of_sending x) (frames kind prefix)) has)
   where
-    by : (o : Option (List Frame)) → IfSome o (λ last. length front < first last + w.lines → has_number 0 last ≡ true) → IfSome o (λ last. w.in_order ≡ false → length front < first last + w.lines → has_number 0 last ≡ true)
+    by : (o : Option (List Frame)) → IfSome o (λ last. length prefix < first last + w.lines → has_number 0 last ≡ true) → IfSome o (λ last. w.in_order ≡ false → length prefix < first last + w.lines → has_number 0 last ≡ true)
     by o h = grind arith
 
 -- with a window in order, the open group may be any
-pub heals_in_order : (w : Window) (kind : ℕ → Option Kind) (front back : List Entry) (x : Sending) (group after : List Frame) → w.in_order ≡ true → ComesNext w kind front back x group after → Heals w kind front back x group
-heals_in_order w kind front back x group after order comes = heals_by w kind front back x group after comes (by (open_of (within w) (key_of_sending x) (frames kind front)))
+pub heals_in_order : (w : Window) (kind : ℕ → Option Kind) (prefix back : List Entry) (x : Sending) (group after : List Frame) → w.in_order ≡ true → ComesNext w kind prefix back x group after → Heals w kind prefix back x group
+heals_in_order w kind prefix back x group after order comes = heals_by w kind prefix back x group after comes (by (open_of (within w) (key_of_sending x) (frames kind prefix)))
   where
-    by : (o : Option (List Frame)) → IfSome o (λ last. w.in_order ≡ false → length front < first last + w.lines → has_number 0 last ≡ true)
+    by : (o : Option (List Frame)) → IfSome o (λ last. w.in_order ≡ false → length prefix < first last + w.lines → has_number 0 last ≡ true)
     by o = grind arith

@@ -16,7 +16,7 @@ use Rattle.n2k_join.specs.Window.{Window}
 use Rattle.n2k_join.proofs.Arriving.{key-rise, StandsAt, stand}
 use Rattle.n2k_join.proofs.Lines.{RiseFrom, line_of}
 use Rattle.n2k_join.proofs.GroupLines.{last_frame, IsGroup}
-use Rattle.n2k_join.proofs.Rising.{find-all, find-passes, all-front, all-back, rise-rest, all_to, all_with, all-map}
+use Rattle.n2k_join.proofs.Rising.{find-all, find-passes, all-prefix, all-back, rise-rest, all_to, all_with, all-map}
 use Rattle.n2k_join.proofs.Cuts.{cut-joined}
 
 -- the numbers of frames rise, from one on
@@ -124,7 +124,7 @@ whole-group (f ∷ g) e = omega arith
 ends-at : (kind : ℕ → Option Kind) (es : List Entry) (key : Key) (g : List Frame) (f : Frame)
     → AreConsecutive key (frames kind es) g → IsGroup g → frame_at (last_line g) (frames kind es) ≡ Some f
     → (before : List Frame) × (g ≡ before ++ f ∷ [])
-ends-at kind es key g f is some found = grind (arith, stand kind es key, last_frame (StandsAt (frames kind es) key) g some (all-front (StandsAt (frames kind es) key) g is.after (all-back (StandsAt (frames kind es) key) is.before (g ++ is.after) (subst (AllByRecursion (StandsAt (frames kind es) key)) is.together (stand kind es key)))), all-back (StandsAt (frames kind es) key) is.before (g ++ is.after) (subst (AllByRecursion (StandsAt (frames kind es) key)) is.together (stand kind es key)), same_Some)
+ends-at kind es key g f is some found = grind (arith, stand kind es key, last_frame (StandsAt (frames kind es) key) g some (all-prefix (StandsAt (frames kind es) key) g is.after (all-back (StandsAt (frames kind es) key) is.before (g ++ is.after) (subst (AllByRecursion (StandsAt (frames kind es) key)) is.together (stand kind es key)))), all-back (StandsAt (frames kind es) key) is.before (g ++ is.after) (subst (AllByRecursion (StandsAt (frames kind es) key)) is.together (stand kind es key)), same_Some)
 
 -- each message that a group gives is of one
 pub comes_of_consecutive : (w : Window) → w.in_order ≡ true → (kind : ℕ → Option Kind) (es : List Entry) (line : ℕ) (m : Keyed) → gathered (within w) (frames kind es) line ≡ Some m → ComesOfConsecutive kind es line m

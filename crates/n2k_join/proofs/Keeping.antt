@@ -248,15 +248,15 @@ pub record IsLogState (kind : ℕ → Option Kind) (s : State) : Type 0 where
   pub fast : AreFast kind s.groups
   pub waits : AreWaiting s
 
-state-from : (id : List ℕ) (w : Window) (kind : ℕ → Option Kind) (front es : List Entry) → 0 < w.lines → IsLogState kind (state id w kind front) → AllByRecursion IsEntry es → length front + length es ≤ most_lines → IsLogState kind (state id w kind (front ++ es))
-state-from id w kind front [] some so_far entries_valid few = subst (λ es. IsLogState kind (state id w kind es)) (sym (append-nil front)) so_far
-state-from id w kind front (e ∷ es) some so_far entries_valid few =
-    let next : IsLogState kind (state id w kind (front ++ e ∷ [])) = subst (IsLogState kind) (after_longer w some kind front e id) (record {
-      valid = step-keeps kind (state id w kind front) e so_far.valid entries_valid.0 (omega (arith, few));
-      fast = step-fast kind (state id w kind front) e some so_far.fast;
-      waits = step-waits kind (state id w kind front) e;
+state-from : (id : List ℕ) (w : Window) (kind : ℕ → Option Kind) (prefix es : List Entry) → 0 < w.lines → IsLogState kind (state id w kind prefix) → AllByRecursion IsEntry es → length prefix + length es ≤ most_lines → IsLogState kind (state id w kind (prefix ++ es))
+state-from id w kind prefix [] some so_far entries_valid few = subst (λ es. IsLogState kind (state id w kind es)) (sym (append-nil prefix)) so_far
+state-from id w kind prefix (e ∷ es) some so_far entries_valid few =
+    let next : IsLogState kind (state id w kind (prefix ++ e ∷ [])) = subst (IsLogState kind) (after_longer w some kind prefix e id) (record {
+      valid = step-keeps kind (state id w kind prefix) e so_far.valid entries_valid.0 (omega (arith, few));
+      fast = step-fast kind (state id w kind prefix) e some so_far.fast;
+      waits = step-waits kind (state id w kind prefix) e;
     }) in
-    subst (λ es. IsLogState kind (state id w kind es)) (append_assoc front (e ∷ []) es) (state-from id w kind (front ++ e ∷ []) es some next entries_valid.1 (omega (arith, few, length-append front (e ∷ []))))
+    subst (λ es. IsLogState kind (state id w kind es)) (append_assoc prefix (e ∷ []) es) (state-from id w kind (prefix ++ e ∷ []) es some next entries_valid.1 (omega (arith, few, length-append prefix (e ∷ []))))
 
 pub state-valid : (id : List ℕ) (w : Window) (kind : ℕ → Option Kind) (es : List Entry) → IsWindow w.lines → AllByRecursion IsEntry es → length es ≤ most_lines → IsLogState kind (state id w kind es)
 unfolding open_groups waiting

@@ -29,7 +29,7 @@ pub mod Order
 pub mod Overdue
 pub mod PieceBytes
 pub mod Places
-pub mod LentFrames
+pub mod InPlaceFrames
 pub mod PieceFrames
 pub mod ReadStates
 pub mod Replaying

@@ -110,7 +110,7 @@ rise-groups least next (g ∷ gs) r = (r.0, rise-groups (g.first + 1) next gs r.
 
 places-next : (es : Entries) (n at : ℕ) (e : FrameKey × Linked) → 0 < n → slice_get es at ≡ Some e → (ys : List ℕ) × (places_from es n at ≡ at ∷ ys)
 places-next es zero at e l is = absurd (omega (arith, l))
-places-next es (suc n) at e l is = (places_from es n e.1.behind, ap (λ o. option_map_or (λ (e : FrameKey × Linked). at ∷ places_from es n e.1.behind) o []) is)
+places-next es (suc n) at e l is = (places_from es n e.1.after, ap (λ o. option_map_or (λ (e : FrameKey × Linked). at ∷ places_from es n e.1.after) o []) is)
 
 pub first-place : (g : OpenGroups) (e : FrameKey × Linked) → slice_get g.groups.entries g.first ≡ Some e → (ys : List ℕ) × (places g ≡ g.first ∷ ys)
 first-place g e is = places-next g.groups.entries (length g.groups.entries) g.first e (omega (arith, slice_get_within g.groups.entries g.first e is)) is
@@ -120,7 +120,7 @@ first-group g e is = ap (groups_at (item_at g)) (first-place g e is).1 ∙ ap (�
 
 pub no-places : (es : Entries) (n at : ℕ) → slice_get es at ≡ None → places_from es n at ≡ []
 no-places es zero at is = refl
-no-places es (suc n) at is = ap (λ o. option_map_or (λ (e : FrameKey × Linked). at ∷ places_from es n e.1.behind) o []) is
+no-places es (suc n) at is = ap (λ o. option_map_or (λ (e : FrameKey × Linked). at ∷ places_from es n e.1.after) o []) is
 
 pub none-listed : (g : OpenGroups) → slice_get g.groups.entries g.first ≡ None → listed g ≡ []
 none-listed g is = ap (groups_at (item_at g)) (no-places g.groups.entries (length g.groups.entries) g.first is)
@@ -146,7 +146,7 @@ first-waits w line next gs fs g rise is = grind (arith, all-wait)
 
 -- ---- writing the list
 
-pub places-more : (es : Entries) (n i at : ℕ) (e : FrameKey × Linked) → i < n → slice_get es at ≡ Some e → places_from es (n - i) at ≡ at ∷ places_from es (n - (i + 1)) e.1.behind
+pub places-more : (es : Entries) (n i at : ℕ) (e : FrameKey × Linked) → i < n → slice_get es at ≡ Some e → places_from es (n - i) at ≡ at ∷ places_from es (n - (i + 1)) e.1.after
 places-more es n i at e less is = grind arith
 
 pub group_more_written : (items : ℕ → Option (FrameKey × OpenGroup)) (p : ℕ) (ps : List ℕ) (e : FrameKey × OpenGroup) (all written now : List Token) → items p ≡ Some e

@@ -12,7 +12,7 @@ use Rattle.n2k_join.proofs.BrokenGroups.{broken-stays}
 use Rattle.n2k_join.proofs.Given.{gathered-stays}
 use Rattle.n2k_join.proofs.Lines.{frames-rise, frame_in-line, frame_of_packet, line_of}
 use Rattle.n2k_join.proofs.Opened.{IsLog, key_at}
-use Rattle.n2k_join.proofs.Order.{slice_get-push, slice_get-front}
+use Rattle.n2k_join.proofs.Order.{slice_get-push, slice_get-prefix}
 use Rattle.n2k_join.proofs.Rising.{all-map, all-zip, look-all, rise-least}
 use Rattle.n2k_join.specs.Window.{Window}
 
@@ -53,7 +53,7 @@ frames-push kind es e = grind (arith, frames_from-append)
 
 pub entry_at-before : (es : List Entry) (e : Entry) (i : ℕ) → 1 ≤ i → i ≤ length es → entry_at (es ++ e ∷ []) i ≡ entry_at es i
 entry_at-before es e zero l u = absurd (omega arith)
-entry_at-before es e (suc i) l u = slice_get-front es e i (omega arith)
+entry_at-before es e (suc i) l u = slice_get-prefix es e i (omega arith)
 
 pub entry_at-last : (es : List Entry) (e : Entry) → entry_at (es ++ e ∷ []) (length es + 1) ≡ Some e
 entry_at-last es e = let at : length es + 1 ≡ suc (length es) = omega arith in ap (entry_at (es ++ e ∷ [])) at ∙ slice_get-push es e

@@ -17,7 +17,7 @@ use Rattle.n2k_join.specs.declared.open_groups.OpenGroups.{OpenGroups}
 use Rattle.n2k_join.specs.Open.{Group}
 use Rattle.n2k_join.specs.Inner.Slots.{group_at}
 use Rattle.n2k_join.specs.Inner.Places.{nowhere, Path, times, AreLinked, put}
-use Rattle.n2k_join.specs.Inner.Order.{Entries, item, item_in, item_at, IsPlace, beside, behind_of, before_of, places_from, places, groups_at, listed, RiseBelow, IsKept, AreRelinked}
+use Rattle.n2k_join.specs.Inner.Order.{Entries, item, item_in, item_at, IsPlace, beside, after_of, before_of, places_from, places, groups_at, listed, RiseBelow, IsKept, AreRelinked}
 use Rattle.n2k_join.proofs.Places.{times-here, unlinked, pushed, renamed, dropped, moved, in-list, no-loop}
 
 pub there : {X : Type 0} (xs : List X) (i : ℕ) → i < length xs → (x : X) × (slice_get xs i ≡ Some x)
@@ -54,8 +54,8 @@ module _ (next : ℕ) (g : OpenGroups) (kept : IsKept next g) where
   pub before-place : (at : ℕ) → IsPlace (length g.groups.entries) at → IsPlace (length g.groups.entries) (before_of g at)
   before-place at is = grind (arith, beside-past)
 
-  pub behind-place : (at : ℕ) → IsPlace (length g.groups.entries) at → IsPlace (length g.groups.entries) (behind_of g at)
-  behind-place at is = leads-place (length g.groups.entries) (behind_of g at) at (before_of g) (λ j o p. beside-past (λ l. l.before) g.last g.groups.entries j o p) (kept.linked.back at (not-count is)).0 is
+  pub after-place : (at : ℕ) → IsPlace (length g.groups.entries) at → IsPlace (length g.groups.entries) (after_of g at)
+  after-place at is = leads-place (length g.groups.entries) (after_of g at) at (before_of g) (λ j o p. beside-past (λ l. l.before) g.last g.groups.entries j o p) (kept.linked.back at (not-count is)).0 is
     where
       not-count : IsPlace (length g.groups.entries) at → at ≡ length g.groups.entries → ⊥
       not-count h e = grind arith
@@ -94,17 +94,17 @@ module _ (es : Entries) (at : ℕ) (k : FrameKey) (v w : Linked) (is : slice_get
 -- ---- the list
 
 places-are : (es : Entries) (end a : ℕ) (order : List ℕ) (n : ℕ) → length es < nowhere → ((at : ℕ) → 0 < times at order → at < length es) → length order ≤ n
-    → Path (beside (λ l. l.behind) end es) a order nowhere → places_from es n (beside (λ l. l.behind) end es a) ≡ order
+    → Path (beside (λ l. l.after) end es) a order nowhere → places_from es n (beside (λ l. l.after) end es a) ≡ order
 places-are es end a [] n few within l h = ap (places_from es n) h ∙ none n
   where
     none : (n : ℕ) → places_from es n nowhere ≡ []
     none zero = refl
-    none (suc n) = ap (λ o. option_map_or (λ (e : FrameKey × Linked). nowhere ∷ places_from es n e.1.behind) o []) (slice_get_past es nowhere (omega (arith, few)))
+    none (suc n) = ap (λ o. option_map_or (λ (e : FrameKey × Linked). nowhere ∷ places_from es n e.1.after) o []) (slice_get_past es nowhere (omega (arith, few)))
 places-are es end a (p ∷ ps) zero few within l h = absurd (omega (arith, l))
 places-are es end a (p ∷ ps) (suc n) few within l h = grind (arith, places-are es end p ps n few (λ at more. within at (omega (arith, more))) (omega (arith, l)) h.1, times-here p ps, there es p (within p (omega (arith, times-here p ps))))
 
 -- a linked list is the list
-pub kept-by : (next : ℕ) (g : OpenGroups) (order : List ℕ) → length g.groups.entries < nowhere → AreLinked (length g.groups.entries) (length g.groups.entries) (behind_of g) (before_of g) order
+pub kept-by : (next : ℕ) (g : OpenGroups) (order : List ℕ) → length g.groups.entries < nowhere → AreLinked (length g.groups.entries) (length g.groups.entries) (after_of g) (before_of g) order
     → length order ≡ length g.groups.entries → RiseBelow 1 next (groups_at (item_at g) order) → IsKept next g × (listed g ≡ groups_at (item_at g) order)
 kept-by next g order few linked counted rise = grind (arith, places-are g.groups.entries g.first nowhere order (length g.groups.entries) few (λ at more. (linked.within at more).0) (omega (arith, counted)) linked.path)
 
@@ -157,10 +157,10 @@ pub slice_get-push : {X : Type 0} (xs : List X) (x : X) → slice_get (xs ++ x �
 slice_get-push [] x = refl
 slice_get-push (y ∷ xs) x = slice_get-push xs x
 
-pub slice_get-front : {X : Type 0} (xs : List X) (x : X) (j : ℕ) → j < length xs → slice_get (xs ++ x ∷ []) j ≡ slice_get xs j
-slice_get-front [] x j l = absurd (omega (arith, l))
-slice_get-front (y ∷ xs) x zero l = refl
-slice_get-front (y ∷ xs) x (suc j) l = slice_get-front xs x j (omega (arith, l))
+pub slice_get-prefix : {X : Type 0} (xs : List X) (x : X) (j : ℕ) → j < length xs → slice_get (xs ++ x ∷ []) j ≡ slice_get xs j
+slice_get-prefix [] x j l = absurd (omega (arith, l))
+slice_get-prefix (y ∷ xs) x zero l = refl
+slice_get-prefix (y ∷ xs) x (suc j) l = slice_get-prefix xs x j (omega (arith, l))
 
 slice_get-take : {X : Type 0} (n : ℕ) (xs : List X) (j : ℕ) → j < n → slice_get (take n xs) j ≡ slice_get xs j
 slice_get-take zero xs j l = absurd (omega (arith, l))
@@ -211,32 +211,32 @@ ended-last es es' p m low left none = by (cases_lt p m)
 pub at-end : (next : ℕ) (f g : ℕ → ℕ) (s r : OpenGroups) (p : ℕ) (order : List ℕ) (items : ℕ → Option (FrameKey × OpenGroup)) (e : FrameKey × OpenGroup)
     → p < length s.groups.entries → length s.groups.entries < nowhere → (f (length s.groups.entries) ≡ length s.groups.entries) × (g (length s.groups.entries) ≡ length s.groups.entries)
     → AreLinked (length s.groups.entries) p f g order → 1 + length order ≡ length s.groups.entries
-    → ((j : ℕ) → behind_of s j ≡ put p nowhere f j) → ((j : ℕ) → before_of s j ≡ put p (g nowhere) g j)
+    → ((j : ℕ) → after_of s j ≡ put p nowhere f j) → ((j : ℕ) → before_of s j ≡ put p (g nowhere) g j)
     → ((j : ℕ) → (j ≡ p → ⊥) → item_at s j ≡ items j) → item_at s p ≡ Some e → e.1.first ≡ next → RiseBelow 1 next (groups_at items order)
-    → AreRelinked s r (put (g nowhere) p (behind_of s)) (before_of s)
+    → AreRelinked s r (put (g nowhere) p (after_of s)) (before_of s)
     → IsKept (next + 1) (record r { last = p }) × (listed (record r { last = p }) ≡ groups_at items order ++ group_at e ∷ [])
-at-end next f g s r p order items e low few fix linked counted behind before others here first rise told =
+at-end next f g s r p order items e low few fix linked counted after before others here first rise told =
     let n = length s.groups.entries in
     let t : OpenGroups = record r { last = p } in
     let l = pushed n f g p order low few fix.0 fix.1 linked in
-    let behinds : put (g nowhere) p (put p nowhere f) ≡ behind_of t = fun_ext (λ j. ap (λ q. cond (j == g nowhere) p q) (sym (behind j)) ∙ sym (told.behind j)) in
+    let afters : put (g nowhere) p (put p nowhere f) ≡ after_of t = fun_ext (λ j. ap (λ q. cond (j == g nowhere) p q) (sym (after j)) ∙ sym (told.after j)) in
     let befores : put nowhere p (put p (g nowhere) g) ≡ before_of t = fun_ext (λ j. ap (λ q. cond (j == nowhere) p q) (sym (told.before j ∙ before j)) ∙ sym (beside-end (λ l. l.before) r.last r.groups.entries p j)) in
-    let l' = subst (λ h. AreLinked n n h (before_of t) (order ++ p ∷ [])) behinds (subst (λ h. AreLinked n n (put (g nowhere) p (put p nowhere f)) h (order ++ p ∷ [])) befores l) in
+    let l' = subst (λ h. AreLinked n n h (before_of t) (order ++ p ∷ [])) afters (subst (λ h. AreLinked n n (put (g nowhere) p (put p nowhere f)) h (order ++ p ∷ [])) befores l) in
     let groups : groups_at (item_at t) (order ++ p ∷ []) ≡ groups_at items order ++ group_at e ∷ [] =
     groups-append (item_at t) order (p ∷ []) ∙ (λ i. groups-same items (item_at t) order (λ at more. told.items at ∙ others at (linked.within at more).1) i ++ cons_option (option_map group_at ((told.items p ∙ here) i)) []) in
-    let k = kept-by (next + 1) t (order ++ p ∷ []) (omega (arith, few, told.count)) (subst (λ m. AreLinked m m (behind_of t) (before_of t) (order ++ p ∷ [])) (sym told.count) l') (omega (arith, counted, told.count, length-append order (p ∷ []))) (subst (RiseBelow 1 (next + 1)) (sym groups) (rise-push 1 next (groups_at items order) (group_at e) first rise)) in
+    let k = kept-by (next + 1) t (order ++ p ∷ []) (omega (arith, few, told.count)) (subst (λ m. AreLinked m m (after_of t) (before_of t) (order ++ p ∷ [])) (sym told.count) l') (omega (arith, counted, told.count, length-append order (p ∷ []))) (subst (RiseBelow 1 (next + 1)) (sym groups) (rise-push 1 next (groups_at items order) (group_at e) first rise)) in
     (k.0, k.1 ∙ groups)
 
 -- an entry more
 module _ (es : Entries) (e : FrameKey × Linked) (few : length es < nowhere) where
   pub pushed-side : (side : Linked → ℕ) (end j : ℕ) → beside side end (es ++ e ∷ []) j ≡ put (length es) (side e.1) (beside side end es) j
-  pushed-side side end j = grind (arith, slice_get-push, slice_get-front, beside-past, length-append)
+  pushed-side side end j = grind (arith, slice_get-push, slice_get-prefix, beside-past, length-append)
 
   pub pushed-here : item_in (es ++ e ∷ []) (length es) ≡ Some (item e)
   pushed-here = ap (option_map item) (slice_get-push es e)
 
   pub pushed-other : (j : ℕ) → (j ≡ length es → ⊥) → item_in (es ++ e ∷ []) j ≡ item_in es j
-  pushed-other j q = grind (arith, slice_get-front, slice_get_past, length-append)
+  pushed-other j q = grind (arith, slice_get-prefix, slice_get_past, length-append)
 
 -- the last entry, written anew
 pub last-value : (es zs : Entries) (k : FrameKey) (v : Linked) (at : ℕ) → at ≡ length es → zs ≡ es ++ (k, v) ∷ [] → slice_get (values_of zs) at ≡ Some v
@@ -255,22 +255,22 @@ last-written es zs k v w at here is = (λ i. set_value_at (is i) (here i) w) ∙
 
 -- a group of a key that has none
 pub inserted : (next : ℕ) (g s r : OpenGroups) (k : FrameKey) (l : Linked) (at : ℕ) → at ≡ length g.groups.entries → IsKept next g → s.groups.entries ≡ g.groups.entries ++ (k, l) ∷ [] → s.first ≡ g.first → s.last ≡ g.last → length s.groups.entries < nowhere
-    → l.before ≡ g.last → l.behind ≡ nowhere → l.group.first ≡ next → AreRelinked s r (put g.last at (behind_of s)) (before_of s)
+    → l.before ≡ g.last → l.after ≡ nowhere → l.group.first ≡ next → AreRelinked s r (put g.last at (after_of s)) (before_of s)
     → IsKept (next + 1) (record r { last = at }) × (listed (record r { last = at }) ≡ listed g ++ group_at (k, l.group) ∷ [])
-inserted next g s r k l at here kept is fs ls few before behind first =
+inserted next g s r k l at here kept is fs ls few before after first =
     let n = length g.groups.entries in
     let more : length s.groups.entries ≡ suc n = omega (arith, ap length is, length-append g.groups.entries ((k, l) ∷ [])) in
-    subst (λ a. AreRelinked s r (put g.last a (behind_of s)) (before_of s) → IsKept (next + 1) (record r { last = a }) × (listed (record r { last = a }) ≡ listed g ++ group_at (k, l.group) ∷ [])) (sym here)
-    (at-end next (behind_of g) (before_of g) s r n (places g) (item_at g) (k, l.group) (omega (arith, more)) few
-    (beside-past (λ l. l.behind) g.first g.groups.entries (length s.groups.entries) (λ e. omega (arith, few, e)) (omega (arith, more)), beside-past (λ l. l.before) g.last g.groups.entries (length s.groups.entries) (λ e. omega (arith, few, e)) (omega (arith, more)))
-    (subst (λ m. AreLinked m n (behind_of g) (before_of g) (places g)) (sym more) (record {
+    subst (λ a. AreRelinked s r (put g.last a (after_of s)) (before_of s) → IsKept (next + 1) (record r { last = a }) × (listed (record r { last = a }) ≡ listed g ++ group_at (k, l.group) ∷ [])) (sym here)
+    (at-end next (after_of g) (before_of g) s r n (places g) (item_at g) (k, l.group) (omega (arith, more)) few
+    (beside-past (λ l. l.after) g.first g.groups.entries (length s.groups.entries) (λ e. omega (arith, few, e)) (omega (arith, more)), beside-past (λ l. l.before) g.last g.groups.entries (length s.groups.entries) (λ e. omega (arith, few, e)) (omega (arith, more)))
+    (subst (λ m. AreLinked m n (after_of g) (before_of g) (places g)) (sym more) (record {
       path = kept.linked.path;
       back = kept.linked.back;
       forth = kept.linked.forth;
       within = λ at some. let h = kept.linked.within at some in (omega (arith, h.0), h.1);
       once = λ at less other. kept.linked.once at (below at less other (cases_lt at n)) other;
     })) (omega (arith, kept.counted, more))
-    (λ j. (λ i. beside (λ l. l.behind) (fs i) (is i) j) ∙ pushed-side g.groups.entries (k, l) kept.few (λ l. l.behind) g.first j ∙ ap (λ q. cond (j == n) q (behind_of g j)) behind)
+    (λ j. (λ i. beside (λ l. l.after) (fs i) (is i) j) ∙ pushed-side g.groups.entries (k, l) kept.few (λ l. l.after) g.first j ∙ ap (λ q. cond (j == n) q (after_of g j)) after)
     (λ j. (λ i. beside (λ l. l.before) (ls i) (is i) j) ∙ pushed-side g.groups.entries (k, l) kept.few (λ l. l.before) g.last j ∙ ap (λ q. cond (j == n) q (before_of g j)) before)
     (λ j q. ap (λ es. item_in es j) is ∙ pushed-other g.groups.entries (k, l) kept.few j q) (ap (λ es. item_in es n) is ∙ pushed-here g.groups.entries (k, l) kept.few) first kept.rise)
   where
@@ -298,8 +298,8 @@ module _ (next : ℕ) (g s : OpenGroups) (at : ℕ) (xs ys : List ℕ) (kept : I
   fixed : (side : Linked → ℕ) (end : ℕ) → beside side end g.groups.entries n ≡ n
   fixed side end = beside-past side end g.groups.entries n (λ e. omega (arith, kept.few, e)) (omega arith)
 
-  linked-here : AreLinked n n (behind_of g) (before_of g) (xs ++ at ∷ ys)
-  linked-here = subst (AreLinked n n (behind_of g) (before_of g)) is kept.linked
+  linked-here : AreLinked n n (after_of g) (before_of g) (xs ++ at ∷ ys)
+  linked-here = subst (AreLinked n n (after_of g) (before_of g)) is kept.linked
 
   -- the list with it
   pub listed-split : (e : FrameKey × OpenGroup) → item_at g at ≡ Some e → listed g ≡ groups_at (item_at g) xs ++ group_at e ∷ groups_at (item_at g) ys
@@ -313,31 +313,31 @@ module _ (next : ℕ) (g s : OpenGroups) (at : ℕ) (xs ys : List ℕ) (kept : I
   pub counted-left : 1 + length (xs ++ ys) ≡ n
   counted-left = omega (arith, kept.counted, ap length is, length-append xs ys, length-append xs (at ∷ ys))
 
-  module _ (r : AreRelinked g s (put (before_of g at) (behind_of g at) (behind_of g)) (put (behind_of g at) (before_of g at) (before_of g))) where
-    pub linked-left : AreLinked n at (behind_of s) (before_of s) (xs ++ ys)
+  module _ (r : AreRelinked g s (put (before_of g at) (after_of g at) (after_of g)) (put (after_of g at) (before_of g at) (before_of g))) where
+    pub linked-left : AreLinked n at (after_of s) (before_of s) (xs ++ ys)
     linked-left =
-        subst (λ h. AreLinked n at h (before_of s) (xs ++ ys)) (sym (fun_ext r.behind))
-        (subst (λ h. AreLinked n at (put (before_of g at) (behind_of g at) (behind_of g)) h (xs ++ ys)) (sym (fun_ext r.before))
-        (unlinked n (behind_of g) (before_of g) xs at ys kept.few (fixed (λ l. l.behind) g.first) (fixed (λ l. l.before) g.last) linked-here))
+        subst (λ h. AreLinked n at h (before_of s) (xs ++ ys)) (sym (fun_ext r.after))
+        (subst (λ h. AreLinked n at (put (before_of g at) (after_of g at) (after_of g)) h (xs ++ ys)) (sym (fun_ext r.before))
+        (unlinked n (after_of g) (before_of g) xs at ys kept.few (fixed (λ l. l.after) g.first) (fixed (λ l. l.before) g.last) linked-here))
 
     pub groups-left : groups_at (item_at s) (xs ++ ys) ≡ groups_at (item_at g) xs ++ groups_at (item_at g) ys
     groups-left = groups-same (item_at g) (item_at s) (xs ++ ys) (λ j more. r.items j) ∙ groups-append (item_at g) xs ys
 
     -- the last of the others is a place
     pub last-place : IsPlace n s.last
-    last-place = leads-place n s.last nowhere (behind_of s) (λ j o p. beside-past (λ l. l.behind) s.first s.groups.entries j o (omega (arith, p, r.count))) (linked-left.forth nowhere (λ e. omega (arith, low, kept.few, e))).0 (inr refl)
+    last-place = leads-place n s.last nowhere (after_of s) (λ j o p. beside-past (λ l. l.after) s.first s.groups.entries j o (omega (arith, p, r.count))) (linked-left.forth nowhere (λ e. omega (arith, low, kept.few, e))).0 (inr refl)
 
     -- another group of its key goes last
     pub replaced : (k : FrameKey) (v w : Linked) → slice_get s.groups.entries at ≡ Some (k, v) → (t u : OpenGroups) → t.groups.entries ≡ set_value_at s.groups.entries at w → t.first ≡ s.first → t.last ≡ s.last
-        → w.before ≡ s.last → w.behind ≡ nowhere → w.group.first ≡ next → AreRelinked t u (put s.last at (behind_of t)) (before_of t)
+        → w.before ≡ s.last → w.after ≡ nowhere → w.group.first ≡ next → AreRelinked t u (put s.last at (after_of t)) (before_of t)
         → IsKept (next + 1) (record u { last = at }) × (listed (record u { last = at }) ≡ (groups_at (item_at g) xs ++ groups_at (item_at g) ys) ++ group_at (k, w.group) ∷ [])
-    replaced k v w there t u entries first last before behind line told =
+    replaced k v w there t u entries first last before after line told =
         let inside : at ≡ nowhere → ⊥ = λ e. omega (arith, low, kept.few, e) in
         let count : length t.groups.entries ≡ n = ap length entries ∙ length-set_value_at s.groups.entries at w ∙ r.count in
         let past = λ (side : Linked → ℕ) (end : ℕ). beside-past side end s.groups.entries (length t.groups.entries) (λ e. omega (arith, e, count, kept.few)) (omega (arith, count, r.count)) in
-        let all = at-end next (behind_of s) (before_of s) t u at (xs ++ ys) (item_at s) (k, w.group) (omega (arith, low, count)) (omega (arith, count, kept.few)) (past (λ l. l.behind) s.first, past (λ l. l.before) s.last)
-        (subst (λ m. AreLinked m at (behind_of s) (before_of s) (xs ++ ys)) (sym count) linked-left) (omega (arith, counted-left, count))
-        (λ j. (λ i. beside (λ l. l.behind) (first i) (entries i) j) ∙ beside-written s.groups.entries at k v w there inside (λ l. l.behind) s.first j ∙ ap (λ q. cond (j == at) q (behind_of s j)) behind)
+        let all = at-end next (after_of s) (before_of s) t u at (xs ++ ys) (item_at s) (k, w.group) (omega (arith, low, count)) (omega (arith, count, kept.few)) (past (λ l. l.after) s.first, past (λ l. l.before) s.last)
+        (subst (λ m. AreLinked m at (after_of s) (before_of s) (xs ++ ys)) (sym count) linked-left) (omega (arith, counted-left, count))
+        (λ j. (λ i. beside (λ l. l.after) (first i) (entries i) j) ∙ beside-written s.groups.entries at k v w there inside (λ l. l.after) s.first j ∙ ap (λ q. cond (j == at) q (after_of s j)) after)
         (λ j. (λ i. beside (λ l. l.before) (last i) (entries i) j) ∙ beside-written s.groups.entries at k v w there inside (λ l. l.before) s.last j ∙ ap (λ q. cond (j == at) q (before_of s j)) before)
         (λ j o. ap (λ es. item_in es j) entries ∙ item-other s.groups.entries at k v w there inside j o) (ap (λ es. item_in es at) entries ∙ item-here s.groups.entries at k v w there inside) line
         (subst (RiseBelow 1 next) (sym groups-left) rise-left) told in
@@ -366,25 +366,25 @@ module _ (next : ℕ) (g s : OpenGroups) (at : ℕ) (xs ys : List ℕ) (kept : I
 
       pub gone-last : at ≡ m → IsKept next t × (listed t ≡ groups_at (item_at g) xs ++ groups_at (item_at g) ys)
       gone-last e =
-          let l = dropped m (behind_of s) (before_of s) (behind_of t) (before_of t) (xs ++ ys) small
-          (λ j o. beside-others (λ l. l.behind) s.first t.first j first (λ q. o (q ∙ e)) o) (λ j o. beside-others (λ l. l.before) s.last t.last j last (λ q. o (q ∙ e)) o)
-          (subst (λ k. AreLinked (suc m) k (behind_of s) (before_of s) (xs ++ ys)) e (subst (λ k. AreLinked k at (behind_of s) (before_of s) (xs ++ ys)) many linked-left)) in
+          let l = dropped m (after_of s) (before_of s) (after_of t) (before_of t) (xs ++ ys) small
+          (λ j o. beside-others (λ l. l.after) s.first t.first j first (λ q. o (q ∙ e)) o) (λ j o. beside-others (λ l. l.before) s.last t.last j last (λ q. o (q ∙ e)) o)
+          (subst (λ k. AreLinked (suc m) k (after_of s) (before_of s) (xs ++ ys)) e (subst (λ k. AreLinked k at (after_of s) (before_of s) (xs ++ ys)) many linked-left)) in
           let groups = groups-same (item_at s) (item_at t) (xs ++ ys) (λ j more. ap (option_map item) (left.others j (linked-left.within j more).1 (λ q. (linked-left.within j more).1 (q ∙ sym e)))) ∙ groups-left in
-          let k = kept-by next t (xs ++ ys) (omega (arith, small, left.is)) (subst (λ k. AreLinked k k (behind_of t) (before_of t) (xs ++ ys)) (sym left.is) l) (omega (arith, counted-left, many, left.is)) (subst (RiseBelow 1 next) (sym groups) rise-left) in
+          let k = kept-by next t (xs ++ ys) (omega (arith, small, left.is)) (subst (λ k. AreLinked k k (after_of t) (before_of t) (xs ++ ys)) (sym left.is) l) (omega (arith, counted-left, many, left.is)) (subst (RiseBelow 1 next) (sym groups) rise-left) in
           (k.0, k.1 ∙ groups)
 
       -- the places beside the last entry are places without it
-      pub moved-places : at < m → IsPlace m (before_of s m) × IsPlace m (behind_of s m)
+      pub moved-places : at < m → IsPlace m (before_of s m) × IsPlace m (after_of s m)
       moved-places less = (
-        place (before_of s) (behind_of s) (λ j o p. beside-past (λ l. l.behind) s.first s.groups.entries j o (omega (arith, p, left.was))) (linked-left.forth m other).0 (λ e. loop (sym (ap (behind_of s) e) ∙ (linked-left.forth m other).0)),
-        place (behind_of s) (before_of s) (λ j o p. beside-past (λ l. l.before) s.last s.groups.entries j o (omega (arith, p, left.was))) (linked-left.back m other).0 loop,
+        place (before_of s) (after_of s) (λ j o p. beside-past (λ l. l.after) s.first s.groups.entries j o (omega (arith, p, left.was))) (linked-left.forth m other).0 (λ e. loop (sym (ap (after_of s) e) ∙ (linked-left.forth m other).0)),
+        place (after_of s) (before_of s) (λ j o p. beside-past (λ l. l.before) s.last s.groups.entries j o (omega (arith, p, left.was))) (linked-left.back m other).0 loop,
       )
         where
           other : m ≡ at → ⊥
           other e = omega (arith, less, e)
 
-          loop : behind_of s m ≡ m → ⊥
-          loop e = omega (arith, small, no-loop (behind_of s) m nowhere (xs ++ ys) nowhere linked-left.path e (linked-left.once m (omega (arith, many)) other))
+          loop : after_of s m ≡ m → ⊥
+          loop e = omega (arith, small, no-loop (after_of s) m nowhere (xs ++ ys) nowhere linked-left.path e (linked-left.once m (omega (arith, many)) other))
 
           place : (f h : ℕ → ℕ) → ((j : ℕ) → (j ≡ nowhere → ⊥) → suc m ≤ j → h j ≡ j) → h (f m) ≡ m → (f m ≡ m → ⊥) → IsPlace m (f m)
           place f h fix inverse never = by (cases_eq (f m) nowhere) (cases_lt (f m) m) (cases_lt m (f m))
@@ -395,17 +395,17 @@ module _ (next : ℕ) (g s : OpenGroups) (at : ℕ) (xs ys : List ℕ) (kept : I
               by (inr e) (inr l) (inl q) = absurd (never (sym (fix (f m) e (omega (arith, q))) ∙ inverse))
               by (inr e) (inr l) (inr q) = absurd (never (omega (arith, l, q)))
 
-      pub gone-moved : (u : OpenGroups) → at < m → AreRelinked t u (put (before_of t at) at (behind_of t)) (put (behind_of t at) at (before_of t)) → IsKept next u × (listed u ≡ groups_at (item_at g) xs ++ groups_at (item_at g) ys)
+      pub gone-moved : (u : OpenGroups) → at < m → AreRelinked t u (put (before_of t at) at (after_of t)) (put (after_of t at) at (before_of t)) → IsKept next u × (listed u ≡ groups_at (item_at g) xs ++ groups_at (item_at g) ys)
       gone-moved u less told =
           let bm = beside-moved (λ l. l.before) s.last t.last less in
-          let hm = beside-moved (λ l. l.behind) s.first t.first less in
-          let l = moved m (behind_of s) (before_of s) (behind_of t) (before_of t) (xs ++ ys) small at less
-          hm (λ j o o'. beside-others (λ l. l.behind) s.first t.first j first o o') bm (λ j o o'. beside-others (λ l. l.before) s.last t.last j last o o')
-          (subst (λ k. AreLinked k at (behind_of s) (before_of s) (xs ++ ys)) many linked-left) in
-          let l' = subst (λ h. AreLinked m m h (before_of u) (map (renamed m at) (xs ++ ys))) (fun_ext (λ j. ap (λ q. put q at (behind_of t) j) (sym bm) ∙ sym (told.behind j)))
-          (subst (λ h. AreLinked m m (put (before_of s m) at (behind_of t)) h (map (renamed m at) (xs ++ ys))) (fun_ext (λ j. ap (λ q. put q at (before_of t) j) (sym hm) ∙ sym (told.before j))) l) in
+          let hm = beside-moved (λ l. l.after) s.first t.first less in
+          let l = moved m (after_of s) (before_of s) (after_of t) (before_of t) (xs ++ ys) small at less
+          hm (λ j o o'. beside-others (λ l. l.after) s.first t.first j first o o') bm (λ j o o'. beside-others (λ l. l.before) s.last t.last j last o o')
+          (subst (λ k. AreLinked k at (after_of s) (before_of s) (xs ++ ys)) many linked-left) in
+          let l' = subst (λ h. AreLinked m m h (before_of u) (map (renamed m at) (xs ++ ys))) (fun_ext (λ j. ap (λ q. put q at (after_of t) j) (sym bm) ∙ sym (told.after j)))
+          (subst (λ h. AreLinked m m (put (before_of s m) at (after_of t)) h (map (renamed m at) (xs ++ ys))) (fun_ext (λ j. ap (λ q. put q at (before_of t) j) (sym hm) ∙ sym (told.before j))) l) in
           let groups = groups-renamed (item_at s) (item_at u) (renamed m at) (xs ++ ys) (λ j more. told.items (renamed m at j) ∙ named j (linked-left.within j more).1 (cases_eq j m)) ∙ groups-left in
-          let k = kept-by next u (map (renamed m at) (xs ++ ys)) (omega (arith, small, left.is, told.count)) (subst (λ k. AreLinked k k (behind_of u) (before_of u) (map (renamed m at) (xs ++ ys))) (sym (told.count ∙ left.is)) l')
+          let k = kept-by next u (map (renamed m at) (xs ++ ys)) (omega (arith, small, left.is, told.count)) (subst (λ k. AreLinked k k (after_of u) (before_of u) (map (renamed m at) (xs ++ ys))) (sym (told.count ∙ left.is)) l')
           (omega (arith, counted-left, many, left.is, told.count, length-map (xs ++ ys) (renamed m at))) (subst (RiseBelow 1 next) (sym groups) rise-left) in
           (k.0, k.1 ∙ groups)
         where
@@ -428,10 +428,10 @@ module _ (g : OpenGroups) (at : ℕ) (k : FrameKey) (v w : Linked) (is : slice_g
   told-side : (side : Linked → ℕ) (end end' j : ℕ) → end' ≡ end → beside side end' t.groups.entries j ≡ put at (side w) (beside side end g.groups.entries) j
   told-side side end end' j e = (λ i. beside side (e i) (entries i) j) ∙ beside-written g.groups.entries at k v w is inside side end j
 
-  pub told-behind : w.before ≡ v.before → AreRelinked g t (put at w.behind (behind_of g)) (before_of g)
-  told-behind s = grind (arith, length-set_value_at, told-items, told-side)
+  pub told-after : w.before ≡ v.before → AreRelinked g t (put at w.after (after_of g)) (before_of g)
+  told-after s = grind (arith, length-set_value_at, told-items, told-side)
 
-  pub told-before : w.behind ≡ v.behind → AreRelinked g t (behind_of g) (put at w.before (before_of g))
+  pub told-before : w.after ≡ v.after → AreRelinked g t (after_of g) (put at w.before (before_of g))
   told-before s = grind (arith, length-set_value_at, told-items, told-side)
 
 -- the group at a place is another, of the same line
@@ -440,11 +440,11 @@ pub record IsWritten (next : ℕ) (g t : OpenGroups) (xs ys : List ℕ) (e : Fra
   pub kept : IsKept next t
   pub listed : listed t ≡ groups_at (item_at g) xs ++ group_at e ∷ groups_at (item_at g) ys
   pub places : places t ≡ places g
-  pub front : groups_at (item_at t) xs ≡ groups_at (item_at g) xs
+  pub prefix : groups_at (item_at t) xs ≡ groups_at (item_at g) xs
   pub rear : groups_at (item_at t) ys ≡ groups_at (item_at g) ys
 
 module _ (next : ℕ) (g : OpenGroups) (at : ℕ) (xs ys : List ℕ) (kept : IsKept next g) (low : at < length g.groups.entries) (is : places g ≡ xs ++ at ∷ ys) (k : FrameKey) (v w : Linked) (there : slice_get g.groups.entries at ≡ Some (k, v))
-    (behind : w.behind ≡ v.behind) (before : w.before ≡ v.before) (t : OpenGroups) (entries : t.groups.entries ≡ set_value_at g.groups.entries at w) (first : t.first ≡ g.first) (last : t.last ≡ g.last) where
+    (after : w.after ≡ v.after) (before : w.before ≡ v.before) (t : OpenGroups) (entries : t.groups.entries ≡ set_value_at g.groups.entries at w) (first : t.first ≡ g.first) (last : t.last ≡ g.last) where
   inside : at ≡ nowhere → ⊥
   inside e = omega (arith, low, kept.few, e)
 
@@ -452,7 +452,7 @@ module _ (next : ℕ) (g : OpenGroups) (at : ℕ) (xs ys : List ℕ) (kept : IsK
   same-side side end end' j e s = (λ i. beside side (e i) (entries i) j) ∙ beside-kept g.groups.entries at k v w there inside side end j s
 
   in-order : (times at xs ≡ 0) × (times at ys ≡ 0)
-  in-order = let l = in-list (length g.groups.entries) (behind_of g) (before_of g) xs at ys kept.few (fixed next g g at xs ys kept low is (λ l. l.behind) g.first) (fixed next g g at xs ys kept low is (λ l. l.before) g.last) (linked-here next g g at xs ys kept low is) in (l.1, l.2)
+  in-order = let l = in-list (length g.groups.entries) (after_of g) (before_of g) xs at ys kept.few (fixed next g g at xs ys kept low is (λ l. l.after) g.first) (fixed next g g at xs ys kept low is (λ l. l.before) g.last) (linked-here next g g at xs ys kept low is) in (l.1, l.2)
 
   unchanged-groups : (zs : List ℕ) → times at zs ≡ 0 → groups_at (item_at t) zs ≡ groups_at (item_at g) zs
   unchanged-groups zs none = groups-same (item_at g) (item_at t) zs (λ j more. ap (λ es. item_in es j) entries ∙ item-other g.groups.entries at k v w there inside j (λ e. omega (arith, none, subst (λ i. 0 < times i zs) e more)))
@@ -466,10 +466,10 @@ module _ (next : ℕ) (g : OpenGroups) (at : ℕ) (xs ys : List ℕ) (kept : IsK
   written line =
       let n = length g.groups.entries in
       let count : length t.groups.entries ≡ n = ap length entries ∙ length-set_value_at g.groups.entries at w in
-      let l = subst (λ h. AreLinked n n h (before_of t) (places g)) (fun_ext (λ j. sym (same-side (λ l. l.behind) g.first t.first j first behind)))
-      (subst (λ h. AreLinked n n (behind_of g) h (places g)) (fun_ext (λ j. sym (same-side (λ l. l.before) g.last t.last j last before))) kept.linked) in
+      let l = subst (λ h. AreLinked n n h (before_of t) (places g)) (fun_ext (λ j. sym (same-side (λ l. l.after) g.first t.first j first after)))
+      (subst (λ h. AreLinked n n (after_of g) h (places g)) (fun_ext (λ j. sym (same-side (λ l. l.before) g.last t.last j last before))) kept.linked) in
       let rise = rise-instead 1 next (groups_at (item_at g) xs) (group_at (k, v.group)) (group_at (k, w.group)) (groups_at (item_at g) ys) line (subst (RiseBelow 1 next) (listed-split next g g at xs ys kept low is (k, v.group) (ap (option_map item) there)) kept.rise) in
-      let l' = subst (λ m. AreLinked m m (behind_of t) (before_of t) (places g)) (sym count) l in
+      let l' = subst (λ m. AreLinked m m (after_of t) (before_of t) (places g)) (sym count) l in
       let few : length t.groups.entries < nowhere = omega (arith, kept.few, count) in
       let all = kept-by next t (places g) few l' (kept.counted ∙ sym count) (subst (RiseBelow 1 next) (sym written-groups) rise) in
       record {
@@ -477,19 +477,19 @@ module _ (next : ℕ) (g : OpenGroups) (at : ℕ) (xs ys : List ℕ) (kept : IsK
         kept = all.0;
         listed = all.1 ∙ written-groups;
         places = places-are t.groups.entries t.first nowhere (places g) (length t.groups.entries) few (λ at more. (l'.within at more).0) (omega (arith, kept.counted, count)) l'.path;
-        front = unchanged-groups xs in-order.0;
+        prefix = unchanged-groups xs in-order.0;
         rear = unchanged-groups ys in-order.1;
       }
 
 -- ---- an end with a new neighbour
 
 module _ (g : OpenGroups) (at to : ℕ) (past : length g.groups.entries ≤ at) (is : IsPlace (length g.groups.entries) at) where
-  pub told-first : AreRelinked g (record g { first = to }) (put at to (behind_of g)) (before_of g)
+  pub told-first : AreRelinked g (record g { first = to }) (put at to (after_of g)) (before_of g)
   told-first = grind arith
 
-  pub told-last : AreRelinked g (record g { last = to }) (behind_of g) (put at to (before_of g))
+  pub told-last : AreRelinked g (record g { last = to }) (after_of g) (put at to (before_of g))
   told-last = grind arith
 
 -- a new neighbour on each side
-pub both-told : (g s t : OpenGroups) (b x h y : ℕ) → AreRelinked g s (put b x (behind_of g)) (before_of g) → AreRelinked s t (behind_of s) (put h y (before_of s)) → AreRelinked g t (put b x (behind_of g)) (put h y (before_of g))
+pub both-told : (g s t : OpenGroups) (b x h y : ℕ) → AreRelinked g s (put b x (after_of g)) (before_of g) → AreRelinked s t (after_of s) (put h y (before_of s)) → AreRelinked g t (put b x (after_of g)) (put h y (before_of g))
 both-told g s t b x h y one two = grind arith

@@ -52,11 +52,11 @@ module _ (w : Window) (some : 0 < w.lines) where
   told-waiting n t (g ∷ gs) past = grind (arith, told-waiting n t gs past)
 
   -- The groups whose window ends at the line are a prefix of the groups, since first lines rise.
-  pub told-front : (n least : ℕ) (t : Group → Bool) (gs : List Group) → AllByRecursion (λ o. is_waiting w (n + 1) o ≡ false → t o ≡ true) gs → Rise (λ (g : Group). g.first) least gs
+  pub told-prefix : (n least : ℕ) (t : Group → Bool) (gs : List Group) → AllByRecursion (λ o. is_waiting w (n + 1) o ≡ false → t o ≡ true) gs → Rise (λ (g : Group). g.first) least gs
       → filter_map (told_if w some t) gs ≡ map as_broken (ended w (n + 1) gs) ++ filter_map (told_if w some t) (waiting w (n + 1) gs)
   unfolding waiting ended
-  told-front n least t [] now rise = refl
-  told-front n least t (g ∷ gs) now rise = grind (arith, told-front n (g.first + 1) t gs now.1 rise.1, ltb-true, later-wait)
+  told-prefix n least t [] now rise = refl
+  told-prefix n least t (g ∷ gs) now rise = grind (arith, told-prefix n (g.first + 1) t gs now.1 rise.1, ltb-true, later-wait)
 
   -- ---- groups that wait
 

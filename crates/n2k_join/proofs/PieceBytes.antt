@@ -18,9 +18,9 @@ window xs start zero within = refl
 window xs start (suc count) within = grind (arith, window xs (start + 1) count (omega (arith, within)), drop-cons)
 
 -- a later frame that the data fill
-pub later_bytes : (payload behind seven : List ℕ) (n first : ℕ) → first + 1 ≡ 7 * n → behind ≡ drop first payload → 7 ≤ length behind → seven ≡ take 7 behind → seven ≡ piece_bytes payload n
+pub later_bytes : (payload after seven : List ℕ) (n first : ℕ) → first + 1 ≡ 7 * n → after ≡ drop first payload → 7 ≤ length after → seven ≡ take 7 after → seven ≡ piece_bytes payload n
 unfolding piece_bytes
-later_bytes payload behind seven n first e rest enough is = grind (arith, window (length payload ∷ payload) (suc first) 7 (omega (arith, (ap length rest ∙ length-drop first payload), enough)))
+later_bytes payload after seven n first e rest enough is = grind (arith, window (length payload ∷ payload) (suc first) 7 (omega (arith, (ap length rest ∙ length-drop first payload), enough)))
 
 -- frame 0, if the data fill it
 pub first_bytes : (payload six : List ℕ) → 6 ≤ length payload → six ≡ take 6 payload → length payload ∷ get_or six 0 0 ∷ get_or six 1 0 ∷ get_or six 2 0 ∷ get_or six 3 0 ∷ get_or six 4 0 ∷ get_or six 5 0 ∷ [] ≡ piece_bytes payload 0

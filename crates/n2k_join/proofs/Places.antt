@@ -134,16 +134,16 @@ module _ (n : ℕ) (f g : ℕ → ℕ) (xs : List ℕ) (p : ℕ) (ys : List ℕ)
     went = put (g p) (f p) f
 
     path-left : (zs : List ℕ) → times p zs ≡ 0 → times n zs ≡ 0 → Path went nowhere xs (f p) → Path f p zs nowhere → Path went nowhere (xs ++ zs) nowhere
-    path-left [] t u front h = subst (λ ws. Path went nowhere ws nowhere) (sym (append-nil xs)) (subst (Path went nowhere xs) h front)
-    path-left (q ∷ zs) t u front h = grind (arith, path-from, path-same, in-list)
+    path-left [] t u prefix h = subst (λ ws. Path went nowhere ws nowhere) (sym (append-nil xs)) (subst (Path went nowhere xs) h prefix)
+    path-left (q ∷ zs) t u prefix h = grind (arith, path-from, path-same, in-list)
 
     pub unlinked : AreLinked n p (put (g p) (f p) f) (put (f p) (g p) g) (xs ++ ys)
     unlinked = record {
       path =
           let parts = path-parts f nowhere xs p ys nowhere l.path in
-          let front = path-changed f went n p (f p) (λ j i e. put-here (g p) (f p) f j (sym (l.back j i).0 ∙ ap g e)) (λ j i e. put-other (g p) (f p) f j (λ at. e (ap f at ∙ all-back g f gn fn l.forth p)))
+          let prefix = path-changed f went n p (f p) (λ j i e. put-here (g p) (f p) f j (sym (l.back j i).0 ∙ ap g e)) (λ j i e. put-other (g p) (f p) f j (λ at. e (ap f at ∙ all-back g f gn fn l.forth p)))
           nowhere xs (λ e. omega (arith, few, e)) (absent xs (λ m. omega (arith, m, times-append n xs (p ∷ ys)))) in-list.1 parts.0 in
-          path-left ys in-list.2 (absent ys (λ m. omega (arith, m, times-append n xs (p ∷ ys)))) front parts.1;
+          path-left ys in-list.2 (absent ys (λ m. omega (arith, m, times-append n xs (p ∷ ys)))) prefix parts.1;
       back = out f g p (all-back f g fn gn l.back);
       forth = out g f p (all-back g f gn fn l.forth);
       within = λ at more. (

@@ -102,9 +102,9 @@ pub all-append : {X : Type 0} (P : X → Type 0) (xs ys : List X) → AllByRecur
 all-append P [] ys a b = b
 all-append P (x ∷ xs) ys a b = (a.0, all-append P xs ys a.1 b)
 
-pub all-front : {X : Type 0} (P : X → Type 0) (xs ys : List X) → AllByRecursion P (xs ++ ys) → AllByRecursion P xs
-all-front P [] ys each = tt
-all-front P (x ∷ xs) ys each = (each.0, all-front P xs ys each.1)
+pub all-prefix : {X : Type 0} (P : X → Type 0) (xs ys : List X) → AllByRecursion P (xs ++ ys) → AllByRecursion P xs
+all-prefix P [] ys each = tt
+all-prefix P (x ∷ xs) ys each = (each.0, all-prefix P xs ys each.1)
 
 pub all-back : {X : Type 0} (P : X → Type 0) (xs ys : List X) → AllByRecursion P (xs ++ ys) → AllByRecursion P ys
 all-back P [] ys each = each
@@ -117,7 +117,7 @@ all-flat_map P f (x ∷ xs) all = all-append P (f x) (flat_map f xs) all.0 (all-
 -- a property of all items holds of the items of each list
 pub all-joined : {X : Type 0} (P : X → Type 0) (gs : List (List X)) → AllByRecursion P (flat_map (λ (g : List X). g) gs) → AllByRecursion (AllByRecursion P) gs
 all-joined P [] each = tt
-all-joined {X} P (g ∷ gs) each = grind (arith, all-joined P gs (all-back P g (flat_map (λ (g : List X). g) gs) each), all-front)
+all-joined {X} P (g ∷ gs) each = grind (arith, all-joined P gs (all-back P g (flat_map (λ (g : List X). g) gs) each), all-prefix)
 
 -- a property of each item holds of the last
 pub last-all : {X : Type 0} (P : X → Type 0) (o : Option X) (xs : List X) → IfSome o P → AllByRecursion P xs → IfSome (last_or o xs) P

@@ -10,7 +10,7 @@ use Rattle.n2k_join.specs.declared.piece.OpenGroup.{OpenGroup}
 use Rattle.n2k_join.specs.Frames.{Key, most_frames}
 use Rattle.n2k_join.specs.Open.{Piece, Group, piece_at}
 use Rattle.n2k_join.specs.Saved.{are_waiting, tree_by, group_tree, state_tree, state_text}
-use Rattle.n2k_join.specs.Inner.SavedTokens.{tokens_of, count_tokens, piece_tokens, pieces_tokens, frames_tokens, key_tokens, groups_tokens, open_tokens, front_tokens, table_tokens, back_tokens, window_tokens}
+use Rattle.n2k_join.specs.Inner.SavedTokens.{tokens_of, count_tokens, piece_tokens, pieces_tokens, frames_tokens, key_tokens, groups_tokens, open_tokens, prefix_tokens, table_tokens, back_tokens, window_tokens}
 use Rattle.n2k_join.specs.State.{State}
 use Rattle.n2k_join.specs.Inner.Slots.{slot_of, pieces_in, group_in}
 use Rattle.n2k_join.proofs.Rising.{range-push, filter_map-push}
@@ -70,11 +70,11 @@ unfolding groups_tokens
 open_written o o1 o2 o3 o4 gs p1 p2 p3 p4 = grind (arith, append-nil, items_tokens-map, common_steps)
 
 pub state_written : (o o1 o2 o3 o4 o5 : List Token) (s : State) (with_window : Bool) → with_window ≡ are_waiting s
-    → o1 ≡ o ++ Token.begin_object ∷ [] → o2 ≡ o1 ++ front_tokens with_window s.counts → o3 ≡ o2 ++ open_tokens s.groups
+    → o1 ≡ o ++ Token.begin_object ∷ [] → o2 ≡ o1 ++ prefix_tokens with_window s.counts → o3 ≡ o2 ++ open_tokens s.groups
     → o4 ≡ o3 ++ back_tokens with_window s.id s.window.lines s.counts → o5 ≡ o4 ++ Token.end_object ∷ []
     → o5 ≡ o ++ tokens_of (state_tree s)
 unfolding tree_by
-state_written o o1 o2 o3 o4 o5 s with_window is p1 p2 p3 p4 p5 = grind (arith, six_written o (Token.begin_object ∷ []) (front_tokens with_window s.counts) (open_tokens s.groups) (back_tokens with_window s.id s.window.lines s.counts) (Token.end_object ∷ []) [] o1 o2 o3 o4 o5 o5 p1 p2 p3 p4 p5 (sym (append-nil o5)))
+state_written o o1 o2 o3 o4 o5 s with_window is p1 p2 p3 p4 p5 = grind (arith, six_written o (Token.begin_object ∷ []) (prefix_tokens with_window s.counts) (open_tokens s.groups) (back_tokens with_window s.id s.window.lines s.counts) (Token.end_object ∷ []) [] o1 o2 o3 o4 o5 o5 p1 p2 p3 p4 p5 (sym (append-nil o5)))
 
 pub text_written : (s : State) (before text : List ℕ) (none ts : List Token) → text ≡ before ++ print ts → before ≡ [] → none ≡ [] → ts ≡ none ++ tokens_of (state_tree s)
     → text ≡ state_text s

@@ -229,9 +229,9 @@ length-sevens [] (suc m) each few = absurd (omega (arith, few))
 length-sevens (b ∷ ss) (suc m) each few = grind (arith, length-sevens ss m each.1 (omega (arith, few)), length-append)
 
 -- a slice from the second byte on, within a prefix
-within-front : (xs ys : List ℕ) (t : ℕ) → t + 1 ≤ length xs → take t (drop 1 (xs ++ ys)) ≡ take t (drop 1 xs)
-within-front [] ys t l = absurd (omega (arith, l))
-within-front (x ∷ xs) ys t l = take-append-le t xs ys (omega (arith, l))
+within-prefix : (xs ys : List ℕ) (t : ℕ) → t + 1 ≤ length xs → take t (drop 1 (xs ++ ys)) ≡ take t (drop 1 xs)
+within-prefix [] ys t l = absurd (omega (arith, l))
+within-prefix (x ∷ xs) ys t l = take-append-le t xs ys (omega (arith, l))
 
 module _ (k : Key) (g : OpenGroup) (done : complete (held_of (group_in k g)) ≡ true) where
   abbrev frames : List Frame
@@ -268,5 +268,5 @@ module _ (k : Key) (g : OpenGroup) (done : complete (held_of (group_in k g)) ≡
       let long : t + 1 ≤ length (flat_map (λ (b : List ℕ). b) (take (last + 1) g.slots)) = omega (arith, length-sevens g.slots (last + 1) g.seven few) in
       (λ i. take (total-slots i) (drop 1 (flat_map (bytes_at (held_of (group_in k g))) (range_with_len 0 (last_number (total-slots i) + 1)))))
       ∙ ap (λ bs. take t (drop 1 bs)) (first-slots (bytes_at (held_of (group_in k g))) g.slots 0 (last + 1) few same)
-      ∙ sym (within-front (flat_map (λ (b : List ℕ). b) (take (last + 1) g.slots)) (flat_map (λ (b : List ℕ). b) (drop (last + 1) g.slots)) t long)
+      ∙ sym (within-prefix (flat_map (λ (b : List ℕ). b) (take (last + 1) g.slots)) (flat_map (λ (b : List ℕ). b) (drop (last + 1) g.slots)) t long)
       ∙ ap (λ bs. take t (drop 1 bs)) (sym (flat_map-append (λ (b : List ℕ). b) (take (last + 1) g.slots) (drop (last + 1) g.slots)) ∙ ap (flat_map (λ (b : List ℕ). b)) (take-append-drop (last + 1) g.slots))

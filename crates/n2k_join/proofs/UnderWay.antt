@@ -39,9 +39,9 @@ numbered src pgn dst earlier (m ∷ ms) = by (is_of src pgn dst m) refl (numbere
     by true h later = (ap (λ (t : PacketParts → Bool). count_by t earlier % 8) (same_test src pgn dst m h), subst (λ n. AreNumbered n rest) (counted true h) later)
     by false h later = let none : count_by (is_of src pgn dst) (earlier ++ m ∷ []) ≡ before = omega (arith, counted false h) in subst (λ n. AreNumbered n rest) none later
 
-past : (n : ℕ) (front rest : List Sending) → AreNumbered n (front ++ rest) → AreNumbered (n + length front) rest
+past : (n : ℕ) (prefix rest : List Sending) → AreNumbered n (prefix ++ rest) → AreNumbered (n + length prefix) rest
 past n [] rest h = let same : n ≡ n + 0 = omega arith in subst (λ k. AreNumbered k rest) same h
-past n (x ∷ front) rest h = let same : n + 1 + length front ≡ n + suc (length front) = omega arith in subst (λ k. AreNumbered k rest) same (past (n + 1) front rest h.1)
+past n (x ∷ prefix) rest h = let same : n + 1 + length prefix ≡ n + suc (length prefix) = omega arith in subst (λ k. AreNumbered k rest) same (past (n + 1) prefix rest h.1)
 
 at_place : (n : ℕ) (xs back : List Sending) (i : ℕ) (d : Sending) → AreNumbered n (xs ++ back) → i < length xs → (slice_index_or xs i d).sequence ≡ (n + i) % 8
 at_place n [] back i d h l = absurd (omega (arith, l))
@@ -50,11 +50,11 @@ at_place n (x ∷ xs) back (suc i) d h l = let same : n + 1 + i ≡ n + suc i = 
 
 pub eight_under_way : (ms : List PacketParts) → EightUnderWay ms
 eight_under_way ms = record {
-  apart = λ src pgn dst front next back is few i j d less below same.
-      let all : AreNumbered 0 (front ++ (next ++ back)) = subst (AreNumbered 0) is (numbered src pgn dst [] ms) in
-      let later = past 0 front (next ++ back) all in
-      let one = at_place (0 + length front) next back i d later (omega (arith, less, below)) in
-      let other = at_place (0 + length front) next back j d later below in
+  apart = λ src pgn dst prefix next back is few i j d less below same.
+      let all : AreNumbered 0 (prefix ++ (next ++ back)) = subst (AreNumbered 0) is (numbered src pgn dst [] ms) in
+      let later = past 0 prefix (next ++ back) all in
+      let one = at_place (0 + length prefix) next back i d later (omega (arith, less, below)) in
+      let other = at_place (0 + length prefix) next back j d later below in
       let equal : (slice_index_or next i d).sequence ≡ (slice_index_or next j d).sequence = ap (λ (k : Key). k.sequence) same in
       omega (arith, one, other, equal, less, below, few);
 }

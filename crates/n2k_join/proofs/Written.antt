@@ -80,13 +80,13 @@ in_time kind w line x long can some =
 one_more : (w : Window) (k : Key) (x : Sending) (xs : List Sending) (g fs : List Frame) → IsStretchWithin w x g → FallInto w xs fs → FallInto w (x ∷ xs) (g ++ fs)
 one_more w k x xs g fs is falls = record {
   stretches = g ∷ falls.stretches;
-  one_behind_the_other = ap (λ l. g ++ l) falls.one_behind_the_other;
+  one_after_the_other = ap (λ l. g ++ l) falls.one_after_the_other;
   each = (is, falls.each);
 }
 
 fall : (w : Window) → 32 ≤ w.lines → (kind : ℕ → Option Kind) (k : Key) (line : ℕ) (xs : List Sending) → AllByRecursion (IsSending kind) xs → FallInto w (filter (λ (x : Sending). same_key k (key_of_sending x)) xs) (of_key k (sent_frames kind line xs))
 unfolding sent_frames frames_at
-fall w long kind k line [] can = record { stretches = []; one_behind_the_other = refl; each = tt }
+fall w long kind k line [] can = record { stretches = []; one_after_the_other = refl; each = tt }
 fall w long kind k line (x ∷ xs) can =
     let mine = as_entries (frames_of_sending kind x) in
     let others = as_entries (flat_map (frames_of_sending kind) xs) in

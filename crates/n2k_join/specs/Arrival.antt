@@ -43,27 +43,27 @@ pub record ArriveWhole (window : Window) (kind : ℕ → Option Kind) (ms : List
   pub none_broken : (line : ℕ) → broken window kind es line ≡ []
   pub none_open : open_within window (length es) (frames kind es) ≡ []
 
--- After the entries `front` of a log, the next frames of a sending's key are its pieces, by rising number: `group`,
+-- After the entries `prefix` of a log, the next frames of a sending's key are its pieces, by rising number: `group`,
 -- within the window. `back` is the rest of the log, `after` the key's later frames.
-pub record ComesNext (window : Window) (kind : ℕ → Option Kind) (front back : List Entry) (x : Sending)
+pub record ComesNext (window : Window) (kind : ℕ → Option Kind) (prefix back : List Entry) (x : Sending)
     (group after : List Frame) : Type 0 where
-  pub next : of_key (key_of_sending x) (frames kind (front ++ back))
-      ≡ of_key (key_of_sending x) (frames kind front) ++ (group ++ after)
+  pub next : of_key (key_of_sending x) (frames kind (prefix ++ back))
+      ≡ of_key (key_of_sending x) (frames kind prefix) ++ (group ++ after)
   pub each : All (IsPieceOf x) group
   pub rising : map (λ (f : Frame). f.number) group ≡ range_with_len 0 (last_piece x.message + 1)
   pub in_time : All (λ (f : Frame). f.line < first group + window.lines) group
 
--- If the entries `front` leave a group of the sending's key open, it has frame 0.
+-- If the entries `prefix` leave a group of the sending's key open, it has frame 0.
 abbrev pub LeavesZero : Window → (ℕ → Option Kind) → List Entry → Sending → Type 0
-LeavesZero window kind front x =
-    IfSome (open_of (within window) (key_of_sending x) (frames kind front))
-    (λ last. length front < first last + window.lines → has_number 0 last ≡ true)
+LeavesZero window kind prefix x =
+    IfSome (open_of (within window) (key_of_sending x) (frames kind prefix))
+    (λ last. length prefix < first last + window.lines → has_number 0 last ≡ true)
 
 -- heals: the line of the last piece gives the message, and the group left open, if any, is broken at the line of the
 -- first piece, or earlier if its window ends earlier.
-pub record Heals (window : Window) (kind : ℕ → Option Kind) (front back : List Entry) (x : Sending) (group : List Frame)
+pub record Heals (window : Window) (kind : ℕ → Option Kind) (prefix back : List Entry) (x : Sending) (group : List Frame)
     : Type 0 where
-  pub given : message window kind (front ++ back) (last_line group) ≡ Some x.message
-  pub breaks : IfSome (open_of (within window) (key_of_sending x) (frames kind front))
-      (λ left. Contains (broken window kind (front ++ back) (min (first left + window.lines) (first group)))
+  pub given : message window kind (prefix ++ back) (last_line group) ≡ Some x.message
+  pub breaks : IfSome (open_of (within window) (key_of_sending x) (frames kind prefix))
+      (λ left. Contains (broken window kind (prefix ++ back) (min (first left + window.lines) (first group)))
       (broken_of (key_of_sending x) left))

@@ -117,8 +117,8 @@ pub record IsFirstGroup (ends : EndTest) (fs group rest : List Frame) : Type 0 w
   pub joined : fs ≡ group ++ rest
   pub nonempty : 0 < length group
   pub ended : HasEnded ends group rest
-  pub shortest : (f g : Frame) (front back : List Frame) → group ≡ (f ∷ front) ++ (g ∷ back)
-      → closes ends (f ∷ front) g ≡ false
+  pub shortest : (f g : Frame) (prefix back : List Frame) → group ≡ (f ∷ prefix) ++ (g ∷ back)
+      → closes ends (f ∷ prefix) g ≡ false
 
 -- a group that isn't complete
 abbrev pub incomplete : List Frame → Option (List Frame)

@@ -44,13 +44,13 @@ pub record CutGrows (ends : EndTest) (fs back : List Frame) : Type 0 where
       → option_map first (slice_get (cut ends (fs ++ back)) place) ≡ Some (first group)
   pub no_fewer : length (cut ends fs) ≤ length (cut ends (fs ++ back))
 
--- The results of the lines of `front` are settled: whatever follows, they give the same messages and the same broken
+-- The results of the lines of `prefix` are settled: whatever follows, they give the same messages and the same broken
 -- groups.
-pub record HasSettled (window : Window) (kind : ℕ → Option Kind) (front back : List Entry) : Type 0 where
-  pub messages : (line : ℕ) → 1 ≤ line → line ≤ length front
-      → message window kind (front ++ back) line ≡ message window kind front line
-  pub broken_groups : (line : ℕ) → line ≤ length front
-      → broken window kind (front ++ back) line ≡ broken window kind front line
+pub record HasSettled (window : Window) (kind : ℕ → Option Kind) (prefix back : List Entry) : Type 0 where
+  pub messages : (line : ℕ) → 1 ≤ line → line ≤ length prefix
+      → message window kind (prefix ++ back) line ≡ message window kind prefix line
+  pub broken_groups : (line : ℕ) → line ≤ length prefix
+      → broken window kind (prefix ++ back) line ≡ broken window kind prefix line
 
 -- The step from the state of a log is the state of the log with the entry, and has the result of that log's last line.
 pub record StepsAgree (id : List ℕ) (window : Window) (kind : ℕ → Option Kind) (es : List Entry) (e : Entry)
@@ -70,17 +70,17 @@ pub record LinesStay (window : Window) (kind : ℕ → Option Kind) (es : List E
       → broken window kind (es ++ e ∷ []) line ≡ broken window kind es line
 
 -- For a bad entry: with a skipped line in its place, only the count of bad lines changes.
-pub record BadAlone (window : Window) (kind : ℕ → Option Kind) (front : List Entry) (e : Entry) (back : List Entry)
+pub record BadAlone (window : Window) (kind : ℕ → Option Kind) (prefix : List Entry) (e : Entry) (back : List Entry)
     : Type 0 where
   pub messages : (line : ℕ)
-      → message window kind (front ++ e ∷ back) line ≡ message window kind (front ++ entries.Skip ∷ back) line
+      → message window kind (prefix ++ e ∷ back) line ≡ message window kind (prefix ++ entries.Skip ∷ back) line
   pub broken_groups : (line : ℕ)
-      → broken window kind (front ++ e ∷ back) line ≡ broken window kind (front ++ entries.Skip ∷ back) line
-  pub open_still : open_within window (length (front ++ e ∷ back)) (frames kind (front ++ e ∷ back))
-      ≡ open_within window (length (front ++ entries.Skip ∷ back)) (frames kind (front ++ entries.Skip ∷ back))
-  pub counted : counts window kind (front ++ e ∷ back)
-      ≡ record (counts window kind (front ++ entries.Skip ∷ back)) {
-        bad = (counts window kind (front ++ entries.Skip ∷ back)).bad + 1;
+      → broken window kind (prefix ++ e ∷ back) line ≡ broken window kind (prefix ++ entries.Skip ∷ back) line
+  pub open_still : open_within window (length (prefix ++ e ∷ back)) (frames kind (prefix ++ e ∷ back))
+      ≡ open_within window (length (prefix ++ entries.Skip ∷ back)) (frames kind (prefix ++ entries.Skip ∷ back))
+  pub counted : counts window kind (prefix ++ e ∷ back)
+      ≡ record (counts window kind (prefix ++ entries.Skip ∷ back)) {
+        bad = (counts window kind (prefix ++ entries.Skip ∷ back)).bad + 1;
       }
 
 -- A group that is due may be broken before its line is taken: without it, the step leads to the same state and gives

@@ -48,7 +48,7 @@ all_frames groups = flat_map (λ (group : List Frame). group) groups
 -- the frames fall into one stretch a sending, in the order of the sendings
 pub record FallInto (window : Window) (xs : List Sending) (fs : List Frame) : Type 0 where
   pub stretches : List (List Frame)
-  pub one_behind_the_other : fs ≡ all_frames stretches
+  pub one_after_the_other : fs ≡ all_frames stretches
   pub each : AllZip (IsStretchWithin window) xs stretches
 
 -- the messages of a list whose frames have the key, each with its sequence

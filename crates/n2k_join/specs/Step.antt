@@ -12,7 +12,7 @@ use Rattle.n2k_table.specs.declared.definition.Kind.{Kind}
 use Rattle.n2k_join.specs.declared.fault.JoinFault.{JoinFault}
 use Rattle.n2k_join.specs.declared.fault.JoinFault.TheVariants.{Memory, TooManyLines}
 use Rattle.n2k_join.specs.declared.step.Step.{Step}
-use Rattle.n2k_join.specs.declared.step.LentStep.{LentStep}
+use Rattle.n2k_join.specs.declared.step.InPlaceStep.{InPlaceStep}
 use Rattle.n2k_join.specs.Frames.{same_key, Frame, frame_in}
 use Rattle.n2k_join.specs.Open.{Group}
 use Rattle.n2k_join.specs.State.{State, Given, next_line, overdue, step_given, step_after, AreWaiting}
@@ -40,7 +40,7 @@ IsOwn t (Some known) None = ⊥
 IsOwn t (Some known) (Some packet) = known ≡ record { table = t; pgn = packet.id.pgn }
 
 -- the step of a line that left this entry, without its number
-abbrev pub step_in : Entry → LentStep → Step
+abbrev pub step_in : Entry → InPlaceStep → Step
 step_in e step = record {
   message = message_in (is_some step.message) (packet_in e);
   bad = step.bad;

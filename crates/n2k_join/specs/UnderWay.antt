@@ -16,7 +16,7 @@ sent_by src pgn dst ms = filter (is_sent src pgn dst) (sendings ms)
 -- Any eight consecutive messages of one sender, PGN and receiver, and any fewer, have different keys, whatever other
 -- messages come between them.
 pub record EightUnderWay (ms : List PacketParts) : Type 0 where
-  pub apart : (src pgn dst : ℕ) (front next back : List Sending) → sent_by src pgn dst ms ≡ front ++ (next ++ back)
+  pub apart : (src pgn dst : ℕ) (prefix next back : List Sending) → sent_by src pgn dst ms ≡ prefix ++ (next ++ back)
       → length next ≤ most_sequences → AllPairs (λ (x y : Sending). key_of_sending x ≢ key_of_sending y) next
 
 -- two messages are of one sender, PGN and receiver

@@ -25,7 +25,7 @@ use crate::saved::{
     SpelledGroup, format_in, parsed, read_state, rules_hold, state_text, stored_groups, waits_hold,
     written_parts,
 };
-use crate::step::{Broken, LentStep, Step};
+use crate::step::{Broken, InPlaceStep, Step};
 use crate::window::Window;
 use n2k_table::Table;
 use n2k_wire::{Entry, Id, Packet};
@@ -65,25 +65,25 @@ impl Model for Join {
 }
 
 /// The types guarantee the parts of a packet.
-fn know_parts(stamp: &[u8], id: Id, data: &[u8])
+fn lemma_parts_valid(stamp: &[u8], id: Id, data: &[u8])
     requires { IsPacket stamp.now id «data».now }
     ensures { IsPacketParts (record { stamp = stamp.now; id = id; payload = «data».now }) }
 {}
 
 /// The types guarantee a packet.
-fn know_packet(packet: &Packet)
+fn lemma_packet_valid(packet: &Packet)
     ensures { IsPacketParts packet.now }
 {
-    know_parts(packet.stamp(), packet.id(), packet.data());
+    lemma_parts_valid(packet.stamp(), packet.id(), packet.data());
 }
 
 /// The types guarantee an entry.
-fn know_entry(entry: &Entry)
+fn lemma_entry_valid(entry: &Entry)
     ensures { IsShort entry.now → IsEntry entry.now }
 {
     match entry {
         Entry::Skip | Entry::Bad(_) => {}
-        Entry::Frame(packet) | Entry::Whole(packet) => know_packet(packet),
+        Entry::Frame(packet) | Entry::Whole(packet) => lemma_packet_valid(packet),
     }
 }
 
@@ -216,7 +216,7 @@ impl Join {
         if self.counts.lines == MOST_LINES {
             return Err(JoinFault::TooManyLines);
         }
-        know_entry(entry);
+        lemma_entry_valid(entry);
         let line = self.counts.lines + 1;
         let in_order = self.window.is_in_order();
         let taken = take_entry(in_order, &mut self.groups, line, table, entry)?;
@@ -268,11 +268,11 @@ impl Join {
     /// let message = message_of(step.message, &entry).ok_or("a message")?;
     /// assert_eq!(rt; message.packet.id().pgn, 129026);
     /// ```
-    pub fn lend<'t>(
+    pub fn accept_in_place<'t>(
         &mut self,
         table: &'t Table,
         entry: &mut Entry,
-    ) -> Result<LentStep<'t>, JoinFault>
+    ) -> Result<InPlaceStep<'t>, JoinFault>
         requires short { IsShort entry.old }
         requires expired { due self.old ≡ None }
         ensures takes { TakesLine (λ step. given_of (step_in entry.new step))
@@ -282,7 +282,7 @@ impl Join {
         ensures entry { OnErr result (entry.new ≡ entry.old) }
     {
         let taken = self.take(table, entry)?;
-        Ok(LentStep {
+        Ok(InPlaceStep {
             line: self.counts.lines,
             message: taken.message,
             bad: taken.bad,

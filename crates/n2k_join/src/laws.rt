@@ -44,8 +44,8 @@ pub fn cut_first()
 /// line. So the results of a log's lines are settled, whatever follows them.
 pub fn cut_grows()
     ensures grows { (ends : EndTest) (fs back : List Frame) → CutGrows ends fs back }
-    ensures settled { (window : Window) (kind : ℕ → Option Kind) (front back : List Entry) → IsWindow window.lines
-        → HasSettled window kind front back }
+    ensures settled { (window : Window) (kind : ℕ → Option Kind) (prefix back : List Entry) → IsWindow window.lines
+        → HasSettled window kind prefix back }
 {}
 
 /// The step knows only the state, and yet agrees with the whole log: from the state of a log it leads to the state of
@@ -64,8 +64,8 @@ pub fn lines_stay()
 /// A bad line affects nothing else: with an empty line in its place every message, every broken group and every open
 /// group stays, and so does every count except that of bad lines, which is one less.
 pub fn bad_alone()
-    ensures { (window : Window) (kind : ℕ → Option Kind) (front : List Entry) (e : Entry) (back : List Entry)
-        → is_some (cause_in kind e) ≡ true → BadAlone window kind front e back }
+    ensures { (window : Window) (kind : ℕ → Option Kind) (prefix : List Entry) (e : Entry) (back : List Entry)
+        → is_some (cause_in kind e) ≡ true → BadAlone window kind prefix e back }
 {}
 
 /// A new splitter, with one counter a stream, makes the defined frames: each message's frames under the number of
@@ -111,16 +111,16 @@ pub fn written_is_scattered()
 /// broken at the line of the first piece, or earlier if its window ends earlier. So if a sender's numbers rise, a lost
 /// frame other than frame 0 costs only its own message.
 pub fn heals()
-    ensures { (window : Window) (kind : ℕ → Option Kind) (front back : List Entry) (x : Sending)
-        (group after : List Frame) → IsWindow window.lines → ComesNext window kind front back x group after
-        → LeavesZero window kind front x → Heals window kind front back x group }
+    ensures { (window : Window) (kind : ℕ → Option Kind) (prefix back : List Entry) (x : Sending)
+        (group after : List Frame) → IsWindow window.lines → ComesNext window kind prefix back x group after
+        → LeavesZero window kind prefix x → Heals window kind prefix back x group }
 {}
 
 /// In order a key heals whatever was lost: its open group may be any.
 pub fn heals_in_order()
-    ensures { (window : Window) (kind : ℕ → Option Kind) (front back : List Entry) (x : Sending)
-        (group after : List Frame) → window.in_order ≡ true → ComesNext window kind front back x group after
-        → Heals window kind front back x group }
+    ensures { (window : Window) (kind : ℕ → Option Kind) (prefix back : List Entry) (x : Sending)
+        (group after : List Frame) → window.in_order ≡ true → ComesNext window kind prefix back x group after
+        → Heals window kind prefix back x group }
 {}
 
 /// In order the frames of each message of a group come in the log in the order of their numbers, 0 to the last, with

@@ -18,8 +18,8 @@
 //! - `Join::new` is the join before the first line. Before each line, `Join::expire` breaks the groups whose window
 //!   ends at it, one a call. `Join::line` then takes the line, as its entry, and returns the message that the line is
 //!   or completes, why it is bad, and the group that its frame breaks (`Step`, `Broken`). A line that is refused
-//!   (`JoinFault`) leaves the join unchanged. For the lines of a log use `Join::lend`: it gives the same result, but
-//!   leaves the message in the entry (`LentStep`, `message_of`) instead of moving it.
+//!   (`JoinFault`) leaves the join unchanged. For the lines of a log use `Join::accept_in_place`: it gives the same result, but
+//!   leaves the message in the entry (`InPlaceStep`, `message_of`) instead of moving it.
 //! - `Join::counts` are the lines, messages, bad lines, unknown PGNs, broken and open groups so far (`Counts`).
 //! - `Join::save` writes the state of a join as text. `Join::resume` continues from a text, or returns why it is
 //!   refused (`StateFault`).
@@ -57,6 +57,6 @@ pub use counts::{Counts, MOST_LINES};
 pub use fault::{JoinFault, SplitFault, StateFault};
 pub use join::Join;
 pub use splitter::{Frames, Splitter};
-pub use step::{Broken, LentStep, Step, TableMessage, message_of};
+pub use step::{Broken, InPlaceStep, Step, TableMessage, message_of};
 pub use stream::Stream;
 pub use window::Window;

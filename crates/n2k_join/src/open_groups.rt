@@ -5,7 +5,7 @@ ghost use Rattle.n2k_join.specs.Open.{ended};
 ghost use Rattle.n2k_join.specs.Window.{Window as WindowParts};
 ghost use Rattle.n2k_join.specs.Inner.Stored.{key_of};
 ghost use Rattle.n2k_join.specs.Inner.Slots.{group_in};
-ghost use Rattle.n2k_join.specs.Inner.Order.{found, item_at, IsPlace, behind_of, before_of, places, groups_at, listed, IsKept, AreRelinked};
+ghost use Rattle.n2k_join.specs.Inner.Order.{found, item_at, IsPlace, after_of, before_of, places, groups_at, listed, IsKept, AreRelinked};
 ghost use Rattle.n2k_join.specs.Inner.Places.{nowhere, put};
 
 use crate::piece::{FrameKey, OpenGroup};
@@ -25,7 +25,7 @@ const NOWHERE: usize = usize::MAX;
 pub(crate) struct Linked {
     pub(crate) group: OpenGroup,
     pub(crate) before: usize,
-    pub(crate) behind: usize,
+    pub(crate) after: usize,
 }
 
 /// The open groups. The map has no order, so that any group is removed from it at once: the last takes its place. The
@@ -69,14 +69,14 @@ impl OpenGroups {
     }
 
     /// Sets the place after a place, or the first place.
-    fn set_behind(&mut self, at: usize, behind: usize)
+    fn set_after(&mut self, at: usize, after: usize)
         requires few { length self.old.groups.entries < nowhere }
         requires place { IsPlace (length self.old.groups.entries) at }
-        ensures { AreRelinked self.old self.new (put at behind (behind_of self.old)) (before_of self.old) }
+        ensures { AreRelinked self.old self.new (put at after (after_of self.old)) (before_of self.old) }
     {
         match self.groups.get_index_mut(at) {
-            Some(linked) => linked.behind = behind,
-            None => self.first = behind,
+            Some(linked) => linked.after = after,
+            None => self.first = after,
         }
     }
 
@@ -84,7 +84,7 @@ impl OpenGroups {
     fn set_before(&mut self, at: usize, before: usize)
         requires few { length self.old.groups.entries < nowhere }
         requires place { IsPlace (length self.old.groups.entries) at }
-        ensures { AreRelinked self.old self.new (behind_of self.old) (put at before (before_of self.old)) }
+        ensures { AreRelinked self.old self.new (after_of self.old) (put at before (before_of self.old)) }
     {
         match self.groups.get_index_mut(at) {
             Some(linked) => linked.before = before,
@@ -107,7 +107,7 @@ impl OpenGroups {
         let empty = Linked {
             group: OpenGroup::new(0),
             before,
-            behind: NOWHERE,
+            after: NOWHERE,
         };
         self.groups.insert(key, empty)?;
         let Some(linked) = self.groups.get_index_mut(at) else {
@@ -115,7 +115,7 @@ impl OpenGroups {
         };
         linked.group = *group;
         self.noted[note_of(&key)] = (at % 0x1_0000) as u16;
-        self.set_behind(before, at);
+        self.set_after(before, at);
         self.last = at;
         Ok(())
     }
@@ -125,16 +125,16 @@ impl OpenGroups {
         requires kept { (next : ℕ) × IsKept next self.old }
         requires within { at < length self.old.groups.entries }
         ensures { AreRelinked self.old self.new
-            (put (before_of self.old at) (behind_of self.old at) (behind_of self.old))
-            (put (behind_of self.old at) (before_of self.old at) (before_of self.old)) }
+            (put (before_of self.old at) (after_of self.old at) (after_of self.old))
+            (put (after_of self.old at) (before_of self.old at) (before_of self.old)) }
     {
         let Some((_, linked)) = self.groups.get_index(at) else {
             unreachable!()
         };
         let before = linked.before;
-        let behind = linked.behind;
-        self.set_behind(before, behind);
-        self.set_before(behind, before);
+        let after = linked.after;
+        self.set_after(before, after);
+        self.set_before(after, before);
     }
 
     /// Puts a group in the place of another of its key, as the last.
@@ -153,8 +153,8 @@ impl OpenGroups {
         };
         linked.group = group;
         linked.before = before;
-        linked.behind = NOWHERE;
-        self.set_behind(before, at);
+        linked.after = NOWHERE;
+        self.set_after(before, at);
         self.last = at;
     }
 
@@ -170,10 +170,10 @@ impl OpenGroups {
         self.groups.swap_remove_index(at);
         if let Some((key, moved)) = self.groups.get_index(at) {
             let before = moved.before;
-            let behind = moved.behind;
+            let after = moved.after;
             self.noted[note_of(key)] = (at % 0x1_0000) as u16;
-            self.set_behind(before, at);
-            self.set_before(behind, at);
+            self.set_after(before, at);
+            self.set_before(after, at);
         }
     }
 

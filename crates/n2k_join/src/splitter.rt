@@ -84,8 +84,8 @@ fn full_piece(data: &[u8], number: u8) -> Option<[u8; 7]>
         return Some([data.len() as u8, a, b, c, d, e, f]);
     }
     let first = FRAME_BYTES * number as usize - 1;
-    let (_, behind) = data.split_at_checked(first)?;
-    let seven = behind.first_chunk::<7>()?;
+    let (_, after) = data.split_at_checked(first)?;
+    let seven = after.first_chunk::<7>()?;
     Some(*seven)
 }
 

@@ -30,7 +30,7 @@ pub struct TableMessage<'a> {
 
 /// The result of a line, with its number. The message is in the line's entry.
 #[derive(Drop)]
-pub struct LentStep<'t> {
+pub struct InPlaceStep<'t> {
     /// The number of the line, counted from 1.
     pub line: u64,
     /// The PGN of the message that the line is or completes, looked up in the table.

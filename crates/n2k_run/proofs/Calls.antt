@@ -4,7 +4,7 @@ use Rattle.std.specs.Io.KnownBytes.{Consumes}
 use Rattle.std.proofs.KnownBytes.{Consumes-nil, Consumes-trans}
 use Rattle.n2k_run.specs.declared.blocks.Next.{Next}
 use Rattle.n2k_run.specs.declared.fault.RunFault.{RunFault}
-use Rattle.n2k_run.specs.Blocks.{Held, Answers}
+use Rattle.n2k_run.specs.Blocks.{BlocksView, Answers}
 use Rattle.n2k_run.specs.Device.{HasFailed, one_more}
 use Rattle.n2k_run.specs.Reading.{OutlastsReads, ReadsBytes, idle_calls, most_reads}
 
@@ -41,7 +41,7 @@ reads_on ended idle left₀ left left' calls₀ calls calls' on before after =
     }
 
 -- the calls of finding a line are the calls of the whole step, even if the line is refused
-pub reads_of_answer : {T : Type 0} (old new : Held) (left₀ left : Option (List ℕ)) (calls₀ calls : ℕ) (next : Next) (result : Result T RunFault) → Answers old new left₀ left calls₀ calls (Ok next) → ReadsBytes (idle_calls new.has_ended result) left₀ left calls₀ calls
+pub reads_of_answer : {T : Type 0} (old new : BlocksView) (left₀ left : Option (List ℕ)) (calls₀ calls : ℕ) (next : Next) (result : Result T RunFault) → Answers old new left₀ left calls₀ calls (Ok next) → ReadsBytes (idle_calls new.has_ended result) left₀ left calls₀ calls
 reads_of_answer old new left₀ left calls₀ calls next result a = grind arith
 
 -- no more bytes come of a source than it has

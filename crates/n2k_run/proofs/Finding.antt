@@ -7,14 +7,14 @@ use Rattle.n2k_wire.specs.Entry.{longest_line}
 use Rattle.n2k_run.specs.declared.blocks.Found.{Found}
 use Rattle.n2k_run.specs.declared.blocks.Found.TheVariants.{Line, Long, End}
 use Rattle.n2k_run.specs.declared.device.Failed.{Failed}
-use Rattle.n2k_run.specs.Blocks.{Held, FirstLine, FirstLong, HasNoFeed, ReplacesLong, Stays, CallsAre, passed, unanswered}
+use Rattle.n2k_run.specs.Blocks.{BlocksView, FirstLine, FirstLong, HasNoFeed, ReplacesLong, Stays, CallsAre, passed, unanswered}
 use Rattle.n2k_run.specs.Device.{one_more}
 use Rattle.n2k_run.specs.Inner.Block.{FindsLine, MakesRoom, Reads, AnswersFound}
 use Rattle.n2k_run.specs.Lines.{without_return}
 use Rattle.n2k_run.specs.Reading.{OutlastsReads, most_reads}
 use Rattle.n2k_run.specs.Inner.Reading.{Gains}
 use Rattle.n2k_run.proofs.Calls.{one_more_at_most}
-use Rattle.n2k_run.proofs.Feeds.{is_plain, long_piece, long_after, length-passed, passed-no_feed, split_past, unanswered-no_feed}
+use Rattle.n2k_run.proofs.Feeds.{is_plain, long_chunk, long_after, length-passed, passed-no_feed, split_past, unanswered-no_feed}
 
 -- if no line ends in the bytes or their placeholder, none ends in all of them
 pub no_feed_whole : (whole bytes : List ℕ) → Stays whole bytes → HasNoFeed bytes → HasNoFeed whole
@@ -22,7 +22,7 @@ no_feed_whole whole bytes (inl same) none = subst HasNoFeed same none
 no_feed_whole whole bytes (inr r) none =
     let all : HasNoFeed (passed ++ r.rest) = subst HasNoFeed r.bytes_are none in
     let rest : HasNoFeed r.rest = subst HasNoFeed (drop_at passed r.rest (longest_line + 1) length-passed) (All-drop is_plain (longest_line + 1) (passed ++ r.rest) all) in
-    subst HasNoFeed (sym r.whole_is) (All-append is_plain r.front r.rest r.no_feed rest)
+    subst HasNoFeed (sym r.whole_is) (All-append is_plain r.prefix r.rest r.no_feed rest)
 
 pub stays_more : (whole bytes more : List ℕ) → Stays whole bytes → Stays (whole ++ more) (bytes ++ more)
 stays_more whole bytes more h = grind (arith, append_assoc)
@@ -42,57 +42,57 @@ pub calls_end : (calls₀ calls reads : ℕ) → CallsAre calls₀ calls 0 reads
 calls_end calls₀ calls reads h all = grind arith
 
 -- nothing came yet
-pub reads_none : (held : Held) (left : Option (List ℕ)) (calls : ℕ) → Reads 0 held held left left calls calls
+pub reads_none : (held : BlocksView) (left : Option (List ℕ)) (calls : ℕ) → Reads 0 held held left left calls calls
 reads_none held left calls = record { came = []; given = Consumes-nil left; answer = inl (sym (append-nil (unanswered held))); called = (omega arith, inl refl); few = omega arith }
 
-pub reads_room : (old mid new : Held) (left₀ left : Option (List ℕ)) (calls₀ calls : ℕ) → Reads 0 old mid left₀ left calls₀ calls → HasNoFeed mid.kept → MakesRoom (unanswered mid) (unanswered new) → new.reads ≡ mid.reads → Reads 0 old new left₀ left calls₀ calls
+pub reads_room : (old mid new : BlocksView) (left₀ left : Option (List ℕ)) (calls₀ calls : ℕ) → Reads 0 old mid left₀ left calls₀ calls → HasNoFeed mid.kept → MakesRoom (unanswered mid) (unanswered new) → new.reads ≡ mid.reads → Reads 0 old new left₀ left calls₀ calls
 reads_room old mid new left₀ left calls₀ calls so_far none room reads = grind (arith, unanswered-no_feed mid none, no_feed_whole, stays_room)
 
-unanswered_gained : (mid new : Held) (gained : List ℕ) → new.is_passing ≡ mid.is_passing → new.kept ≡ mid.kept ++ gained → unanswered new ≡ unanswered mid ++ gained
+unanswered_gained : (mid new : BlocksView) (gained : List ℕ) → new.is_passing ≡ mid.is_passing → new.kept ≡ mid.kept ++ gained → unanswered new ≡ unanswered mid ++ gained
 unanswered_gained mid new gained passing kept = grind (arith, append_assoc)
 
 -- one call more, which gave a byte or is counted as one that gave none
-pub reads_more : (idle : ℕ) (old mid new : Held) (left₀ left left' : Option (List ℕ)) (calls₀ calls calls' : ℕ) → Reads 0 old mid left₀ left calls₀ calls → Gains mid.kept new.kept left left' → length mid.kept < length new.kept + idle → new.is_passing ≡ mid.is_passing → new.reads ≡ mid.reads + 1 → calls' ≡ one_more calls
+pub reads_more : (idle : ℕ) (old mid new : BlocksView) (left₀ left left' : Option (List ℕ)) (calls₀ calls calls' : ℕ) → Reads 0 old mid left₀ left calls₀ calls → Gains mid.kept new.kept left left' → length mid.kept < length new.kept + idle → new.is_passing ≡ mid.is_passing → new.reads ≡ mid.reads + 1 → calls' ≡ one_more calls
     → Reads idle old new left₀ left' calls₀ calls'
 reads_more idle old mid new left₀ left left' calls₀ calls calls' so_far gains gave passing reads called = grind (arith, stays_more, append_assoc, unanswered_gained, calls_more, one_more_at_most, length-append, stays_more (unanswered old ++ so_far.came) (unanswered mid) gains.gained so_far.answer, append_assoc (unanswered old) so_far.came gains.gained, unanswered_gained mid new gains.gained passing gains.appended, calls_more calls₀ calls calls' old.reads mid.reads new.reads so_far.called called reads, one_more_at_most calls, length-append mid.kept gains.gained, length-append so_far.came gains.gained)
 
 -- one round: nothing was found, room was made, and a read followed
-pub reads_round : (idle : ℕ) (old loop taken made new : Held) (left₀ left left' : Option (List ℕ)) (calls₀ calls calls' : ℕ) → Reads 0 old loop left₀ left calls₀ calls → taken ≡ loop → HasNoFeed loop.kept
+pub reads_round : (idle : ℕ) (old loop taken made new : BlocksView) (left₀ left left' : Option (List ℕ)) (calls₀ calls calls' : ℕ) → Reads 0 old loop left₀ left calls₀ calls → taken ≡ loop → HasNoFeed loop.kept
     → MakesRoom (unanswered taken) (unanswered made) → made.reads ≡ taken.reads
     → Gains made.kept new.kept left left' → length made.kept < length new.kept + idle → new.is_passing ≡ made.is_passing → new.reads ≡ made.reads + 1 → calls' ≡ one_more calls → Reads idle old new left₀ left' calls₀ calls'
-reads_round idle old loop taken made new left₀ left left' calls₀ calls calls' so_far same none room room_reads gains gave passing reads called = grind (arith, reads_more idle old made new left₀ left left' calls₀ calls calls' (reads_room old taken made left₀ left calls₀ calls (subst (λ (h : Held). Reads 0 old h left₀ left calls₀ calls) (sym same) so_far) (subst (λ (h : Held). HasNoFeed h.kept) (sym same) none) room room_reads) gains gave passing reads called)
+reads_round idle old loop taken made new left₀ left left' calls₀ calls calls' so_far same none room room_reads gains gave passing reads called = grind (arith, reads_more idle old made new left₀ left left' calls₀ calls calls' (reads_room old taken made left₀ left calls₀ calls (subst (λ (h : BlocksView). Reads 0 old h left₀ left calls₀ calls) (sym same) so_far) (subst (λ (h : BlocksView). HasNoFeed h.kept) (sym same) none) room room_reads) gains gave passing reads called)
 
 -- a first line that begins with the placeholder is a long first line of the bytes
 long_first : (whole bytes line rest : List ℕ) (ended : Bool) (left : Option (List ℕ)) (r : ReplacesLong whole bytes) → FirstLine bytes line rest ended left → FirstLong whole rest ended left × (longest_line < length line)
 long_first whole bytes line rest ended left r f =
-    let feed : (ended ≡ false) × (bytes ≡ f.piece ++ (10 ∷ rest)) → FirstLong whole rest ended left × (longest_line < length line) = λ e.
-    let parts = split_past passed r.rest f.piece rest passed-no_feed (sym r.bytes_are ∙ e.1) in
+    let feed : (ended ≡ false) × (bytes ≡ f.chunk ++ (10 ∷ rest)) → FirstLong whole rest ended left × (longest_line < length line) = λ e.
+    let parts = split_past passed r.rest f.chunk rest passed-no_feed (sym r.bytes_are ∙ e.1) in
     let none : HasNoFeed (passed ++ parts.0) = subst HasNoFeed parts.1 f.no_feed in
     let more : HasNoFeed parts.0 = subst HasNoFeed (drop_at passed parts.0 (longest_line + 1) length-passed) (All-drop is_plain (longest_line + 1) (passed ++ parts.0) none) in
-    let piece : List ℕ = r.front ++ parts.0 in
-    let whole_is : whole ≡ piece ++ (10 ∷ rest) = r.whole_is ∙ ap (λ x. r.front ++ x) parts.2 ∙ sym (append_assoc r.front parts.0 (10 ∷ rest)) in
-    let long : longest_line < length (without_return piece) = long_piece piece (omega (arith, length-append r.front parts.0, r.long)) in
+    let chunk : List ℕ = r.prefix ++ parts.0 in
+    let whole_is : whole ≡ chunk ++ (10 ∷ rest) = r.whole_is ∙ ap (λ x. r.prefix ++ x) parts.2 ∙ sym (append_assoc r.prefix parts.0 (10 ∷ rest)) in
+    let long : longest_line < length (without_return chunk) = long_chunk chunk (omega (arith, length-append r.prefix parts.0, r.long)) in
     let over : longest_line < length line = subst (λ p. longest_line < length p) (sym (f.line_is ∙ ap without_return parts.1)) (long_after parts.0) in
-    ((without_return piece, record { piece = piece; line_is = refl; no_feed = All-append is_plain r.front parts.0 r.no_feed more; ends = inl (e.0, whole_is) }, long), over) in
-    let end : IsAtEnd left × (ended ≡ true) × (bytes ≡ f.piece) × (0 < length f.piece) × (rest ≡ []) → FirstLong whole rest ended left × (longest_line < length line) = λ e.
-    let parts : f.piece ≡ passed ++ r.rest = sym e.2 ∙ r.bytes_are in
+    ((without_return chunk, record { chunk = chunk; line_is = refl; no_feed = All-append is_plain r.prefix parts.0 r.no_feed more; ends = inl (e.0, whole_is) }, long), over) in
+    let end : IsAtEnd left × (ended ≡ true) × (bytes ≡ f.chunk) × (0 < length f.chunk) × (rest ≡ []) → FirstLong whole rest ended left × (longest_line < length line) = λ e.
+    let parts : f.chunk ≡ passed ++ r.rest = sym e.2 ∙ r.bytes_are in
     let none : HasNoFeed whole = no_feed_whole whole bytes (inr r) (subst HasNoFeed (sym e.2) f.no_feed) in
-    let size : longest_line + 1 < length whole = omega (arith, ap length r.whole_is, length-append r.front r.rest, r.long) in
+    let size : longest_line + 1 < length whole = omega (arith, ap length r.whole_is, length-append r.prefix r.rest, r.long) in
     let over : longest_line < length line = subst (λ p. longest_line < length p) (sym (f.line_is ∙ ap without_return parts)) (long_after r.rest) in
-    ((without_return whole, record { piece = whole; line_is = refl; no_feed = none; ends = inr (e.0, e.1, refl, omega (arith, size), e.4) }, long_piece whole size), over) in
+    ((without_return whole, record { chunk = whole; line_is = refl; no_feed = none; ends = inr (e.0, e.1, refl, omega (arith, size), e.4) }, long_chunk whole size), over) in
     elim f.ends [ inl e ↦ feed e | inr e ↦ end e ]
 
-finds_replaced : (whole bytes : List ℕ) (new : Held) (left : Option (List ℕ)) (found : Found) → ReplacesLong whole bytes → FindsLine bytes new left found → FindsLine whole new left found
+finds_replaced : (whole bytes : List ℕ) (new : BlocksView) (left : Option (List ℕ)) (found : Found) → ReplacesLong whole bytes → FindsLine bytes new left found → FindsLine whole new left found
 finds_replaced whole bytes new left Line r f = absurd (omega (arith, f.1, (long_first whole bytes new.line (unanswered new) new.has_ended left r f.0).1))
 finds_replaced whole bytes new left Long r f = (long_first whole bytes f.0 (unanswered new) new.has_ended left r f.1).0
 finds_replaced whole bytes new left End r f = absurd (omega (arith, ap length f.2, ap length r.bytes_are, length-append passed r.rest, length-passed))
 
-finds_whole : (whole bytes : List ℕ) (new : Held) (left : Option (List ℕ)) (found : Found) → Stays whole bytes → FindsLine bytes new left found → FindsLine whole new left found
+finds_whole : (whole bytes : List ℕ) (new : BlocksView) (left : Option (List ℕ)) (found : Found) → Stays whole bytes → FindsLine bytes new left found → FindsLine whole new left found
 finds_whole whole bytes new left found (inl same) f = subst (λ b. FindsLine b new left found) same f
 finds_whole whole bytes new left found (inr r) f = finds_replaced whole bytes new left found r f
 
 -- the line is there
-pub found_line : (idle : ℕ) (old mid new : Held) (left₀ left : Option (List ℕ)) (calls₀ calls : ℕ) (found : Found) → Reads idle old mid left₀ left calls₀ calls → FindsLine (unanswered mid) new left found → new.reads ≡ mid.reads → idle ≤ (if new.has_ended then 1 else 0)
+pub found_line : (idle : ℕ) (old mid new : BlocksView) (left₀ left : Option (List ℕ)) (calls₀ calls : ℕ) (found : Found) → Reads idle old mid left₀ left calls₀ calls → FindsLine (unanswered mid) new left found → new.reads ≡ mid.reads → idle ≤ (if new.has_ended then 1 else 0)
     → AnswersFound old new left₀ left calls₀ calls (Ok found)
 found_line idle old mid new left₀ left calls₀ calls found so_far finds reads ended = record {
   came = so_far.came;
@@ -103,7 +103,7 @@ found_line idle old mid new left₀ left calls₀ calls found so_far finds reads
 }
 
 -- the source failed, or no more is read of it
-pub found_none : (idle : ℕ) (old new : Held) (left₀ left : Option (List ℕ)) (calls₀ calls : ℕ) (failed : Failed) → Reads idle old new left₀ left calls₀ calls → idle ≤ 1 → HasNoFeed new.kept → AnswersFound old new left₀ left calls₀ calls (Err failed)
+pub found_none : (idle : ℕ) (old new : BlocksView) (left₀ left : Option (List ℕ)) (calls₀ calls : ℕ) (failed : Failed) → Reads idle old new left₀ left calls₀ calls → idle ≤ 1 → HasNoFeed new.kept → AnswersFound old new left₀ left calls₀ calls (Err failed)
 found_none idle old new left₀ left calls₀ calls failed so_far once none = record {
   came = so_far.came;
   given = so_far.given;

@@ -26,7 +26,7 @@ use Rattle.n2k_run.specs.Reading.{OutlastsReads, most_reads}
 use Rattle.n2k_run.specs.Runs.{Devices, Gained, Output, ReadFails, Runs}
 use Rattle.n2k_run.proofs.Calls.{end_found}
 use Rattle.n2k_run.proofs.Ending.{of_log}
-use Rattle.n2k_run.proofs.Fronts.{entries-append}
+use Rattle.n2k_run.proofs.Prefixes.{entries-append}
 use Rattle.n2k_run.proofs.GoingOn.{out_of-append, reports_of-append}
 use Rattle.n2k_run.proofs.LogSteps.{LogLaws}
 use Rattle.n2k_run.proofs.Parting.{KeepsFast, begun-under, told_ok}
@@ -45,15 +45,15 @@ module _ (t : TableParts) (o : Options) (laws : LogLaws o.window) where
   -- one part more was taken whole
   pub next_taken : (done : List (List ℕ)) (met : List ℕ) (before between after : Devices) (last next : Part) → TakesAll t o done before between last → RunsPart t o (entries_of_parts o done) met between after (Ok next) → TakesAll t o (done ++ met ∷ []) before after next
   next_taken done met before between after last next so_far run =
-      let front = entries_of_parts o done in
+      let prefix = entries_of_parts o done in
       let es = entries o.packing met in
-      let all : front ++ es ≡ entries_of_parts o (done ++ met ∷ []) = sym (entries_next o done met) in
+      let all : prefix ++ es ≡ entries_of_parts o (done ++ met ∷ []) = sym (entries_next o done met) in
       let ran = told_ok _ _ _ _ next run.run in
-      let gained = of_log _ _ _ _ (λ log. Gained (output_after t o front) (with_source between (Some met) 0 0) (with_source after run.left run.calls 0) (entries o.packing log)) ran.ends ran.ends.gained in
-      let text : Appends before.written after.written (out_of t o (front ++ es)) =
-      subst (Appends before.written after.written) (sym (out_of-append t o laws front es)) (Appends-trans before.written between.written after.written _ _ so_far.taken.printed gained.printed) in
-      let report : Appends before.reported after.reported (reports_of t o (front ++ es)) =
-      subst (Appends before.reported after.reported) (sym (reports_of-append t o laws front es)) (Appends-trans before.reported between.reported after.reported _ _ so_far.taken.reported gained.reported) in
+      let gained = of_log _ _ _ _ (λ log. Gained (output_after t o prefix) (with_source between (Some met) 0 0) (with_source after run.left run.calls 0) (entries o.packing log)) ran.ends ran.ends.gained in
+      let text : Appends before.written after.written (out_of t o (prefix ++ es)) =
+      subst (Appends before.written after.written) (sym (out_of-append t o laws prefix es)) (Appends-trans before.written between.written after.written _ _ so_far.taken.printed gained.printed) in
+      let report : Appends before.reported after.reported (reports_of t o (prefix ++ es)) =
+      subst (Appends before.reported after.reported) (sym (reports_of-append t o laws prefix es)) (Appends-trans before.reported between.reported after.reported _ _ so_far.taken.reported gained.reported) in
       record {
         taken = record {
           printed = subst (λ es. Appends before.written after.written (out_of t o es)) all text;
@@ -61,7 +61,7 @@ module _ (t : TableParts) (o : Options) (laws : LogLaws o.window) where
           writes = ran.device.writes ∙ so_far.taken.writes;
           report_writes = ran.device.reports ∙ so_far.taken.report_writes;
         };
-        leads_to = subst (λ es. IsPartOf t o (state t.id o.window (kind t) es) next) all (of_log _ _ _ _ (λ log. IsPartOf t o (state t.id o.window (kind t) (front ++ entries o.packing log)) next) ran.ends ran.ends.holds);
+        leads_to = subst (λ es. IsPartOf t o (state t.id o.window (kind t) es) next) all (of_log _ _ _ _ (λ log. IsPartOf t o (state t.id o.window (kind t) (prefix ++ entries o.packing log)) next) ran.ends ran.ends.holds);
       }
 
 -- if the state is refused, both sinks are unchanged
@@ -69,9 +69,9 @@ pub both_untouched : {W E : Type 0} (P : Type 0) (result : Result Part PartFault
 both_untouched P result w w' e e' seen same = grind arith
 
 -- the run of a part reads from its source in memory
-pub runs_part : (t : TableParts) (o : Options) (front : List Entry) (met : List ℕ) (reader : PartLeft) (before after : Devices) (left : Option (List ℕ)) (calls : ℕ) (result : Result Part PartFault) → reader ≡ record { left = met; calls = 0 }
-    → TellsRun (output_after t o front) (λ es. HasPart t o result (state t.id o.window (kind t) (front ++ es))) (with_source before (Some reader.left) reader.calls 0) (with_source after left calls 0) result → OnRefusal result (after ≡ before) → RunsPart t o front met before after result
-runs_part t o front met reader before after left calls result is told untouched = grind arith
+pub runs_part : (t : TableParts) (o : Options) (prefix : List Entry) (met : List ℕ) (reader : PartLeft) (before after : Devices) (left : Option (List ℕ)) (calls : ℕ) (result : Result Part PartFault) → reader ≡ record { left = met; calls = 0 }
+    → TellsRun (output_after t o prefix) (λ es. HasPart t o result (state t.id o.window (kind t) (prefix ++ es))) (with_source before (Some reader.left) reader.calls 0) (with_source after left calls 0) result → OnRefusal result (after ≡ before) → RunsPart t o prefix met before after result
+runs_part t o prefix met reader before after left calls result is told untouched = grind arith
 
 -- a property of all parts holds of one of them
 part_met : (P : List ℕ → Type 0) (parts done : List (List ℕ)) (met : List ℕ) (later : List (List ℕ)) → All P parts → parts ≡ done ++ met ∷ later → P met

@@ -5,7 +5,7 @@ pub mod Ending
 pub mod Feeds
 pub mod Finding
 pub mod Folds
-pub mod Fronts
+pub mod Prefixes
 pub mod GoingOn
 pub mod Joined
 pub mod LimitLines
@@ -19,7 +19,7 @@ pub mod PrintedBack
 pub mod PrintedInOrder
 pub mod Ranges
 pub mod Running
-pub mod SavedFronts
+pub mod SavedPrefixes
 pub mod SentFrames
 pub mod SentLines
 pub mod Splits

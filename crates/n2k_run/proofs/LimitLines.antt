@@ -9,15 +9,15 @@ use Rattle.n2k_wire.specs.Entry.{entry}
 use Rattle.n2k_run.specs.Blocks.{HasNoFeed}
 use Rattle.n2k_run.specs.Entries.{entries}
 use Rattle.n2k_run.specs.Lines.{line_feed, is_line_feed, without_return}
-use Rattle.n2k_run.proofs.Answering.{lines_piece, lines_rest}
-use Rattle.n2k_run.proofs.Fronts.{ends_feed}
+use Rattle.n2k_run.proofs.Answering.{lines_chunk, lines_rest}
+use Rattle.n2k_run.proofs.Prefixes.{ends_feed}
 
 -- bytes up to their first line feed, and the bytes after it
 record FirstFeed (bytes : List ℕ) : Type 0 where
-  pub piece : List ℕ
+  pub chunk : List ℕ
   pub rest : List ℕ
-  pub none : HasNoFeed piece
-  pub bytes_are : bytes ≡ piece ++ (10 ∷ rest)
+  pub none : HasNoFeed chunk
+  pub bytes_are : bytes ≡ chunk ++ (10 ∷ rest)
 
 nothing : HasNoFeed []
 nothing = λ k d below. absurd (omega (arith, below))
@@ -27,13 +27,13 @@ by_feed [] = inl nothing
 by_feed (b ∷ bs) = go (is_line_feed b) refl (by_feed bs)
   where
     go : (f : Bool) → is_line_feed b ≡ f → HasNoFeed bs ⊎ FirstFeed bs → HasNoFeed (b ∷ bs) ⊎ FirstFeed (b ∷ bs)
-    go true is tail = inr (record { piece = []; rest = bs; none = nothing; bytes_are = ap (λ x. x ∷ bs) (eqb-true b 10 is) })
+    go true is tail = inr (record { chunk = []; rest = bs; none = nothing; bytes_are = ap (λ x. x ∷ bs) (eqb-true b 10 is) })
     go false is (inl none) = inl (All-cons (λ byte. is_line_feed byte ≡ false) b bs is none)
-    go false is (inr f) = inr (record { piece = b ∷ f.piece; rest = f.rest; none = All-cons (λ byte. is_line_feed byte ≡ false) b f.piece is f.none; bytes_are = ap (λ x. b ∷ x) f.bytes_are })
+    go false is (inr f) = inr (record { chunk = b ∷ f.chunk; rest = f.rest; none = All-cons (λ byte. is_line_feed byte ≡ false) b f.chunk is f.none; bytes_are = ap (λ x. b ∷ x) f.bytes_are })
 
-ends_on : (front bytes : List ℕ) → IsEmptyOrEndsWith front line_feed → IsEmptyOrEndsWith bytes line_feed → IsEmptyOrEndsWith (front ++ bytes) line_feed
-ends_on front [] first last = subst (λ x. IsEmptyOrEndsWith x line_feed) (sym (append-nil front)) first
-ends_on front (y ∷ ys) first last = grind (arith, length-append, get_or-append_right)
+ends_on : (prefix bytes : List ℕ) → IsEmptyOrEndsWith prefix line_feed → IsEmptyOrEndsWith bytes line_feed → IsEmptyOrEndsWith (prefix ++ bytes) line_feed
+ends_on prefix [] first last = subst (λ x. IsEmptyOrEndsWith x line_feed) (sym (append-nil prefix)) first
+ends_on prefix (y ∷ ys) first last = grind (arith, length-append, get_or-append_right)
 
 -- the bytes of these entries' lines, with their line feeds, and the bytes after them
 pub record TakenBytes (packing : Packing) (log : List ℕ) (es : List Entry) : Type 0 where
@@ -60,19 +60,19 @@ taken_bytes packing (e ∷ es) log next more is = go (by_feed log) (λ rest late
   where
     feed : FirstFeed log → ((rest : List ℕ) → entries packing rest ≡ es ++ (next ∷ more) → TakenBytes packing rest es) → TakenBytes packing log (e ∷ es)
     feed f fewer =
-        let of_piece : (rest : List ℕ) → entries packing (f.piece ++ (10 ∷ rest)) ≡ entry (without_return f.piece) packing ∷ entries packing rest
-        = λ rest. ap (map (λ line. entry line packing)) (lines_piece f.piece rest f.none) in
-        let both : entry (without_return f.piece) packing ∷ entries packing f.rest ≡ e ∷ (es ++ (next ∷ more)) = sym (of_piece f.rest) ∙ ap (entries packing) (sym f.bytes_are) ∙ is in
-        let first : entry (without_return f.piece) packing ≡ e = cc in
+        let of_chunk : (rest : List ℕ) → entries packing (f.chunk ++ (10 ∷ rest)) ≡ entry (without_return f.chunk) packing ∷ entries packing rest
+        = λ rest. ap (map (λ line. entry line packing)) (lines_chunk f.chunk rest f.none) in
+        let both : entry (without_return f.chunk) packing ∷ entries packing f.rest ≡ e ∷ (es ++ (next ∷ more)) = sym (of_chunk f.rest) ∙ ap (entries packing) (sym f.bytes_are) ∙ is in
+        let first : entry (without_return f.chunk) packing ≡ e = cc in
         let later : entries packing f.rest ≡ es ++ (next ∷ more) = cc in
         let r = fewer f.rest later in
         record {
-          bytes = f.piece ++ (10 ∷ r.bytes);
+          bytes = f.chunk ++ (10 ∷ r.bytes);
           rest = r.rest;
-          log_is = f.bytes_are ∙ ap (λ x. f.piece ++ (10 ∷ x)) r.log_is ∙ sym (append_assoc f.piece (10 ∷ r.bytes) r.rest);
+          log_is = f.bytes_are ∙ ap (λ x. f.chunk ++ (10 ∷ x)) r.log_is ∙ sym (append_assoc f.chunk (10 ∷ r.bytes) r.rest);
           more = r.more;
-          whole = subst (λ x. IsEmptyOrEndsWith x line_feed) (append_assoc f.piece (10 ∷ []) r.bytes) (ends_on (f.piece ++ (10 ∷ [])) r.bytes (ends_feed f.piece) r.whole);
-          entries_are = of_piece r.bytes ∙ ap (λ x. x ∷ entries packing r.bytes) first ∙ ap (λ xs. e ∷ xs) r.entries_are;
+          whole = subst (λ x. IsEmptyOrEndsWith x line_feed) (append_assoc f.chunk (10 ∷ []) r.bytes) (ends_on (f.chunk ++ (10 ∷ [])) r.bytes (ends_feed f.chunk) r.whole);
+          entries_are = of_chunk r.bytes ∙ ap (λ x. x ∷ entries packing r.bytes) first ∙ ap (λ xs. e ∷ xs) r.entries_are;
         }
 
     go : HasNoFeed log ⊎ FirstFeed log → ((rest : List ℕ) → entries packing rest ≡ es ++ (next ∷ more) → TakenBytes packing rest es) → TakenBytes packing log (e ∷ es)

@@ -55,13 +55,13 @@ join_moves t empty s mid s' e step n text text' report due told report' number g
       few = subst (λ l. l < most_lines) same few;
     }
 
-at_place : (front : List Entry) (e : Entry) (es : List Entry) → slice_get (front ++ e ∷ es) (length front) ≡ Some e
+at_place : (prefix : List Entry) (e : Entry) (es : List Entry) → slice_get (prefix ++ e ∷ es) (length prefix) ≡ Some e
 at_place [] e es = refl
-at_place (b ∷ front) e es = at_place front e es
+at_place (b ∷ prefix) e es = at_place prefix e es
 
 -- the entry of the line after these
-entry_next : (front : List Entry) (e : Entry) (es : List Entry) → entry_at (front ++ e ∷ es) (length front + 1) ≡ Some e
-entry_next front e es = grind (arith, at_place front e es)
+entry_next : (prefix : List Entry) (e : Entry) (es : List Entry) → entry_at (prefix ++ e ∷ es) (length prefix + 1) ≡ Some e
+entry_next prefix e es = grind (arith, at_place prefix e es)
 
 -- The laws of the join on a log, by the window.
 pub record LogLaws (w : Window) : Type 0 where
@@ -87,57 +87,57 @@ module _ (t : TableParts) (o : Options) (laws : LogLaws o.window) (id : List ℕ
       ∙ broken_stay (es ++ f ∷ []) fs i (omega (arith, high, length-append es (f ∷ [])))
       ∙ (laws.stay (kind t) es f).broken_groups i high
 
-  pub state_after : (front es : List Entry) → after_all (join_fold t o.empty) (state id o.window (kind t) front) es ≡ state id o.window (kind t) (front ++ es)
-  state_after front [] = ap (state id o.window (kind t)) (sym (append-nil front))
-  state_after front (e ∷ es) =
-      ap (λ s. after_all (join_fold t o.empty) s es) (laws.agree id (kind t) front e).after
-      ∙ state_after (front ++ e ∷ []) es
-      ∙ ap (state id o.window (kind t)) (append_assoc front (e ∷ []) es)
+  pub state_after : (prefix es : List Entry) → after_all (join_fold t o.empty) (state id o.window (kind t) prefix) es ≡ state id o.window (kind t) (prefix ++ es)
+  state_after prefix [] = ap (state id o.window (kind t)) (sym (append-nil prefix))
+  state_after prefix (e ∷ es) =
+      ap (λ s. after_all (join_fold t o.empty) s es) (laws.agree id (kind t) prefix e).after
+      ∙ state_after (prefix ++ e ∷ []) es
+      ∙ ap (state id o.window (kind t)) (append_assoc prefix (e ∷ []) es)
 
   -- the result of the next entry is the log's result of its line, whatever follows
-  message_next : (front : List Entry) (e : Entry) (es : List Entry) → (step_given (kind t) (state id o.window (kind t) front) e).message ≡ message o.window (kind t) (front ++ e ∷ es) (length front + 1)
-  message_next front e es =
-      ap (λ (g : Given). g.message) (laws.agree id (kind t) front e).given
-      ∙ sym (messages_stay (front ++ e ∷ []) es (length front + 1) (omega arith) (omega (arith, length-append front (e ∷ []))))
-      ∙ ap (λ xs. message o.window (kind t) xs (length front + 1)) (append_assoc front (e ∷ []) es)
+  message_next : (prefix : List Entry) (e : Entry) (es : List Entry) → (step_given (kind t) (state id o.window (kind t) prefix) e).message ≡ message o.window (kind t) (prefix ++ e ∷ es) (length prefix + 1)
+  message_next prefix e es =
+      ap (λ (g : Given). g.message) (laws.agree id (kind t) prefix e).given
+      ∙ sym (messages_stay (prefix ++ e ∷ []) es (length prefix + 1) (omega arith) (omega (arith, length-append prefix (e ∷ []))))
+      ∙ ap (λ xs. message o.window (kind t) xs (length prefix + 1)) (append_assoc prefix (e ∷ []) es)
 
-  broken_next : (front : List Entry) (e : Entry) (es : List Entry) → (step_given (kind t) (state id o.window (kind t) front) e).broken ≡ broken o.window (kind t) (front ++ e ∷ es) (length front + 1)
-  broken_next front e es =
-      ap (λ (g : Given). g.broken) (laws.agree id (kind t) front e).given
-      ∙ sym (broken_stay (front ++ e ∷ []) es (length front + 1) (omega (arith, length-append front (e ∷ []))))
-      ∙ ap (λ xs. broken o.window (kind t) xs (length front + 1)) (append_assoc front (e ∷ []) es)
+  broken_next : (prefix : List Entry) (e : Entry) (es : List Entry) → (step_given (kind t) (state id o.window (kind t) prefix) e).broken ≡ broken o.window (kind t) (prefix ++ e ∷ es) (length prefix + 1)
+  broken_next prefix e es =
+      ap (λ (g : Given). g.broken) (laws.agree id (kind t) prefix e).given
+      ∙ sym (broken_stay (prefix ++ e ∷ []) es (length prefix + 1) (omega (arith, length-append prefix (e ∷ []))))
+      ∙ ap (λ xs. broken o.window (kind t) xs (length prefix + 1)) (append_assoc prefix (e ∷ []) es)
 
-  cause_next : (front : List Entry) (e : Entry) (es : List Entry) → (step_given (kind t) (state id o.window (kind t) front) e).cause ≡ cause_at t (front ++ e ∷ es) (length front + 1)
-  cause_next front e es =
-      ap (λ (g : Given). g.cause) (laws.agree id (kind t) front e).given
-      ∙ ap (option_and_then (cause_in (kind t))) (sym (entry_next front e es))
+  cause_next : (prefix : List Entry) (e : Entry) (es : List Entry) → (step_given (kind t) (state id o.window (kind t) prefix) e).cause ≡ cause_at t (prefix ++ e ∷ es) (length prefix + 1)
+  cause_next prefix e es =
+      ap (λ (g : Given). g.cause) (laws.agree id (kind t) prefix e).given
+      ∙ ap (option_and_then (cause_in (kind t))) (sym (entry_next prefix e es))
 
   -- the values of all the next entries are the log's values of their lines
-  given_after : (given : State → Entry → List ℕ) (at : List Entry → ℕ → List ℕ) → ((front : List Entry) (e : Entry) (es : List Entry) → given (state id o.window (kind t) front) e ≡ at (front ++ e ∷ es) (length front + 1)) → (front es : List Entry)
-      → given_from given (join_fold t o.empty) (state id o.window (kind t) front) es ≡ flat_map (at (front ++ es)) (numbers_after front es)
-  given_after given at here front [] = refl
-  given_after given at here front (e ∷ es) =
-      let next : length (front ++ e ∷ []) + 1 ≡ length front + 1 + 1 = omega (arith, length-append front (e ∷ [])) in
+  given_after : (given : State → Entry → List ℕ) (at : List Entry → ℕ → List ℕ) → ((prefix : List Entry) (e : Entry) (es : List Entry) → given (state id o.window (kind t) prefix) e ≡ at (prefix ++ e ∷ es) (length prefix + 1)) → (prefix es : List Entry)
+      → given_from given (join_fold t o.empty) (state id o.window (kind t) prefix) es ≡ flat_map (at (prefix ++ es)) (numbers_after prefix es)
+  given_after given at here prefix [] = refl
+  given_after given at here prefix (e ∷ es) =
+      let next : length (prefix ++ e ∷ []) + 1 ≡ length prefix + 1 + 1 = omega (arith, length-append prefix (e ∷ [])) in
       let rest =
-      ap (λ s. given_from given (join_fold t o.empty) s es) (laws.agree id (kind t) front e).after
-      ∙ given_after given at here (front ++ e ∷ []) es
-      ∙ ap (λ xs. flat_map (at xs) (range_with_len (length (front ++ e ∷ []) + 1) (length es))) (append_assoc front (e ∷ []) es)
-      ∙ ap (λ n. flat_map (at (front ++ e ∷ es)) (range_with_len n (length es))) next in
-      ap (λ x. x ++ given_from given (join_fold t o.empty) (step_after (kind t) (state id o.window (kind t) front) e) es) (here front e es)
-      ∙ ap (λ r. at (front ++ e ∷ es) (length front + 1) ++ r) rest
+      ap (λ s. given_from given (join_fold t o.empty) s es) (laws.agree id (kind t) prefix e).after
+      ∙ given_after given at here (prefix ++ e ∷ []) es
+      ∙ ap (λ xs. flat_map (at xs) (range_with_len (length (prefix ++ e ∷ []) + 1) (length es))) (append_assoc prefix (e ∷ []) es)
+      ∙ ap (λ n. flat_map (at (prefix ++ e ∷ es)) (range_with_len n (length es))) next in
+      ap (λ x. x ++ given_from given (join_fold t o.empty) (step_after (kind t) (state id o.window (kind t) prefix) e) es) (here prefix e es)
+      ∙ ap (λ r. at (prefix ++ e ∷ es) (length prefix + 1) ++ r) rest
 
-  pub texts_after : (front es : List Entry) → texts_from (join_fold t o.empty) (state id o.window (kind t) front) es ≡ flat_map (text_of_line t o (front ++ es)) (numbers_after front es)
-  texts_after = given_after (join_fold t o.empty).text (text_of_line t o) (λ front e es. ap (message_line t o.empty) (message_next front e es))
+  pub texts_after : (prefix es : List Entry) → texts_from (join_fold t o.empty) (state id o.window (kind t) prefix) es ≡ flat_map (text_of_line t o (prefix ++ es)) (numbers_after prefix es)
+  texts_after = given_after (join_fold t o.empty).text (text_of_line t o) (λ prefix e es. ap (message_line t o.empty) (message_next prefix e es))
 
-  report_next : (front : List Entry) (e : Entry) (es : List Entry) → (join_fold t o.empty).report (state id o.window (kind t) front) e ≡ report_at t o (front ++ e ∷ es) (length front + 1)
-  report_next front e es = grind (arith, broken_next, cause_next)
+  report_next : (prefix : List Entry) (e : Entry) (es : List Entry) → (join_fold t o.empty).report (state id o.window (kind t) prefix) e ≡ report_at t o (prefix ++ e ∷ es) (length prefix + 1)
+  report_next prefix e es = grind (arith, broken_next, cause_next)
 
-  pub reports_after : (front es : List Entry) → reports_from (join_fold t o.empty) (state id o.window (kind t) front) es ≡ flat_map (report_at t o (front ++ es)) (numbers_after front es)
+  pub reports_after : (prefix es : List Entry) → reports_from (join_fold t o.empty) (state id o.window (kind t) prefix) es ≡ flat_map (report_at t o (prefix ++ es)) (numbers_after prefix es)
   reports_after = given_after (join_fold t o.empty).report (report_at t o) report_next
 
 -- a run from a log's state has the output of the whole log
-pub output_after-is : (t : TableParts) (o : Options) → LogLaws o.window → (id : List ℕ) (front : List Entry) → output_from (join_fold t o.empty) o.packing (state id o.window (kind t) front) ≡ output_after t o front
-output_after-is t o laws id front = output_same o.packing (length front) _ _ _ _ (texts_after t o laws id front) (reports_after t o laws id front)
+pub output_after-is : (t : TableParts) (o : Options) → LogLaws o.window → (id : List ℕ) (prefix : List Entry) → output_from (join_fold t o.empty) o.packing (state id o.window (kind t) prefix) ≡ output_after t o prefix
+output_after-is t o laws id prefix = output_same o.packing (length prefix) _ _ _ _ (texts_after t o laws id prefix) (reports_after t o laws id prefix)
 
 -- a message's PGN was looked up in this table, and is its own
 pub of_table : (t : TableParts) (o : Option TableMessage) → IfSome o (λ m. m.pgn ≡ record { table = t; pgn = m.packet.now.id.pgn }) → IfSome o (λ m. m.pgn.table ≡ t)

@@ -26,29 +26,29 @@ use Rattle.n2k_run.proofs.LogSteps.{LogLaws}
 many_bytes : {P : Type 0} (log : List ℕ) (left : Option (List ℕ)) (calls : ℕ) → ReadsBytes 1 (Some log) left 0 calls → HasFailed 0 0 ⊎ (OutlastsReads 0 calls × P) → most_reads ≤ length log + 1
 many_bytes log left calls reads h = grind (arith, came_within)
 
-module _ (t : TableParts) (o : Options) (laws : LogLaws o.window) (front : List ℕ) (whole : IsEmptyOrEndsWith front line_feed) where
+module _ (t : TableParts) (o : Options) (laws : LogLaws o.window) (prefix : List ℕ) (whole : IsEmptyOrEndsWith prefix line_feed) where
   -- the prefix and the taken lines are the most lines, and one more follows
-  past_limit : (more : List ℕ) (taken : List Entry) (next : Entry) (rest : List Entry) → entries o.packing more ≡ taken ++ next ∷ rest → length (entries o.packing front) + length taken ≡ most_lines → most_lines < length (entries o.packing (front ++ more))
+  past_limit : (more : List ℕ) (taken : List Entry) (next : Entry) (rest : List Entry) → entries o.packing more ≡ taken ++ next ∷ rest → length (entries o.packing prefix) + length taken ≡ most_lines → most_lines < length (entries o.packing (prefix ++ more))
   past_limit more taken next rest is full = grind (arith, both, length-append)
 
   takes_more : (more : List ℕ) (before after : Devices) (calls : ℕ) (left : Option (List ℕ)) (join : State) (x : Unit {0})
-      → Runs (output_after t o (entries o.packing front)) (λ es. join ≡ state t.id o.window (kind t) (entries o.packing front ++ es)) (with_source before (Some more) 0 0) (with_source after left calls 0) (Ok x)
-      → TakesMore t o front more before after join
+      → Runs (output_after t o (entries o.packing prefix)) (λ es. join ≡ state t.id o.window (kind t) (entries o.packing prefix ++ es)) (with_source before (Some more) 0 0) (with_source after left calls 0) (Ok x)
+      → TakesMore t o prefix more before after join
   takes_more more before after calls left join x runs =
-      let made : List ℕ → Type 0 = λ came. TakesMore t o front came before after join in
+      let made : List ℕ → Type 0 = λ came. TakesMore t o prefix came before after join in
       of_log _ _ _ _ made runs.ends (record {
-        text = (output_after t o (entries o.packing front)).texts (entries o.packing runs.ends.came);
+        text = (output_after t o (entries o.packing prefix)).texts (entries o.packing runs.ends.came);
         printed = runs.ends.gained.printed;
-        output = output-on t o laws front whole runs.ends.came;
-        report = (output_after t o (entries o.packing front)).reports (entries o.packing runs.ends.came);
+        output = output-on t o laws prefix whole runs.ends.came;
+        report = (output_after t o (entries o.packing prefix)).reports (entries o.packing runs.ends.came);
         reported = runs.ends.gained.reported;
-        all_reports = reports-on t o laws front whole runs.ends.came;
-        leads_to = runs.ends.holds ∙ ap (state t.id o.window (kind t)) (sym (both t o laws front whole runs.ends.came));
+        all_reports = reports-on t o laws prefix whole runs.ends.came;
+        leads_to = runs.ends.holds ∙ ap (state t.id o.window (kind t)) (sym (both t o laws prefix whole runs.ends.came));
       })
 
   ends_from : (more : List ℕ) (before after : Devices) (calls : ℕ) (left : Option (List ℕ)) (join : State) (result : Result (Unit {0}) RunFault)
-      → Runs (output_after t o (entries o.packing front)) (λ es. join ≡ state t.id o.window (kind t) (entries o.packing front ++ es)) (with_source before (Some more) 0 0) (with_source after left calls 0) result
-      → EndsMore t o front more before after join result
+      → Runs (output_after t o (entries o.packing prefix)) (λ es. join ≡ state t.id o.window (kind t) (entries o.packing prefix ++ es)) (with_source before (Some more) 0 0) (with_source after left calls 0) result
+      → EndsMore t o prefix more before after join result
   ends_from more before after calls left join (Ok x) runs = takes_more more before after calls left join x runs
   ends_from more before after calls left join (Err Read) runs = many_bytes more left calls runs.reads runs.device.reads
   ends_from more before after calls left join (Err Write) runs = runs.device.writes
@@ -57,6 +57,6 @@ module _ (t : TableParts) (o : Options) (laws : LogLaws o.window) (front : List 
   ends_from more before after calls left join (Err Memory) runs = tt
 
   pub ends_more : (more : List ℕ) (reader : PartLeft) (before after : Devices) (calls : ℕ) (left : Option (List ℕ)) (join : State) (result : Result (Unit {0}) RunFault) → reader ≡ record { left = more; calls = 0 }
-      → Runs (output_after t o (entries o.packing front)) (λ es. join ≡ state t.id o.window (kind t) (entries o.packing front ++ es)) (with_source before (Some reader.left) reader.calls 0) (with_source after left calls 0) result
-      → EndsMore t o front more before after join result
+      → Runs (output_after t o (entries o.packing prefix)) (λ es. join ≡ state t.id o.window (kind t) (entries o.packing prefix ++ es)) (with_source before (Some reader.left) reader.calls 0) (with_source after left calls 0) result
+      → EndsMore t o prefix more before after join result
   ends_more more reader before after calls left join result is runs = grind (arith, ends_from)

@@ -3,14 +3,14 @@ use Rattle.std.proofs.Common.{ℕ, List, ◌++◌, ◌<◌, length, take, drop, 
 use Rattle.std.specs.Io.KnownBytes.{Appends}
 use Rattle.std.proofs.KnownBytes.{Appends-trans}
 use Rattle.std.proofs.lemmas.List.{take-append-drop, take_rest}
-use Rattle.n2k_run.specs.Writing.{Owes, AppendsFront}
+use Rattle.n2k_run.specs.Writing.{Owes, AppendsPrefix}
 
 -- the first part of the rest is written
 pub Owes-part : (old mid new : Option (List ℕ)) (text part rest : List ℕ) → Owes old mid text (part ++ rest) → Appends mid new part → Owes old new text rest
 Owes-part old mid new text part rest owed more = record {
-  front = owed.front ++ part;
-  appended = Appends-trans old mid new owed.front part owed.appended more;
-  still = owed.still ∙ sym (append_assoc owed.front part rest);
+  prefix = owed.prefix ++ part;
+  appended = Appends-trans old mid new owed.prefix part owed.appended more;
+  still = owed.still ∙ sym (append_assoc owed.prefix part rest);
 }
 
 -- a write took some bytes of the rest
@@ -25,16 +25,16 @@ pub both_parts : (old mid new : Option (List ℕ)) (first rest : List ℕ) → A
 both_parts = Appends-trans
 
 -- a prefix of the first of two texts is a prefix of both
-pub front_of_first : (old new : Option (List ℕ)) (first rest : List ℕ) → AppendsFront old new first → AppendsFront old new (first ++ rest)
-front_of_first old new first rest owed = grind (arith, append_assoc owed.1.front owed.0 rest)
+pub prefix_of_first : (old new : Option (List ℕ)) (first rest : List ℕ) → AppendsPrefix old new first → AppendsPrefix old new (first ++ rest)
+prefix_of_first old new first rest owed = grind (arith, append_assoc owed.1.prefix owed.0 rest)
 
 -- the first of two texts and a prefix of the other are a prefix of both
-pub first_and_front : (old mid new : Option (List ℕ)) (first rest : List ℕ) → Appends old mid first → AppendsFront mid new rest → AppendsFront old new (first ++ rest)
-first_and_front old mid new first rest done owed = grind (arith, append_assoc)
+pub first_and_prefix : (old mid new : Option (List ℕ)) (first rest : List ℕ) → Appends old mid first → AppendsPrefix mid new rest → AppendsPrefix old new (first ++ rest)
+first_and_prefix old mid new first rest done owed = grind (arith, append_assoc)
 
-pub front_of_both : {T E : Type 0} (r : Result T E) (old mid new : Option (List ℕ)) (first rest : List ℕ) → Appends old mid first → OnErr r (AppendsFront mid new rest) → OnErr r (AppendsFront old new (first ++ rest))
-front_of_both (Ok x) old mid new first rest done owed = owed
-front_of_both (Err e) old mid new first rest done owed = first_and_front old mid new first rest done owed
+pub prefix_of_both : {T E : Type 0} (r : Result T E) (old mid new : Option (List ℕ)) (first rest : List ℕ) → Appends old mid first → OnErr r (AppendsPrefix mid new rest) → OnErr r (AppendsPrefix old new (first ++ rest))
+prefix_of_both (Ok x) old mid new first rest done owed = owed
+prefix_of_both (Err e) old mid new first rest done owed = first_and_prefix old mid new first rest done owed
 
 pub some_first : (first rest : List ℕ) → 0 < length first → 0 < length (first ++ rest)
 some_first first rest some = omega (arith, length-append first rest, some)

@@ -20,7 +20,7 @@ use Rattle.n2k_run.specs.Entries.{entries}
 use Rattle.n2k_run.specs.Inner.Parts.{Finishes, HasSaved}
 use Rattle.n2k_run.specs.Fold.{after_all}
 use Rattle.n2k_run.specs.Parts.{BeginsBy, HasPart, OnRefusal, EndsAtLine, TellsRun, begun}
-use Rattle.n2k_run.specs.Runs.{Devices, HasFronts, Output, Runs, output_from}
+use Rattle.n2k_run.specs.Runs.{Devices, HasPrefixes, Output, Runs, output_from}
 use Rattle.n2k_run.proofs.Calls.{none_read}
 use Rattle.n2k_run.proofs.Ending.{of_log, runs_more, runs_same}
 use Rattle.n2k_run.proofs.LogSteps.{LogLaws, output_after-is, state_after}
@@ -35,14 +35,14 @@ unbegun o stands before fault none = grind (arith, known_any, none_gained, appen
 
 module _ (o : Output) (before after : Devices) where
   -- if a run ends at a line, the sinks gained prefixes of the log's output
-  pub line_fronts : (stands : List Entry → Type 0) (ran : Result (Unit {0}) RunFault) → EndsAtLine ran → Runs o stands before after ran → IfSome before.left (HasFronts o before after)
-  line_fronts stands (Ok x) line runs = of_log o stands before after _ runs.ends (record {
+  pub line_prefixes : (stands : List Entry → Type 0) (ran : Result (Unit {0}) RunFault) → EndsAtLine ran → Runs o stands before after ran → IfSome before.left (HasPrefixes o before after)
+  line_prefixes stands (Ok x) line runs = of_log o stands before after _ runs.ends (record {
     printed = all_gained before.written after.written (o.texts (entries o.packing runs.ends.came)) runs.ends.gained.printed;
     reported = all_gained before.reported after.reported (o.reports (entries o.packing runs.ends.came)) runs.ends.gained.reported;
   })
-  line_fronts stands (Err run_faults.Read) line runs = runs.fronts
-  line_fronts stands (Err run_faults.TooManyLines) line runs = runs.fronts
-  line_fronts stands _ line runs = absurd line
+  line_prefixes stands (Err run_faults.Read) line runs = runs.prefixes
+  line_prefixes stands (Err run_faults.TooManyLines) line runs = runs.prefixes
+  line_prefixes stands _ line runs = absurd line
 
   -- the run of a result, by its end
   pub told_ok : (stands : List Entry → Type 0) (part : Part) → TellsRun o stands before after (Ok part) → Runs {T = Unit {0}} o stands before after (Ok tt)
@@ -113,17 +113,17 @@ module _ (laws : KeepsFast) (t : TableParts) (o : Options) (window : IsWindow o.
   steps_of handed join join' before after ran result id began runs saved finishes s is = grind (arith, begun-under handed join began, same_state, runs_more, has_part, after-under)
 
 -- from the state of a log: the output of the whole log
-pub log_of : (t : TableParts) (o : Options) → LogLaws o.window → (before after : Devices) (result : Result Part PartFault) (front : List Entry)
-    → TellsRun (output_from (join_fold t o.empty) o.packing (state t.id o.window (kind t) front)) (λ es. HasPart t o result (after_all (join_fold t o.empty) (state t.id o.window (kind t) front) es)) before after result
-    → TellsRun (output_after t o front) (λ es. HasPart t o result (state t.id o.window (kind t) (front ++ es))) before after result
-log_of t o laws before after result front steps =
-    let same = output_after-is t o laws t.id front in
-    let runs = runs_same _ (output_after t o front) _ before after steps.ran same steps.runs in
+pub log_of : (t : TableParts) (o : Options) → LogLaws o.window → (before after : Devices) (result : Result Part PartFault) (prefix : List Entry)
+    → TellsRun (output_from (join_fold t o.empty) o.packing (state t.id o.window (kind t) prefix)) (λ es. HasPart t o result (after_all (join_fold t o.empty) (state t.id o.window (kind t) prefix) es)) before after result
+    → TellsRun (output_after t o prefix) (λ es. HasPart t o result (state t.id o.window (kind t) (prefix ++ es))) before after result
+log_of t o laws before after result prefix steps =
+    let same = output_after-is t o laws t.id prefix in
+    let runs = runs_same _ (output_after t o prefix) _ before after steps.ran same steps.runs in
     record {
       ran = steps.ran;
       ended = steps.ended;
-      runs = runs_more (output_after t o front) (λ es. HasPart t o result (after_all (join_fold t o.empty) (state t.id o.window (kind t) front) es)) (λ es. HasPart t o result (state t.id o.window (kind t) (front ++ es))) before after steps.ran runs
-          (λ es has. subst (HasPart t o result) (state_after t o laws t.id front es) has);
+      runs = runs_more (output_after t o prefix) (λ es. HasPart t o result (after_all (join_fold t o.empty) (state t.id o.window (kind t) prefix) es)) (λ es. HasPart t o result (state t.id o.window (kind t) (prefix ++ es))) before after steps.ran runs
+          (λ es has. subst (HasPart t o result) (state_after t o laws t.id prefix es) has);
     }
 
 -- ---- a refused state

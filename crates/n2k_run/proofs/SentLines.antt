@@ -69,7 +69,7 @@ module _ (kind : ℕ → Option Kind) (interface : Option (List ℕ)) where
   split-push held (e ∷ ms) m = grind (arith, split-push (raised kind held (stream_of e.id)) ms m, append_assoc)
 
   sendings-push : (earlier ms : List PacketParts) (m : PacketParts) → sendings_after earlier (ms ++ m ∷ []) ≡ sendings_after earlier ms ++ sendings_after (earlier ++ ms) (m ∷ [])
-  sendings-push earlier [] m = ap (λ front. sendings_after front (m ∷ [])) (sym (append-nil earlier))
+  sendings-push earlier [] m = ap (λ prefix. sendings_after prefix (m ∷ [])) (sym (append-nil earlier))
   sendings-push earlier (e ∷ ms) m = grind (arith, sendings-push (earlier ++ e ∷ []) ms m, append_assoc)
 
   module _ (law : (ms : List PacketParts) → split_all kind ms ≡ written kind ms) where
@@ -82,7 +82,7 @@ module _ (kind : ℕ → Option Kind) (interface : Option (List ℕ)) where
     stood earlier c = record { held = held_by first_sequences earlier; counts = c }
 
     -- a message, whether it is split or refused
-    texts_whole : (earlier : List PacketParts) (c : Counts) (m : PacketParts) (es : List Entry) → ((front : List PacketParts) → texts_from (sending_fold kind interface) (stood front c) es ≡ flat_map (sending_text kind interface) (sendings_after front (split_messages kind es)))
+    texts_whole : (earlier : List PacketParts) (c : Counts) (m : PacketParts) (es : List Entry) → ((prefix : List PacketParts) → texts_from (sending_fold kind interface) (stood prefix c) es ≡ flat_map (sending_text kind interface) (sendings_after prefix (split_messages kind es)))
         → (refused : Option SplitFault) → (refused ≡ Some unsplit.Memory → ⊥)
         → cond (is_none (option_or (split_cause refused) (interface_cause interface m))) (frame_texts interface (pieces_by kind m (held_by first_sequences earlier (stream_of m.id)))) [] ++ texts_from (sending_fold kind interface) (record { held = cond (is_none refused) (raised kind (held_by first_sequences earlier) (stream_of m.id)) (held_by first_sequences earlier); counts = c }) es
         ≡ flat_map (sending_text kind interface) (sendings_after earlier (cons_option (cond (is_none refused) (Some m) None) (split_messages kind es)))
@@ -94,7 +94,7 @@ module _ (kind : ℕ → Option Kind) (interface : Option (List ℕ)) where
     texts_after earlier c (lines.Bad cause ∷ es) = texts_after earlier (frame_counts_after kind interface c (lines.Bad cause)) es
     texts_after earlier c (lines.Frame packet ∷ es) = texts_after earlier (frame_counts_after kind interface c (lines.Frame packet)) es
     texts_after earlier c (lines.Whole m ∷ es) =
-        texts_whole earlier (frame_counts_after kind interface c (lines.Whole m)) m es (λ front. texts_after front (frame_counts_after kind interface c (lines.Whole m)) es) (refusal (kind m.id.pgn) m) (refusal_by (kind m.id.pgn) m)
+        texts_whole earlier (frame_counts_after kind interface c (lines.Whole m)) m es (λ prefix. texts_after prefix (frame_counts_after kind interface c (lines.Whole m)) es) (refusal (kind m.id.pgn) m) (refusal_by (kind m.id.pgn) m)
 
     pub texts_are : (c : Counts) (es : List Entry) → texts_from (sending_fold kind interface) (record { held = first_sequences; counts = c }) es ≡ frame_lines kind interface es
     texts_are c es = texts_after [] c es

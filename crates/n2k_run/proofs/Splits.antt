@@ -9,10 +9,10 @@ use Rattle.std.proofs.lemmas.List.Sums.{suffix_len_is}
 use Rattle.n2k_run.specs.Lines.{line_feed, is_line_feed, without_last_empty, without_return, lines, whole_lines}
 
 -- there is a first piece
-first_piece : (bytes : List ℕ) → (first : List ℕ) × ((more : List (List ℕ)) × (slice_split is_line_feed bytes ≡ first ∷ more))
-first_piece [] = ([], ([], refl))
-first_piece (byte ∷ bytes) =
-    let next = first_piece bytes in
+first_chunk : (bytes : List ℕ) → (first : List ℕ) × ((more : List (List ℕ)) × (slice_split is_line_feed bytes ≡ first ∷ more))
+first_chunk [] = ([], ([], refl))
+first_chunk (byte ∷ bytes) =
+    let next = first_chunk bytes in
     let P : Bool → Type 0 = λ b. (first : List ℕ) × ((more : List (List ℕ)) × (cond b ([] ∷ slice_split is_line_feed bytes) (onto_first byte (slice_split is_line_feed bytes)) ≡ first ∷ more)) in
     elim (is_line_feed byte) as P [
       | true ↦ ([], (slice_split is_line_feed bytes, refl))
@@ -20,22 +20,22 @@ first_piece (byte ∷ bytes) =
     ]
 
 -- a piece before others stays
-without_last_empty-keeps : (piece next : List ℕ) (more : List (List ℕ)) → without_last_empty (piece ∷ (next ∷ more)) ≡ piece ∷ without_last_empty (next ∷ more)
+without_last_empty-keeps : (chunk next : List ℕ) (more : List (List ℕ)) → without_last_empty (chunk ∷ (next ∷ more)) ≡ chunk ∷ without_last_empty (next ∷ more)
 without_last_empty-keeps [] next more = refl
-without_last_empty-keeps (byte ∷ piece) next more = refl
+without_last_empty-keeps (byte ∷ chunk) next more = refl
 
-without_last_empty-append : (pieces : List (List ℕ)) (next : List ℕ) (more : List (List ℕ)) → without_last_empty (pieces ++ (next ∷ more)) ≡ pieces ++ without_last_empty (next ∷ more)
+without_last_empty-append : (chunks : List (List ℕ)) (next : List ℕ) (more : List (List ℕ)) → without_last_empty (chunks ++ (next ∷ more)) ≡ chunks ++ without_last_empty (next ∷ more)
 without_last_empty-append [] next more = refl
-without_last_empty-append (piece ∷ []) next more = without_last_empty-keeps piece next more
-without_last_empty-append (piece ∷ (second ∷ pieces)) next more = grind (arith, without_last_empty-append (second ∷ pieces) next more)
+without_last_empty-append (chunk ∷ []) next more = without_last_empty-keeps chunk next more
+without_last_empty-append (chunk ∷ (second ∷ chunks)) next more = grind (arith, without_last_empty-append (second ∷ chunks) next more)
 
-slice_split-feed : (front rest : List ℕ) → slice_split is_line_feed (front ++ (10 ∷ rest)) ≡ slice_split is_line_feed front ++ slice_split is_line_feed rest
+slice_split-feed : (prefix rest : List ℕ) → slice_split is_line_feed (prefix ++ (10 ∷ rest)) ≡ slice_split is_line_feed prefix ++ slice_split is_line_feed rest
 slice_split-feed [] rest = refl
-slice_split-feed (byte ∷ front) rest = grind (arith, slice_split-feed front rest, first_piece front)
+slice_split-feed (byte ∷ prefix) rest = grind (arith, slice_split-feed prefix rest, first_chunk prefix)
 
 -- the lines of bytes: the lines up to a line feed, then the lines after it
-pub lines_feed : (front rest : List ℕ) → lines (front ++ (10 ∷ rest)) ≡ map without_return (slice_split is_line_feed front) ++ lines rest
-lines_feed front rest = grind (arith, slice_split-feed front rest, without_last_empty-append (slice_split is_line_feed front) (first_piece rest).0 (first_piece rest).1.0, map-append without_return (slice_split is_line_feed front) (without_last_empty (slice_split is_line_feed rest)))
+pub lines_feed : (prefix rest : List ℕ) → lines (prefix ++ (10 ∷ rest)) ≡ map without_return (slice_split is_line_feed prefix) ++ lines rest
+lines_feed prefix rest = grind (arith, slice_split-feed prefix rest, without_last_empty-append (slice_split is_line_feed prefix) (first_chunk rest).0 (first_chunk rest).1.0, map-append without_return (slice_split is_line_feed prefix) (without_last_empty (slice_split is_line_feed rest)))
 
 -- bytes that end in a line feed
 ends_in_feed : (bytes : List ℕ) → 0 < length bytes → get_or bytes (length bytes - 1) 0 ≡ 10 → bytes ≡ take (length bytes - 1) bytes ++ (10 ∷ [])
@@ -46,6 +46,6 @@ pub whole_lines-is : (bytes : List ℕ) (end : ℕ) → end ≤ length bytes →
 whole_lines-is bytes end within none last = grind (arith, suffix_len_is)
 
 -- after bytes that are empty or end in a line feed, new lines begin
-pub lines-append : (front rest : List ℕ) → IsEmptyOrEndsWith front line_feed → lines (front ++ rest) ≡ lines front ++ lines rest
+pub lines-append : (prefix rest : List ℕ) → IsEmptyOrEndsWith prefix line_feed → lines (prefix ++ rest) ≡ lines prefix ++ lines rest
 lines-append [] rest ends = refl
 lines-append (byte ∷ bytes) rest ends = grind (arith, ends_in_feed (byte ∷ bytes) (omega arith) (ends (omega arith)), append_assoc (take (length (byte ∷ bytes) - 1) (byte ∷ bytes)) (10 ∷ []) rest, lines_feed (take (length (byte ∷ bytes) - 1) (byte ∷ bytes)) rest, lines_feed (take (length (byte ∷ bytes) - 1) (byte ∷ bytes)) [], append-nil (map without_return (slice_split is_line_feed (take (length (byte ∷ bytes) - 1) (byte ∷ bytes)))))

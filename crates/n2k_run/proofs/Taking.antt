@@ -7,7 +7,7 @@ use Rattle.n2k_wire.specs.declared.entry.Packing.{Packing}
 use Rattle.n2k_wire.specs.Entry.{entry, longest_line}
 use Rattle.n2k_run.specs.declared.blocks.Next.TheVariants.{Line, Long}
 use Rattle.n2k_run.specs.declared.fault.RunFault.{RunFault}
-use Rattle.n2k_run.specs.Blocks.{Held, Answers}
+use Rattle.n2k_run.specs.Blocks.{BlocksView, Answers}
 use Rattle.n2k_run.specs.Fold.{Fold}
 use Rattle.n2k_run.specs.Inner.Engine.{NextEntry, TakesEntry, TakesNext}
 
@@ -16,7 +16,7 @@ long_entry : (line : List ℕ) (packing : Packing) → longest_line < length lin
 unfolding entry
 long_entry line packing long = grind arith
 
-module _ {S : Type 0} (m : Fold S) (packing : Packing) (s s' : S) (old new : Held) (left₀ left : Option (List ℕ)) (text text' report report' : List ℕ) where
+module _ {S : Type 0} (m : Fold S) (packing : Packing) (s s' : S) (old new : BlocksView) (left₀ left : Option (List ℕ)) (text text' report report' : List ℕ) where
   takes_entry : {T : Type 0} (x : Entry) (result : Result T RunFault) → NextEntry packing old new left₀ left x → TakesEntry m s s' x text text' report report' result → TakesNext m packing s s' old new left₀ left text text' report report' result
   takes_entry x result next takes = grind arith
 

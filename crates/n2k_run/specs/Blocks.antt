@@ -11,7 +11,7 @@ use Rattle.n2k_run.specs.Lines.{line_feed, is_line_feed, lines, without_return}
 use Rattle.n2k_run.specs.Reading.{idle_calls}
 
 -- the contracts' view of `Blocks`
-pub record Held : Type 0 where
+pub record BlocksView : Type 0 where
   -- the bytes that came and were not returned yet
   pub kept : List ℕ
   -- whether they continue a line over the limit, whose first bytes were discarded
@@ -30,12 +30,12 @@ unfoldable pub passed : List ℕ
 passed = replicate (longest_line + 1) 120
 
 -- unanswered: the bytes not yet returned; `passed` is in the place of a discarded part
-abbrev pub unanswered : Held → List ℕ
+abbrev pub unanswered : BlocksView → List ℕ
 unanswered held = (if held.is_passing then passed else []) ++ held.kept
 
 -- a line ends within the bytes
 abbrev pub HasFeed : List ℕ → Type 0
-HasFeed bytes = (piece : List ℕ) × (rest : List ℕ) × (bytes ≡ piece ++ line_feed ∷ rest)
+HasFeed bytes = (chunk : List ℕ) × (rest : List ℕ) × (bytes ≡ chunk ++ line_feed ∷ rest)
 
 -- no line ends within the bytes
 abbrev pub HasNoFeed : List ℕ → Type 0
@@ -44,11 +44,11 @@ HasNoFeed bytes = All (λ byte. is_line_feed byte ≡ false) bytes
 -- The bytes begin with this line, followed by the rest: the line ends at a line feed, or at the end of the source, with
 -- no bytes left.
 pub record FirstLine (bytes line rest : List ℕ) (has_ended : Bool) (left : Option (List ℕ)) : Type 0 where
-  pub piece : List ℕ
-  pub line_is : line ≡ without_return piece
-  pub no_feed : HasNoFeed piece
-  pub ends : ((has_ended ≡ false) × (bytes ≡ piece ++ line_feed ∷ rest))
-      ⊎ (IsAtEnd left × (has_ended ≡ true) × (bytes ≡ piece) × (0 < length piece) × (rest ≡ []))
+  pub chunk : List ℕ
+  pub line_is : line ≡ without_return chunk
+  pub no_feed : HasNoFeed chunk
+  pub ends : ((has_ended ≡ false) × (bytes ≡ chunk ++ line_feed ∷ rest))
+      ⊎ (IsAtEnd left × (has_ended ≡ true) × (bytes ≡ chunk) × (0 < length chunk) × (rest ≡ []))
 
 -- The bytes begin with a line over the limit.
 abbrev pub FirstLong : List ℕ → List ℕ → Bool → Option (List ℕ) → Type 0
@@ -57,12 +57,12 @@ FirstLong bytes rest has_ended left =
 
 -- No line was found: the bytes are unchanged, or a prefix of them that is too long for a line was replaced by `passed`.
 pub record ReplacesLong (whole bytes : List ℕ) : Type 0 where
-  pub front : List ℕ
+  pub prefix : List ℕ
   pub rest : List ℕ
-  pub whole_is : whole ≡ front ++ rest
+  pub whole_is : whole ≡ prefix ++ rest
   pub bytes_are : bytes ≡ passed ++ rest
-  pub no_feed : HasNoFeed front
-  pub long : longest_line + 1 < length front
+  pub no_feed : HasNoFeed prefix
+  pub long : longest_line + 1 < length prefix
 
 abbrev pub Stays : List ℕ → List ℕ → Type 0
 Stays whole bytes = (bytes ≡ whole) ⊎ ReplacesLong whole bytes
@@ -81,7 +81,7 @@ CallsAre calls₀ calls reads₀ reads = (reads₀ ≤ reads) × ((calls + reads
 
 -- The bytes that came of a source while a block went from one state to another, by calls that each gave at least one
 -- byte, except for so many; and a property of all the bytes, the ones not yet returned before and these.
-pub record Came (idle : ℕ) (old new : Held) (left₀ left : Option (List ℕ)) (calls₀ calls : ℕ)
+pub record Came (idle : ℕ) (old new : BlocksView) (left₀ left : Option (List ℕ)) (calls₀ calls : ℕ)
     (holds : List ℕ → Type 0) : Type 0 where
   pub came : List ℕ
   pub given : Consumes left₀ left came
@@ -91,7 +91,7 @@ pub record Came (idle : ℕ) (old new : Held) (left₀ left : Option (List ℕ))
 
 -- A call's result, the bytes that it read of the source, and the block after it. Only the call that finds the end or
 -- fails gives no byte.
-abbrev pub Answers : Held → Held → Option (List ℕ) → Option (List ℕ) → ℕ → ℕ → Result Next Failed → Type 0
+abbrev pub Answers : BlocksView → BlocksView → Option (List ℕ) → Option (List ℕ) → ℕ → ℕ → Result Next Failed → Type 0
 Answers old new left₀ left calls₀ calls result = Came (idle_calls new.has_ended result) old new left₀ left calls₀ calls
     (λ whole. GivesNext whole (unanswered new) new.has_ended left result)
 
@@ -103,7 +103,7 @@ AnswersLine bytes rest (Ok End) = (bytes ≡ []) × (rest ≡ [])
 AnswersLine bytes rest (Err failed) = Stays bytes rest
 
 -- a result, if the source's bytes are known
-abbrev pub AnswersKnown : Held → Held → Option (List ℕ) → Option (List ℕ) → Result Next Failed → Type 0
+abbrev pub AnswersKnown : BlocksView → BlocksView → Option (List ℕ) → Option (List ℕ) → Result Next Failed → Type 0
 AnswersKnown old new left₀ left result =
     IfSome left₀ (λ bytes. (rest : List ℕ) × (left ≡ Some rest)
     × AnswersLine (unanswered old ++ bytes) (unanswered new ++ rest) result)

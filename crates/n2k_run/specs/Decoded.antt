@@ -49,16 +49,16 @@ reports t o log = reports_of t o (entries o.packing log)
 
 -- the numbers of the lines that come after these
 abbrev pub numbers_after : List Entry → List Entry → List ℕ
-numbers_after front es = range_with_len (length front + 1) (length es)
+numbers_after prefix es = range_with_len (length prefix + 1) (length es)
 
--- The output of a run over the entries of its log, after the entries `front`: for each line, the output that the whole
+-- The output of a run over the entries of its log, after the entries `prefix`: for each line, the output that the whole
 -- log gives.
 abbrev pub output_after : TableParts → Options → List Entry → Output
-output_after t o front = record {
+output_after t o prefix = record {
   packing = o.packing;
-  counted = length front;
-  texts = λ es. flat_map (text_of_line t o (front ++ es)) (numbers_after front es);
-  reports = λ es. flat_map (report_at t o (front ++ es)) (numbers_after front es);
+  counted = length prefix;
+  texts = λ es. flat_map (text_of_line t o (prefix ++ es)) (numbers_after prefix es);
+  reports = λ es. flat_map (report_at t o (prefix ++ es)) (numbers_after prefix es);
 }
 
 -- a run's output, entry by entry, from any state of a join

@@ -18,12 +18,12 @@ is_line_feed byte = byte == line_feed
 abbrev pub without_last_empty : List (List ℕ) → List (List ℕ)
 without_last_empty [] = []
 without_last_empty ([] ∷ []) = []
-without_last_empty (piece ∷ pieces) = piece ∷ without_last_empty pieces
+without_last_empty (chunk ∷ chunks) = chunk ∷ without_last_empty chunks
 
 -- the piece, without one carriage return at its end
 abbrev pub without_return : List ℕ → List ℕ
-without_return piece =
-    if slice_index piece (length piece - 1) == carriage_return then take (length piece - 1) piece else piece
+without_return chunk =
+    if slice_index chunk (length chunk - 1) == carriage_return then take (length chunk - 1) chunk else chunk
 
 -- the pieces between line feeds, a last empty one left out, each without one carriage return at its end
 abbrev pub lines : List ℕ → List (List ℕ)

@@ -27,7 +27,7 @@ use Rattle.n2k_run.specs.Fold.{after_all}
 use Rattle.n2k_run.specs.Headline.{save, state_after}
 use Rattle.n2k_run.specs.Reading.{most_reads}
 use Rattle.n2k_run.specs.Runs.{Devices, Output, Runs, output_from}
-use Rattle.n2k_run.specs.Writing.{AppendsFront}
+use Rattle.n2k_run.specs.Writing.{AppendsPrefix}
 
 -- ---- the beginning of a part
 
@@ -105,58 +105,58 @@ OnRefusal _ P = Unit {0}
 -- ---- the headline
 
 -- A log was cut after this prefix: it is empty or ends with a line, and the given state is the state after it.
-pub record IsFront (t : TableParts) (o : Options) (front : List ℕ) (handed : Option (List ℕ)) : Type 0 where
-  pub whole_lines : IsEmptyOrEndsWith front line_feed
-  pub leads_to : begun t o handed ≡ Ok (state_after t o front)
+pub record IsPrefix (t : TableParts) (o : Options) (prefix : List ℕ) (handed : Option (List ℕ)) : Type 0 where
+  pub whole_lines : IsEmptyOrEndsWith prefix line_feed
+  pub leads_to : begun t o handed ≡ Ok (state_after t o prefix)
 
 -- The prefix and `more` are both printed: the sinks gained exactly the output and the reports of both after those of
 -- the prefix, and the Part has the saved state and the counts after both.
-pub record GoesOn (t : TableParts) (o : Options) (front more : List ℕ) (before after : Devices)
+pub record GoesOn (t : TableParts) (o : Options) (prefix more : List ℕ) (before after : Devices)
     (part : Part) : Type 0 where
   pub text : List ℕ
   pub printed : Appends before.written after.written text
-  pub output : out t o (front ++ more) ≡ out t o front ++ text
+  pub output : out t o (prefix ++ more) ≡ out t o prefix ++ text
   pub report : List ℕ
   pub reported : Appends before.reported after.reported report
-  pub all_reports : reports t o (front ++ more) ≡ reports t o front ++ report
-  pub saved : part.state.items ≡ save t o (front ++ more)
-  pub counted : part.counts ≡ counts o.window (kind t) (entries o.packing (front ++ more))
+  pub all_reports : reports t o (prefix ++ more) ≡ reports t o prefix ++ report
+  pub saved : part.state.items ≡ save t o (prefix ++ more)
+  pub counted : part.counts ≡ counts o.window (kind t) (entries o.packing (prefix ++ more))
   -- if both are empty or end with a line, the log can be cut here too
-  pub reads_back : begun t o (Some part.state.items) ≡ Ok (state_after t o (front ++ more))
+  pub reads_back : begun t o (Some part.state.items) ≡ Ok (state_after t o (prefix ++ more))
 
--- the sinks gained prefixes of the output and the reports of both after those of `front`
-pub record GoesOnPartly (t : TableParts) (o : Options) (front more : List ℕ) (before after : Devices) : Type 0 where
+-- the sinks gained prefixes of the output and the reports of both after those of `prefix`
+pub record GoesOnPartly (t : TableParts) (o : Options) (prefix more : List ℕ) (before after : Devices) : Type 0 where
   pub text : List ℕ
-  pub printed : AppendsFront before.written after.written text
-  pub output : out t o (front ++ more) ≡ out t o front ++ text
+  pub printed : AppendsPrefix before.written after.written text
+  pub output : out t o (prefix ++ more) ≡ out t o prefix ++ text
   pub report : List ℕ
-  pub reported : AppendsFront before.reported after.reported report
-  pub all_reports : reports t o (front ++ more) ≡ reports t o front ++ report
+  pub reported : AppendsPrefix before.reported after.reported report
+  pub all_reports : reports t o (prefix ++ more) ≡ reports t o prefix ++ report
 
 -- After TooManyLines: the lines of the prefix and the taken lines of the log are together the most lines, the log has
 -- more, and the output is whole up to the last of them.
-pub record GoesOnToLimit (t : TableParts) (o : Options) (front log : List ℕ) (before after : Devices)
+pub record GoesOnToLimit (t : TableParts) (o : Options) (prefix log : List ℕ) (before after : Devices)
     (part : Part) : Type 0 where
   pub taken : List ℕ
   pub rest : List ℕ
   pub log_is : log ≡ taken ++ rest
   pub more : 0 < length rest
   pub whole_lines : IsEmptyOrEndsWith taken line_feed
-  pub full : length (entries o.packing (front ++ taken)) ≡ most_lines
-  pub goes_on : GoesOn t o front taken before after part
+  pub full : length (entries o.packing (prefix ++ taken)) ≡ most_lines
+  pub goes_on : GoesOn t o prefix taken before after part
 
 -- The result of a part after this prefix of a log. After Ok everything is printed; after Read the output is whole up to
 -- the last line that came, and after TooManyLines up to the last number.
 abbrev pub Continues : TableParts → Options → List ℕ → Devices → Devices → Result Part PartFault → Type 0
-Continues t o front before after (Ok part) =
-    IsAtEnd after.left × IfSome before.left (λ log. GoesOn t o front log before after part)
-Continues t o front before after (Err (Stopped run_faults.Read part)) =
-    (came : List ℕ) × Consumes before.left after.left came × GoesOn t o front (whole_lines came) before after part
-Continues t o front before after (Err (Stopped run_faults.TooManyLines part)) =
-    IfSome before.left (λ log. GoesOnToLimit t o front log before after part)
-Continues t o front before after (Err (Stopped _ part)) = ⊥
-Continues t o front before after (Err (Refused fault)) = fault ≡ state_faults.Memory
-Continues t o front before after _ = IfSome before.left (λ log. GoesOnPartly t o front log before after)
+Continues t o prefix before after (Ok part) =
+    IsAtEnd after.left × IfSome before.left (λ log. GoesOn t o prefix log before after part)
+Continues t o prefix before after (Err (Stopped run_faults.Read part)) =
+    (came : List ℕ) × Consumes before.left after.left came × GoesOn t o prefix (whole_lines came) before after part
+Continues t o prefix before after (Err (Stopped run_faults.TooManyLines part)) =
+    IfSome before.left (λ log. GoesOnToLimit t o prefix log before after part)
+Continues t o prefix before after (Err (Stopped _ part)) = ⊥
+Continues t o prefix before after (Err (Refused fault)) = fault ≡ state_faults.Memory
+Continues t o prefix before after _ = IfSome before.left (λ log. GoesOnPartly t o prefix log before after)
 
 -- ---- the promise of a part's run
 
@@ -174,12 +174,12 @@ pub record RunsFrom (t : TableParts) (o : Options) (handed : Option (List ℕ)) 
       → TellsRun (output_from (join_fold t o.empty) o.packing s)
       (λ es. HasPart t o result (after_all (join_fold t o.empty) s es)) before after result
   -- From the state that these entries lead to: the output that the whole log gives for the lines after them.
-  pub log : (front : List Entry) → begun t o handed ≡ Ok (state t.id o.window (kind t) front)
-      → TellsRun (output_after t o front) (λ es. HasPart t o result (state t.id o.window (kind t) (front ++ es)))
+  pub log : (prefix : List Entry) → begun t o handed ≡ Ok (state t.id o.window (kind t) prefix)
+      → TellsRun (output_after t o prefix) (λ es. HasPart t o result (state t.id o.window (kind t) (prefix ++ es)))
       before after result
   -- The headline: after this prefix of a log, whose saved state was given, exactly the rest of the whole log's output
   -- is printed, and its state is saved.
-  pub headline : (front : List ℕ) → IsFront t o front handed → Continues t o front before after result
+  pub headline : (prefix : List ℕ) → IsPrefix t o prefix handed → Continues t o prefix before after result
 
 -- ---- parts in memory
 
@@ -206,11 +206,11 @@ pub record TakesAll (t : TableParts) (o : Options) (parts : List (List ℕ)) (be
 
 -- The run of a part in memory, after these entries: no call of its source failed. If the state can't be read because
 -- memory was refused, nothing of the part was written.
-pub record RunsPart (t : TableParts) (o : Options) (front : List Entry) (met : List ℕ) (before after : Devices)
+pub record RunsPart (t : TableParts) (o : Options) (prefix : List Entry) (met : List ℕ) (before after : Devices)
     (result : Result Part PartFault) : Type 0 where
   pub left : Option (List ℕ)
   pub calls : ℕ
-  pub run : TellsRun (output_after t o front) (λ es. HasPart t o result (state t.id o.window (kind t) (front ++ es)))
+  pub run : TellsRun (output_after t o prefix) (λ es. HasPart t o result (state t.id o.window (kind t) (prefix ++ es)))
       (with_source before (Some met) 0 0) (with_source after left calls 0) result
   pub untouched : OnRefusal result (after ≡ before)
 

@@ -14,7 +14,7 @@ use Rattle.n2k_run.specs.Entries.{entries}
 use Rattle.n2k_run.specs.Lines.{whole_lines}
 use Rattle.n2k_run.specs.Fold.{Fold, texts_from, reports_from}
 use Rattle.n2k_run.specs.Reading.{OutlastsReads, ReadsBytes}
-use Rattle.n2k_run.specs.Writing.{AppendsFront}
+use Rattle.n2k_run.specs.Writing.{AppendsPrefix}
 
 -- the output of a run for the entries of its log
 pub record Output : Type 0 where
@@ -119,9 +119,9 @@ RunEnds o also before after (Err Report) = Unit {0}
 RunEnds o also before after (Err Memory) = Unit {0}
 
 -- the sinks gained a prefix of the texts and a prefix of the reports of the whole log
-pub record HasFronts (o : Output) (before after : Devices) (log : List ℕ) : Type 0 where
-  pub printed : AppendsFront before.written after.written (o.texts (entries o.packing log))
-  pub reported : AppendsFront before.reported after.reported (o.reports (entries o.packing log))
+pub record HasPrefixes (o : Output) (before after : Devices) (log : List ℕ) : Type 0 where
+  pub printed : AppendsPrefix before.written after.written (o.texts (entries o.packing log))
+  pub reported : AppendsPrefix before.reported after.reported (o.reports (entries o.packing log))
 
 -- Reports go before texts: the reports of the lines up to some line are all written, and the written texts are a prefix
 -- of the texts of the same lines. So no text is written if the report of its own line or of an earlier one is missing.
@@ -129,7 +129,7 @@ pub record ReportsFirst (o : Output) (before after : Devices) (log : List ℕ) :
   pub taken : List Entry
   pub left : List Entry
   pub lines_taken : entries o.packing log ≡ taken ++ left
-  pub printed : AppendsFront before.written after.written (o.texts taken)
+  pub printed : AppendsPrefix before.written after.written (o.texts taken)
   pub reported : (more : List ℕ) × Appends before.reported after.reported (o.reports taken ++ more)
 
 -- no call of a device failed
@@ -169,7 +169,7 @@ IsOfDevice before after _ = NoneFailed before after
 pub record Runs {T : Type 0} (o : Output) (also : List Entry → Type 0) (before after : Devices)
     (result : Result T RunFault) : Type 0 where
   pub ends : RunEnds o also before after result
-  pub fronts : OnErr result (IfSome before.left (λ log. HasFronts o before after log))
+  pub prefixes : OnErr result (IfSome before.left (λ log. HasPrefixes o before after log))
   pub reports_first : IfSome before.left (λ log. ReportsFirst o before after log)
   pub device : IsOfDevice before after result
   -- at most one more call was made of the source than bytes came of it

@@ -4,10 +4,10 @@ use Rattle.std.specs.Io.KnownBytes.{Appends}
 
 -- some prefix of the text was appended to the sink's content, and this is still to come
 pub record Owes (old new : Option (List ℕ)) (text rest : List ℕ) : Type 0 where
-  pub front : List ℕ
-  pub appended : Appends old new front
-  pub still : text ≡ front ++ rest
+  pub prefix : List ℕ
+  pub appended : Appends old new prefix
+  pub still : text ≡ prefix ++ rest
 
 -- a prefix of the text was appended to the sink's content
-abbrev pub AppendsFront : Option (List ℕ) → Option (List ℕ) → List ℕ → Type 0
-AppendsFront old new text = (rest : List ℕ) × Owes old new text rest
+abbrev pub AppendsPrefix : Option (List ℕ) → Option (List ℕ) → List ℕ → Type 0
+AppendsPrefix old new text = (rest : List ℕ) × Owes old new text rest

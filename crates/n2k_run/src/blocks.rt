@@ -49,9 +49,9 @@ pub struct Blocks {
 }
 
 impl Model for Blocks {
-    ghost use Rattle.n2k_run.specs.Blocks.{Held};
+    ghost use Rattle.n2k_run.specs.Blocks.{BlocksView};
 
-    ghost Value = { Held };
+    ghost Value = { BlocksView };
 
     ghost use Rattle.n2k_run.specs.Inner.Block.{HasPlaces, block_view};
 
@@ -61,12 +61,12 @@ impl Model for Blocks {
 }
 
 /// The piece, without one carriage return at its end.
-fn without_return(piece: &[u8]) -> &[u8]
-    ensures { result.now ≡ without_return piece.now }
+fn without_return(chunk: &[u8]) -> &[u8]
+    ensures { result.now ≡ without_return chunk.now }
 {
-    match piece {
+    match chunk {
         [line @ .., RETURN] => line,
-        _ => piece,
+        _ => chunk,
     }
 }
 

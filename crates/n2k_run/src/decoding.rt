@@ -14,7 +14,7 @@ ghost use Rattle.n2k_run.specs.Runs.{Runs, output_from, seen};
 use crate::device::{Sink, Source};
 use crate::engine::{EntryHandler, RunRoom, run_entries};
 use crate::fault::RunFault;
-use crate::options::{Options, know_window};
+use crate::options::{Options, lemma_window_valid};
 use crate::texts::{bad_text, broken_text};
 use n2k_join::{Broken, Join, TableMessage, laws, message_of};
 use n2k_table::{LineBuffer, Table, json_line_of};
@@ -112,7 +112,7 @@ impl<'a> EntryHandler for JsonLines<'a> {
         report: &mut Vec<u8>,
     ) -> Result<(), RunFault> {
         break_overdue(alloc, join, report)?;
-        let step = join.lend(self.table, entry)?;
+        let step = join.accept_in_place(self.table, entry)?;
         push_broken(alloc, step.line, step.broken, report)?;
         push_cause(alloc, step.line, step.bad, report)?;
         let message = message_of(step.message, entry);
@@ -157,13 +157,13 @@ pub fn run<R: Source, W: Sink, E: Sink>(
         Runs (output_from fold options.packing join.old)
         (λ es. join.new ≡ after_all fold join.old es) before after result }
 
-    // If the join has taken the entries `front` with this table: the output that the whole log gives for the lines
+    // If the join has taken the entries `prefix` with this table: the output that the whole log gives for the lines
     // after them.
-    ensures log { (front : List Entry) → join.old ≡ state table.now.id options.window (kind table.now) front →
+    ensures log { (prefix : List Entry) → join.old ≡ state table.now.id options.window (kind table.now) prefix →
         let before = seen R.Source W.Sink E.Sink reader.old writer.old reporter.old in
         let after = seen R.Source W.Sink E.Sink reader.new writer.new reporter.new in
-        Runs (output_after table.now options front)
-        (λ es. join.new ≡ state table.now.id options.window (kind table.now) (front ++ es)) before after result }
+        Runs (output_after table.now options prefix)
+        (λ es. join.new ≡ state table.now.id options.window (kind table.now) (prefix ++ es)) before after result }
 {
     run_in(
         alloc,
@@ -195,15 +195,15 @@ pub(crate) fn run_in<R: Source, W: Sink, E: Sink>(
         let fold = join_fold table.now options.empty in
         Runs (output_from fold options.packing join.old)
         (λ es. join.new ≡ after_all fold join.old es) before after result }
-    ensures log { (front : List Entry) → join.old ≡ state table.now.id options.window (kind table.now) front →
+    ensures log { (prefix : List Entry) → join.old ≡ state table.now.id options.window (kind table.now) prefix →
         let before = seen R.Source W.Sink E.Sink reader.old writer.old reporter.old in
         let after = seen R.Source W.Sink E.Sink reader.new writer.new reporter.new in
-        Runs (output_after table.now options front)
-        (λ es. join.new ≡ state table.now.id options.window (kind table.now) (front ++ es)) before after result }
+        Runs (output_after table.now options prefix)
+        (λ es. join.new ≡ state table.now.id options.window (kind table.now) (prefix ++ es)) before after result }
 {
     laws::steps_agree();
     laws::lines_stay();
-    know_window(&options);
+    lemma_window_valid(&options);
     let Options { packing, empty, .. } = options;
     let handler = JsonLines { table, empty };
     run_entries(

@@ -54,7 +54,7 @@ pub trait Sink {
     /// The bytes that the sink contains, if known.
     ghost contents: { Self → Option (List ℕ) };
 
-    /// Takes bytes from the start of `piece`, and returns their number: 1 or more, unless the piece is empty. `Failed`
+    /// Takes bytes from the start of `chunk`, and returns their number: 1 or more, unless the piece is empty. `Failed`
     /// if the device failed, and then it took none.
     ///
     /// ```rust
@@ -64,10 +64,10 @@ pub trait Sink {
     /// assert_eq!(rt; sink.write(b"de"), Ok(2));
     /// assert_eq!(rt; sink.bytes(), b"abcde".as_slice());
     /// ```
-    fn write(&mut self, piece: &[u8]) -> Result<usize, Failed>
-        ensures bound { IfOk result (λ n. n ≤ length piece.now) }
-        ensures moves { IfOk result (λ n. 0 < length piece.now → 0 < n) }
-        ensures bytes { WriteAppends (contents self.old) (contents self.new) result piece.now }
+    fn write(&mut self, chunk: &[u8]) -> Result<usize, Failed>
+        ensures bound { IfOk result (λ n. n ≤ length chunk.now) }
+        ensures moves { IfOk result (λ n. 0 < length chunk.now → 0 < n) }
+        ensures bytes { WriteAppends (contents self.old) (contents self.new) result chunk.now }
         ensures counted { CountsFailure (failed_calls self.old) (failed_calls self.new) result }
         ensures kept { IsOk result → why self.new ≡ why self.old };
 }

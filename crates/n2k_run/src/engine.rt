@@ -94,8 +94,8 @@ impl Pending {
     {
         write_all(reporter, &self.report).map_err(|_| RunFault::Report)?;
         self.report.clear();
-        let (front, rest) = self.text.parts();
-        write_parts(writer, front, rest).map_err(|_| RunFault::Write)?;
+        let (prefix, rest) = self.text.parts();
+        write_parts(writer, prefix, rest).map_err(|_| RunFault::Write)?;
         self.text.clear();
         Ok(())
     }

@@ -61,10 +61,10 @@ pub fn printed_in_order()
 
 /// The state saved after a prefix of a log reads back under the same table: the next part begins with the state that
 /// the prefix leads to, for every prefix within the line limit.
-pub fn saved_front_reads_back()
-    ensures { (t : TableParts) (o : Options) (front : List ℕ) → IsWindow o.window.lines → IsId t.id
-        → length (entries o.packing front) ≤ most_lines
-        → begun t o (Some (save t o front)) ≡ Ok (state_after t o front) }
+pub fn saved_prefix_reads_back()
+    ensures { (t : TableParts) (o : Options) (prefix : List ℕ) → IsWindow o.window.lines → IsId t.id
+        → length (entries o.packing prefix) ≤ most_lines
+        → begun t o (Some (save t o prefix)) ≡ Ok (state_after t o prefix) }
 {
     n2k_wire::laws::entries_are_entries();
     n2k_join::laws::saved_log_reads_back();

@@ -195,22 +195,22 @@ impl Sink for MemorySink {
 
     ghost contents = { λ s. Some s.held };
 
-    fn write(&mut self, piece: &[u8]) -> Result<usize, Failed>
-        ensures bound { IfOk result (λ n. n ≤ length piece.now) }
-        ensures moves { IfOk result (λ n. 0 < length piece.now → 0 < n) }
-        ensures bytes { WriteAppends (Some self.old.held) (Some self.new.held) result piece.now }
+    fn write(&mut self, chunk: &[u8]) -> Result<usize, Failed>
+        ensures bound { IfOk result (λ n. n ≤ length chunk.now) }
+        ensures moves { IfOk result (λ n. 0 < length chunk.now → 0 < n) }
+        ensures bytes { WriteAppends (Some self.old.held) (Some self.new.held) result chunk.now }
         ensures counted { CountsFailure self.old.failed_calls self.new.failed_calls result }
 
         // A write also fails if memory is refused.
         ensures fails { self.old.fails_at ≡ 1 → IsErr result }
-        ensures count { IfOk result (λ n. n ≡ min self.old.chunk (length piece.now)) }
-        ensures device { IfOk result (λ n. self.new ≡ after_write self.old (take n piece.now)) }
+        ensures count { IfOk result (λ n. n ≡ min self.old.chunk (length chunk.now)) }
+        ensures device { IfOk result (λ n. self.new ≡ after_write self.old (take n chunk.now)) }
         ensures failed_device { OnErr result (self.new ≡ after_failed_write self.old) }
     {
         let fails = self.fails_at == 1;
         self.fails_at = self.fails_at.saturating_sub(1);
-        let count = self.chunk.min(piece.len());
-        if fails || self.held.extend_from_slice(&piece[..count]).is_err() {
+        let count = self.chunk.min(chunk.len());
+        if fails || self.held.extend_from_slice(&chunk[..count]).is_err() {
             self.failed_calls = self.failed_calls.saturating_add(1);
             return Err(Failed);
         }

@@ -10,7 +10,7 @@ use crate::decoding::run_in;
 use crate::device::Sink;
 use crate::engine::RunRoom;
 use crate::fault::RunFault;
-use crate::options::{Options, know_window};
+use crate::options::{Options, lemma_window_valid};
 use crate::part_source::PartSource;
 use n2k_join::{Join, laws};
 use n2k_table::Table;
@@ -48,15 +48,15 @@ pub fn run_more<W: Sink, E: Sink>(
     reporter: &mut E,
 ) -> Result<(), RunFault>
     requires window { join.old.window ≡ options.window }
-    ensures headline { (front : List ℕ) → IsEmptyOrEndsWith front line_feed →
-        join.old ≡ state_after table.now options front →
+    ensures headline { (prefix : List ℕ) → IsEmptyOrEndsWith prefix line_feed →
+        join.old ≡ state_after table.now options prefix →
         let before = sinks_seen W.Sink E.Sink writer.old reporter.old in
         let after = sinks_seen W.Sink E.Sink writer.new reporter.new in
-        EndsMore table.now options front more.now before after join.new result }
+        EndsMore table.now options prefix more.now before after join.new result }
 {
     laws::steps_agree();
     laws::lines_stay();
-    know_window(&options);
+    lemma_window_valid(&options);
     let mut reader = PartSource::new(more);
     run_in(
         alloc,

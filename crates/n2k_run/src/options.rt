@@ -16,7 +16,7 @@ pub struct Options {
 }
 
 /// The type guarantees a valid window.
-pub(crate) fn know_window(options: &Options)
+pub(crate) fn lemma_window_valid(options: &Options)
     ensures { IsWindow options.now.window.lines }
 {
     let _lines = options.window.get();

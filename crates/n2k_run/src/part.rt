@@ -16,7 +16,7 @@ use crate::decoding::run;
 use crate::device::{Sink, Source};
 use crate::fault::RunFault;
 use crate::laws::printed_in_order;
-use crate::options::{Options, know_window};
+use crate::options::{Options, lemma_window_valid};
 use crate::part_source::PartSource;
 use n2k_join::{Counts, Join, StateFault, laws};
 use n2k_table::Table;
@@ -92,7 +92,7 @@ fn begin(
 }
 
 /// The type guarantees a valid id of a table.
-fn know_id(table: &Table)
+fn lemma_id_valid(table: &Table)
     ensures { IsId table.now.id }
 {
     let _id = table.id();
@@ -163,8 +163,8 @@ pub fn run_part<R: Source, W: Sink, E: Sink>(
     laws::steps_agree();
     laws::lines_stay();
     laws::groups_stay_fast();
-    know_id(table);
-    know_window(&options);
+    lemma_id_valid(table);
+    lemma_window_valid(&options);
     let mut join = begin(alloc, table, &options, saved)?;
     let ran = run(alloc, table, &mut join, options, reader, writer, reporter);
     finish(alloc, &join, ran)
@@ -175,8 +175,8 @@ fn empty_part(alloc: Global, table: &Table, options: &Options) -> Result<Part, A
     ensures { IfOk result (IsPartOf table.now options.now (state table.now.id options.now.window (kind table.now) [])) }
 {
     laws::groups_stay_fast();
-    know_id(table);
-    know_window(options);
+    lemma_id_valid(table);
+    lemma_window_valid(options);
     part_of(alloc, &Join::new(alloc, table, options.window))
 }
 
@@ -192,11 +192,11 @@ fn next_part<W: Sink, E: Sink>(
 ) -> Result<Part, PartFault>
     ensures fault_kinds { IsOfKind result }
     ensures memory_only { (s : State) → IsPartOf table.now options.now s last.now → RefusedByMemory result }
-    ensures log { (front : List Entry) → IsPartOf table.now options.now
-        (state table.now.id options.now.window (kind table.now) front) last.now →
+    ensures log { (prefix : List Entry) → IsPartOf table.now options.now
+        (state table.now.id options.now.window (kind table.now) prefix) last.now →
         let before = sinks_seen W.Sink E.Sink writer.old reporter.old in
         let after = sinks_seen W.Sink E.Sink writer.new reporter.new in
-        RunsPart table.now options.now front part.now before after result }
+        RunsPart table.now options.now prefix part.now before after result }
 {
     let mut reader = PartSource::new(part);
     let state = Some(last.state.as_slice());
@@ -254,7 +254,7 @@ pub fn run_parts<W: Sink, E: Sink>(
     laws::steps_agree();
     laws::lines_stay();
     printed_in_order();
-    know_window(&options);
+    lemma_window_valid(&options);
     let mut last = empty_part(alloc, table, &options)?;
     for part in parts {
         last = next_part(alloc, table, &last, &options, part, writer, reporter)?;

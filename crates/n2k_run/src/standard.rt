@@ -26,14 +26,14 @@ fn read_retrying<R: Read>(reader: &mut R, buffer: &mut [u8]) -> io::Result<usize
 }
 
 /// One write, repeated if a signal interrupts it. A writer that accepts none of some bytes has failed.
-fn write_retrying<W: Write>(writer: &mut W, piece: &[u8]) -> io::Result<usize>
-    ensures bound { IfOk result (λ n. n ≤ length piece.now) }
-    ensures moves { IfOk result (λ n. 0 < length piece.now → 0 < n) }
-    ensures bytes { WriteAppends (W.contents writer.old) (W.contents writer.new) result piece.now }
+fn write_retrying<W: Write>(writer: &mut W, chunk: &[u8]) -> io::Result<usize>
+    ensures bound { IfOk result (λ n. n ≤ length chunk.now) }
+    ensures moves { IfOk result (λ n. 0 < length chunk.now → 0 < n) }
+    ensures bytes { WriteAppends (W.contents writer.old) (W.contents writer.new) result chunk.now }
 {
     for _ in 0..MOST_TRIES {
-        match writer.write(piece) {
-            Ok(0) if !piece.is_empty() => return Err(Error::from(ErrorKind::WriteZero)),
+        match writer.write(chunk) {
+            Ok(0) if !chunk.is_empty() => return Err(Error::from(ErrorKind::WriteZero)),
             Err(error) if error.kind() == ErrorKind::Interrupted => {}
             answer => return answer,
         }
@@ -174,8 +174,8 @@ impl<W: Write> Sink for StdSink<W> {
 
     ghost contents = { λ s. W.contents s.writer };
 
-    fn write(&mut self, piece: &[u8]) -> Result<usize, Failed> {
-        let answer = write_retrying(&mut self.writer, piece);
+    fn write(&mut self, chunk: &[u8]) -> Result<usize, Failed> {
+        let answer = write_retrying(&mut self.writer, chunk);
         note(answer, &mut self.failed_writes)
     }
 }

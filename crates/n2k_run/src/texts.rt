@@ -4,7 +4,7 @@ ghost use Rattle.std.specs.Io.KnownBytes.{Appends};
 ghost use Rattle.arrayvec.specs.ArrayVec.{array_vec_len};
 ghost use Rattle.n2k_run.specs.Device.{CountsFailure};
 ghost use Rattle.n2k_run.specs.Reports.{bad_text, broken_text, cause_text, summary_text};
-ghost use Rattle.n2k_run.specs.Writing.{AppendsFront};
+ghost use Rattle.n2k_run.specs.Writing.{AppendsPrefix};
 
 use crate::device::{Failed, Sink};
 use crate::writing::write_all;
@@ -167,7 +167,7 @@ pub fn summary_text(_alloc: Global, counts: &Counts, out: &mut Vec<u8>) -> Resul
 /// ```
 pub fn write_summary<E: Sink>(counts: &Counts, errors: &mut E) -> Result<(), Failed>
     ensures written { OnOk result (Appends (E.contents errors.old) (E.contents errors.new) (summary_text counts.now)) }
-    ensures front { OnErr result (AppendsFront (E.contents errors.old) (E.contents errors.new)
+    ensures prefix { OnErr result (AppendsPrefix (E.contents errors.old) (E.contents errors.new)
         (summary_text counts.now)) }
     ensures counted { CountsFailure (E.failed_calls errors.old) (E.failed_calls errors.new) result }
 {

@@ -2,7 +2,7 @@
 ghost use Rattle.std.specs.Prelude.{◌<◌, ◌++◌, length, OnOk, OnErr};
 ghost use Rattle.std.specs.Io.KnownBytes.{Appends};
 ghost use Rattle.n2k_run.specs.Device.{CountsFailure};
-ghost use Rattle.n2k_run.specs.Writing.{AppendsFront};
+ghost use Rattle.n2k_run.specs.Writing.{AppendsPrefix};
 
 use crate::device::{Failed, Sink};
 
@@ -16,7 +16,7 @@ use crate::device::{Failed, Sink};
 /// ```
 pub fn write_all<W: Sink>(writer: &mut W, text: &[u8]) -> Result<(), Failed>
     ensures written { OnOk result (Appends (W.contents writer.old) (W.contents writer.new) text.now) }
-    ensures front { OnErr result (AppendsFront (W.contents writer.old) (W.contents writer.new) text.now) }
+    ensures prefix { OnErr result (AppendsPrefix (W.contents writer.old) (W.contents writer.new) text.now) }
     ensures some { OnErr result (0 < length text.now) }
     ensures counted { CountsFailure (W.failed_calls writer.old) (W.failed_calls writer.new) result }
 {
@@ -30,13 +30,13 @@ pub fn write_all<W: Sink>(writer: &mut W, text: &[u8]) -> Result<(), Failed>
 
 /// Writes a text of two parts, as `write_all` does. The lines of a block with over 32,768 bytes are such a text: the
 /// first part may end inside a line.
-#[tactic(auto, using(crate::proofs::Owed::both_parts, crate::proofs::Owed::front_of_first, crate::proofs::Owed::first_and_front, crate::proofs::Owed::some_first, crate::proofs::Owed::some_rest))]
-pub(crate) fn write_parts<W: Sink>(writer: &mut W, front: &[u8], rest: &[u8]) -> Result<(), Failed>
-    ensures written { OnOk result (Appends (W.contents writer.old) (W.contents writer.new) (front.now ++ rest.now)) }
-    ensures front { OnErr result (AppendsFront (W.contents writer.old) (W.contents writer.new) (front.now ++ rest.now)) }
-    ensures some { OnErr result (0 < length (front.now ++ rest.now)) }
+#[tactic(auto, using(crate::proofs::Owed::both_parts, crate::proofs::Owed::prefix_of_first, crate::proofs::Owed::first_and_prefix, crate::proofs::Owed::some_first, crate::proofs::Owed::some_rest))]
+pub(crate) fn write_parts<W: Sink>(writer: &mut W, prefix: &[u8], rest: &[u8]) -> Result<(), Failed>
+    ensures written { OnOk result (Appends (W.contents writer.old) (W.contents writer.new) (prefix.now ++ rest.now)) }
+    ensures prefix { OnErr result (AppendsPrefix (W.contents writer.old) (W.contents writer.new) (prefix.now ++ rest.now)) }
+    ensures some { OnErr result (0 < length (prefix.now ++ rest.now)) }
     ensures counted { CountsFailure (W.failed_calls writer.old) (W.failed_calls writer.new) result }
 {
-    write_all(writer, front)?;
+    write_all(writer, prefix)?;
     write_all(writer, rest)
 }

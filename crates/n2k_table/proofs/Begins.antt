@@ -3,7 +3,7 @@ use Rattle.std.proofs.Common.{◌≡◌, Result, Ok, Err, OnOk, OnErr, ℕ, Bool
 use Rattle.n2k_table.specs.Inner.LineBuffer.{begins, AddsText}
 
 -- a text that begins with two parts begins with the first
-pub begins_append : (front bytes text : List ℕ) → begins (front ++ bytes) text ≡ (begins front text && begins bytes (drop (length front) text))
+pub begins_append : (prefix bytes text : List ℕ) → begins (prefix ++ bytes) text ≡ (begins prefix text && begins bytes (drop (length prefix) text))
 unfolding begins
 begins_append [] bytes text = refl
 begins_append (x ∷ xs) bytes [] = refl
@@ -14,26 +14,26 @@ unfolding begins
 begins_self [] = refl
 begins_self (x ∷ xs) = grind (arith, begins_self xs)
 
-pub begins_longer : (front text bytes : List ℕ) → begins front text ≡ true → begins front (text ++ bytes) ≡ true
+pub begins_longer : (prefix text bytes : List ℕ) → begins prefix text ≡ true → begins prefix (text ++ bytes) ≡ true
 unfolding begins
 begins_longer [] text bytes is = refl
 begins_longer (x ∷ xs) [] bytes is = grind arith
 begins_longer (x ∷ xs) (y ∷ ys) bytes is = grind (arith, begins_longer xs ys bytes)
 
 -- what was there before is the front of the text
-pub begins_taken : (front text : List ℕ) → begins front text ≡ true → take (length front) text ≡ front
+pub begins_taken : (prefix text : List ℕ) → begins prefix text ≡ true → take (length prefix) text ≡ prefix
 unfolding begins
 begins_taken [] text is = refl
 begins_taken (x ∷ xs) [] is = grind arith
 begins_taken (x ∷ xs) (y ∷ ys) is = grind (arith, begins_taken xs ys)
 
-pub begins_length : (front text : List ℕ) → begins front text ≡ true → length front ≤ length text
+pub begins_length : (prefix text : List ℕ) → begins prefix text ≡ true → length prefix ≤ length text
 unfolding begins
 begins_length [] text is = omega arith
 begins_length (x ∷ xs) [] is = grind arith
 begins_length (x ∷ xs) (y ∷ ys) is = grind (arith, begins_length xs ys)
 
-pub begins_through : (front mid text : List ℕ) → begins front mid ≡ true → begins mid text ≡ true → begins front text ≡ true
+pub begins_through : (prefix mid text : List ℕ) → begins prefix mid ≡ true → begins mid text ≡ true → begins prefix text ≡ true
 unfolding begins
 begins_through [] mid text is then = refl
 begins_through (x ∷ xs) [] text is then = grind arith
@@ -70,9 +70,9 @@ refused_begins (Ok done) old mid new before kept = tt
 refused_begins (Err refused) old mid new before kept = begins_through old mid new before kept
 
 -- bytes that go to the front, when the room has none
-pub adds_to_front : {T E : Type 0} (r : Result T E) (old front more room bytes : List ℕ) (at : ℕ) → at ≡ 0 → front ++ take at room ≡ old
-    → OnOk r (more ≡ front ++ bytes) → OnErr r (more ≡ front) → AddsText r old (more ++ take at room) bytes
-adds_to_front (Ok done) old front more room bytes at none is added kept = rw (none, added) (append-nil (front ++ bytes) ∙ ap (λ (t : List ℕ). t ++ bytes) (sym (append-nil front) ∙ ap (λ k. front ++ take k room) (sym none) ∙ is))
-adds_to_front (Err refused) old front more room bytes at none is added kept = rw (kept, is) (begins_self old)
+pub adds_to_prefix : {T E : Type 0} (r : Result T E) (old prefix more room bytes : List ℕ) (at : ℕ) → at ≡ 0 → prefix ++ take at room ≡ old
+    → OnOk r (more ≡ prefix ++ bytes) → OnErr r (more ≡ prefix) → AddsText r old (more ++ take at room) bytes
+adds_to_prefix (Ok done) old prefix more room bytes at none is added kept = rw (none, added) (append-nil (prefix ++ bytes) ∙ ap (λ (t : List ℕ). t ++ bytes) (sym (append-nil prefix) ∙ ap (λ k. prefix ++ take k room) (sym none) ∙ is))
+adds_to_prefix (Err refused) old prefix more room bytes at none is added kept = rw (kept, is) (begins_self old)
 
 pub ruleset begins_steps = (begins_append, begins_self, begins_longer)

@@ -13,7 +13,7 @@ use Rattle.n2k_table.specs.Definition.{DefinitionParts}
 use Rattle.n2k_table.specs.Repeat.{RepeatParts}
 use Rattle.n2k_table.specs.Shown.{FlagParts, ShownParts, absent, number, name, text, utf8, wide, bytes, flags, digits as digit_bytes}
 use Rattle.n2k_table.specs.Table.{TableParts, choice}
-use Rattle.n2k_table.specs.Json.{flag_json, value_json, pair_json, member_json, members, object, set_json, repeat_members, message_members, id_json, head_json, line_json, chosen_json, json}
+use Rattle.n2k_table.specs.Json.{flag_json, value_json, pair_json, member_json, members, object, set_json, repeat_members, message_members, id_json, header_json, line_json, chosen_json, json}
 use Rattle.n2k_table.specs.OneLine.{IsOneLine}
 
 -- no byte is below the space
@@ -157,14 +157,14 @@ clean-id : (id : Id) → IsClean (id_json id)
 unfolding id_json
 clean-id id = grind (arith, onward, clean-decimal)
 
-clean-head : (description : List ℕ) (m : PacketParts) → IsClean description → IsClean (head_json description m)
-unfolding head_json
+clean-head : (description : List ℕ) (m : PacketParts) → IsClean description → IsClean (header_json description m)
+unfolding header_json
 clean-head description m is = grind (arith, onward, clean-text, clean-id)
 
 line-one : (description : List ℕ) (ms : List (List ℕ)) (m : PacketParts) → AllByRecursion IsClean ms → IsOneLine (line_json description ms m)
 line-one description ms m is = record {
-  front = (head_json (text_json description) m ++ object ms) ++ 125 ∷ [];
-  spelled = sym (append_assoc (head_json (text_json description) m ++ object ms) (125 ∷ []) (10 ∷ []));
+  prefix = (header_json (text_json description) m ++ object ms) ++ 125 ∷ [];
+  spelled = sym (append_assoc (header_json (text_json description) m ++ object ms) (125 ∷ []) (10 ∷ []));
   clean = All-from_recursion (λ b. 32 ≤ b) _ (onward (onward (clean-head (text_json description) m (clean-text description)) (object ms) (clean-object ms is)) (125 ∷ []) (clean-cons 125 [] (omega arith) clean-nil)).each;
 }
 

@@ -8,9 +8,9 @@ use Rattle.std.proofs.lemmas.List.{drop_more, length-append, append-nil, map-app
 use Rattle.std.proofs.lemmas.List.Elements.{All-append}
 use Rattle.n2k_table.specs.Definition.{DefinitionParts}
 use Rattle.n2k_table.specs.Table.{is_of}
-use Rattle.n2k_table.specs.declared.glance.Glance.{Glance}
+use Rattle.n2k_table.specs.declared.match_prefilter.MatchPrefilter.{MatchPrefilter}
 use Rattle.n2k_table.specs.declared.index.Candidate.{Candidate}
-use Rattle.n2k_table.specs.Inner.Glance.{IsGlance}
+use Rattle.n2k_table.specs.Inner.MatchPrefilter.{IsMatchPrefilter}
 use Rattle.n2k_table.specs.Inner.Index.{pgns, places_from, places, places_of, IsOfPlace}
 
 pub length-pgns : (ds : List DefinitionParts) → length (pgns ds) ≡ length ds
@@ -22,15 +22,15 @@ abbrev pub first_at : (DefinitionParts → Bool) → List DefinitionParts → Li
 first_at q ds [] = None
 first_at q ds (i ∷ is) = option_map_or (λ d. cond (q d) (Some d) (first_at q ds is)) (slice_get ds i) (first_at q ds is)
 
-there : (front : List DefinitionParts) (d : DefinitionParts) (ds : List DefinitionParts) → slice_get (front ++ d ∷ ds) (length front) ≡ Some d
+there : (prefix : List DefinitionParts) (d : DefinitionParts) (ds : List DefinitionParts) → slice_get (prefix ++ d ∷ ds) (length prefix) ≡ Some d
 there [] d ds = refl
 there (e ∷ es) d ds = there es d ds
 
 -- the first of a PGN that passes is found at the places of the PGN
-find_from : (p q : DefinitionParts → Bool) (pgn : ℕ) → ((d : DefinitionParts) → p d ≡ (is_of pgn d && q d)) → (front ds : List DefinitionParts)
-    → find p ds ≡ first_at q (front ++ ds) (places_from (length front) pgn (pgns ds))
-find_from p q pgn h front [] = refl
-find_from p q pgn h front (d ∷ ds) = grind (arith, find_from p q pgn h (front ++ d ∷ []) ds, length-append, append_assoc, there)
+find_from : (p q : DefinitionParts → Bool) (pgn : ℕ) → ((d : DefinitionParts) → p d ≡ (is_of pgn d && q d)) → (prefix ds : List DefinitionParts)
+    → find p ds ≡ first_at q (prefix ++ ds) (places_from (length prefix) pgn (pgns ds))
+find_from p q pgn h prefix [] = refl
+find_from p q pgn h prefix (d ∷ ds) = grind (arith, find_from p q pgn h (prefix ++ d ∷ []) ds, length-append, append_assoc, there)
 
 pub find_places : (p q : DefinitionParts → Bool) (pgn : ℕ) → ((d : DefinitionParts) → p d ≡ (is_of pgn d && q d)) → (ds : List DefinitionParts)
     → find p ds ≡ first_at q ds (places pgn (pgns ds))
@@ -108,8 +108,8 @@ noted_all P true cs new c holds gain all = rw gain (All-append P cs (c ∷ []) a
 noted_all P false cs new c holds gain all = rw (gain ∙ append-nil cs) all
 
 -- what a definition asks for, as the candidate of its place has it
-pub of_place : (ds : List DefinitionParts) (k : ℕ) (d : DefinitionParts) (glance : Glance) → k < length ds → d ≡ get_or ds k d → IsGlance glance d.fields → IsOfPlace ds (record { place = k; glance = glance })
-of_place ds k d glance lt at is = grind (arith, slice_get-get_or)
+pub of_place : (ds : List DefinitionParts) (k : ℕ) (d : DefinitionParts) (match_prefilter : MatchPrefilter) → k < length ds → d ≡ get_or ds k d → IsMatchPrefilter match_prefilter d.fields → IsOfPlace ds (record { place = k; match_prefilter = match_prefilter })
+of_place ds k d match_prefilter lt at is = grind (arith, slice_get-get_or)
 
 -- the places of candidates are places of definitions
 pub candidates_within : (cs : List Candidate) (pgn : ℕ) (ds : List DefinitionParts) → places_of cs ≡ places pgn (pgns ds) → All (λ (c : Candidate). c.place < length ds) cs
@@ -134,11 +134,11 @@ pub passed_over : (q : DefinitionParts → Bool) (ds : List DefinitionParts) (cs
 passed_over q ds cs k c e lt is fails = grind (arith, get_or-map (λ (x : Candidate). x.place) cs k e 0 lt, drop_more (places_of cs) k 0 (omega (arith, lt, (length-map cs (λ (x : Candidate). x.place)))))
 
 -- a definition of a PGN at its place among those of the PGN
-filter_from : (pgn : ℕ) (front ds : List DefinitionParts) (k : ℕ)
-    → slice_get (filter (is_of pgn) ds) k ≡ option_and_then (slice_get (front ++ ds)) (slice_get (places_from (length front) pgn (pgns ds)) k)
-filter_from pgn front [] k = refl
-filter_from pgn front (d ∷ ds) zero = grind (arith, filter_from pgn (front ++ d ∷ []) ds zero, length-append, append_assoc, there)
-filter_from pgn front (d ∷ ds) (suc k) = grind (arith, filter_from pgn (front ++ d ∷ []) ds k, filter_from pgn (front ++ d ∷ []) ds (suc k), length-append, append_assoc, there)
+filter_from : (pgn : ℕ) (prefix ds : List DefinitionParts) (k : ℕ)
+    → slice_get (filter (is_of pgn) ds) k ≡ option_and_then (slice_get (prefix ++ ds)) (slice_get (places_from (length prefix) pgn (pgns ds)) k)
+filter_from pgn prefix [] k = refl
+filter_from pgn prefix (d ∷ ds) zero = grind (arith, filter_from pgn (prefix ++ d ∷ []) ds zero, length-append, append_assoc, there)
+filter_from pgn prefix (d ∷ ds) (suc k) = grind (arith, filter_from pgn (prefix ++ d ∷ []) ds k, filter_from pgn (prefix ++ d ∷ []) ds (suc k), length-append, append_assoc, there)
 
 pub filter_places : (pgn : ℕ) (ds : List DefinitionParts) (k : ℕ) → slice_get (filter (is_of pgn) ds) k ≡ option_and_then (slice_get ds) (slice_get (places pgn (pgns ds)) k)
 filter_places pgn ds k = filter_from pgn [] ds k

@@ -3,7 +3,7 @@ use Rattle.std.proofs.Common.{◌≡◌, ℕ, zero, suc, ◌+◌, ◌-◌, ◌*�
 use Rattle.std.specs.List.{list_any}
 use Rattle.std.proofs.lemmas.Bool.{leb-true, or_cases, false≢true}
 use Rattle.std.proofs.lemmas.Option.{cond_some, option_and_then_some}
-use Rattle.n2k_table.specs.Strings.{data_behind}
+use Rattle.n2k_table.specs.Strings.{data_after}
 use Rattle.n2k_table.specs.Field.{FieldParts, Meaning, is_string}
 use Rattle.n2k_table.specs.Repeat.{RepeatParts, own_bytes, strings_size, if_inside, set_size, sets_from, sets_in}
 use Rattle.n2k_table.specs.Inner.Kept.{left_beside}
@@ -25,11 +25,11 @@ mapped o k n e = grind arith
 strings_have_some : (fs : List FieldParts) (set : List ℕ) (n : ℕ) → list_any (λ f. is_string f.meaning) fs ≡ true → strings_size fs set ≡ Some n → 1 ≤ n
 strings_have_some [] set n any e = absurd (false≢true any)
 strings_have_some (f ∷ fs) set n any e =
-    option_and_then_some (λ k. option_map (λ m. k + m) (strings_size fs set)) (own_bytes f.meaning f.at (data_behind f.behind set)) n e (λ k own both.
+    option_and_then_some (λ k. option_map (λ m. k + m) (strings_size fs set)) (own_bytes f.meaning f.at (data_after f.after set)) n e (λ k own both.
     let rest = mapped (strings_size fs set) k n both in
     let sum = rest.2 in
     elim (or_cases (is_string f.meaning) (list_any (λ f. is_string f.meaning) fs) any) [
-      | inl is ↦ let le = some_of f.meaning f.at (data_behind f.behind set) k is own in omega (arith, le, sum)
+      | inl is ↦ let le = some_of f.meaning f.at (data_after f.after set) k is own in omega (arith, le, sum)
       | inr more ↦ let le = strings_have_some fs set rest.0 more rest.1 in omega (arith, le, sum)
     ])
 

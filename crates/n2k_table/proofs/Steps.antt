@@ -23,5 +23,5 @@ one_more [] s at = refl
 one_more (t ∷ ss) s at = one_more ss s (t.at + at)
 
 -- what follows a string begins no later than where the string ends
-pub behind_string : (steps ss : List Step) (s : Step) → steps ≡ ss ++ s ∷ [] → fixed_place steps 0 ≤ fixed_place ss s.at
-behind_string steps ss s is = grind (arith, one_more, from_beginning)
+pub after_string : (steps ss : List Step) (s : Step) → steps ≡ ss ++ s ∷ [] → fixed_place steps 0 ≤ fixed_place ss s.at
+after_string steps ss s is = grind (arith, one_more, from_beginning)

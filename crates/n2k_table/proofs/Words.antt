@@ -166,12 +166,12 @@ are_skipped n e skipped small short least =
     ]
 
 -- what is stored of a word: the digits before the dot, and the digits after it
-pub short_is : (n e skipped word : ℕ) (front back : List ℕ) → n < 10 ^ 8 → e < 8 → word ≡ values_word n
+pub short_is : (n e skipped word : ℕ) (prefix back : List ℕ) → n < 10 ^ 8 → e < 8 → word ≡ values_word n
     → skipped ≡ min (trailing_zeros w64 word / 8) (7 - e)
-    → front ≡ to_le_bytes w64 ((word + noughts) / 2 ^ (8 * skipped))
+    → prefix ≡ to_le_bytes w64 ((word + noughts) / 2 ^ (8 * skipped))
     → back ≡ to_le_bytes w64 ((word + noughts) / 2 ^ (8 * skipped) / 2 ^ (8 * (8 - e - skipped - 1)) / 2 ^ 8)
-    → take (8 - e - skipped) front ++ after_dot (take e back) ≡ dotted e (padded_digits n e)
-short_is n e skipped word front back small short is least f b =
+    → take (8 - e - skipped) prefix ++ after_dot (take e back) ≡ dotted e (padded_digits n e)
+short_is n e skipped word prefix back small short is least f b =
     let all = word + noughts in
     let digits = to_le_bytes w64 all in
     let whole = 8 - e - skipped in
@@ -184,13 +184,13 @@ short_is n e skipped word front back small short is least f b =
     ∙ ap (λ (t : List ℕ). t ++ decimal n) (drop-replicate skipped (8 - length (decimal n)) 48) ∙ ap (λ k. replicate k 48 ++ decimal n) skips.1 in
     let count : length ds ≡ whole + e = omega (arith, length_padded n e, skips.0, skips.1, short, many) in
     let place : length ds - e ≡ whole = omega (arith, count) in
-    let begins : take whole front ≡ take whole ds = ap (take whole) f ∙ shifted whole skipped all (omega (arith, skips.0, skips.1, many)) ∙ ap (take whole) left in
+    let begins : take whole prefix ≡ take whole ds = ap (take whole) f ∙ shifted whole skipped all (omega (arith, skips.0, skips.1, many)) ∙ ap (take whole) left in
     let steps : 8 * (whole - 1) + 8 ≡ 8 * whole = omega (arith, skips.0, skips.1, many, short) in
     let both : 8 * skipped + 8 * whole ≡ 8 * (skipped + whole) = omega arith in
     let twice : all / 2 ^ (8 * skipped) / 2 ^ (8 * (whole - 1)) / 2 ^ 8 ≡ all / 2 ^ (8 * (skipped + whole)) =
     shr-shr (all / 2 ^ (8 * skipped)) (8 * (whole - 1)) 8 ∙ ap (λ k. all / 2 ^ (8 * skipped) / 2 ^ k) steps ∙ shr-shr all (8 * skipped) (8 * whole) ∙ ap (λ k. all / 2 ^ k) both in
-    let behind : drop (skipped + whole) digits ≡ drop whole ds = sym (drop-drop whole skipped digits) ∙ ap (drop whole) left in
+    let after : drop (skipped + whole) digits ≡ drop whole ds = sym (drop-drop whole skipped digits) ∙ ap (drop whole) left in
     let ends : take e back ≡ drop whole ds =
     ap (take e) (b ∙ ap (to_le_bytes w64) twice) ∙ shifted e (skipped + whole) all (omega (arith, skips.0, skips.1, many, short))
-    ∙ ap (take e) behind ∙ take_all e (drop whole ds) (omega (arith, length-drop whole ds, count)) in
+    ∙ ap (take e) after ∙ take_all e (drop whole ds) (omega (arith, length-drop whole ds, count)) in
     rw (begins, ends, place) refl

@@ -67,7 +67,7 @@ pub record FieldParts : Type 0 where
   pub at : ℕ
   pub bits : ℕ
   pub short : Bool
-  pub behind : List Step
+  pub after : List Step
   pub meaning : Meaning
   pub match_value : Option ℕ
 
@@ -145,7 +145,7 @@ own_step _ at = []
 
 -- the strings before a field that follows this one, from the first on
 abbrev pub steps_through : FieldParts → List Step
-steps_through f = f.behind ++ own_step f.meaning f.at
+steps_through f = f.after ++ own_step f.meaning f.at
 
 -- the strings before a field that names a string of these fields, the first of the name
 abbrev pub steps_named : List FieldParts → Data → Result (List Step) TableFault
@@ -172,7 +172,7 @@ fixed_place (s ∷ ss) at = fixed_place ss (s.at + at)
 
 -- bits after strings don't end past the end, as far as the table says it
 abbrev pub check_end : List Step → ℕ → ℕ → ℕ → Result (Unit {0}) TableFault
-check_end behind at bits end = holds_or Range (nat_le (fixed_place behind at + bits) end)
+check_end after at bits end = holds_or Range (nat_le (fixed_place after at + bits) end)
 
 abbrev pub offset_in_range : ℤ → Result ℤ TableFault
 offset_in_range (pos n) = if nat_le n greatest_offset then Ok (pos n) else Err Range
@@ -255,7 +255,7 @@ short_of kind holder f = if can_be_short kind holder then bool_at (codes "short"
 
 -- the field of that name and at that place, by its other keys, in a table of these lookups
 unfoldable pub field_at : List LookupParts → FieldKind → Holder → List ℕ → ℕ → ℕ → List Step → Members → Result FieldParts TableFault
-field_at lookups kind holder name at bits behind f = do
+field_at lookups kind holder name at bits after f = do
   meaning ← meaning_of lookups kind bits f
   short ← short_of kind holder f
   match_value ← match_value_of kind holder bits f
@@ -264,7 +264,7 @@ field_at lookups kind holder name at bits behind f = do
     at = at;
     bits = bits;
     short = short;
-    behind = behind;
+    after = after;
     meaning = meaning;
     match_value = match_value;
   })
@@ -278,6 +278,6 @@ field format holder lookups before d = do
   name ← text_at (codes "name") f
   at ← first_bit (alignment kind) f
   bits ← bits_of kind f
-  behind ← steps_of before f
-  inside ← check_end behind at bits (end_of holder)
-  field_at lookups kind holder name at bits behind f
+  after ← steps_of before f
+  inside ← check_end after at bits (end_of holder)
+  field_at lookups kind holder name at bits after f

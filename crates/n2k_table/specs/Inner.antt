@@ -2,7 +2,7 @@
 pub mod Digits
 pub mod Entries
 pub mod FieldValue
-pub mod Glance
+pub mod MatchPrefilter
 pub mod Index
 pub mod Kept
 pub mod Line

@@ -83,8 +83,8 @@ id_json id =
     ++ codes ",\"pgn\":" ++ decimal id.pgn
 
 -- the text before the fields, of a description as JSON
-unfoldable pub head_json : List ℕ → PacketParts → List ℕ
-head_json description_json m =
+unfoldable pub header_json : List ℕ → PacketParts → List ℕ
+header_json description_json m =
     codes "{\"timestamp\":" ++ text_json m.stamp
     ++ id_json m.id
     ++ codes ",\"description\":" ++ description_json
@@ -92,7 +92,7 @@ head_json description_json m =
 
 -- the line of a message with these members, with its LF
 abbrev pub line_json : List ℕ → List (List ℕ) → PacketParts → List ℕ
-line_json description ms m = head_json (text_json description) m ++ object ms ++ codes "}\n"
+line_json description ms m = header_json (text_json description) m ++ object ms ++ codes "}\n"
 
 -- the line of a message that no definition matches: its data as they are (never absent, whatever `empty` says)
 abbrev pub unmatched_json : PacketParts → List ℕ

@@ -3,6 +3,6 @@ use Rattle.std.specs.Prelude.{◌≡◌, ◌≤◌, ℕ, All, List, [], ◌∷�
 
 -- The text is one line: it ends in a line feed, and contains no other byte below the space.
 pub record IsOneLine (text : List ℕ) : Type 0 where
-  pub front : List ℕ
-  pub spelled : text ≡ front ++ 10 ∷ []
-  pub clean : All (λ b. 32 ≤ b) front
+  pub prefix : List ℕ
+  pub spelled : text ≡ prefix ++ 10 ∷ []
+  pub clean : All (λ b. 32 ≤ b) prefix

@@ -14,7 +14,7 @@ use Rattle.n2k_table.specs.declared.tree.Section.TheVariants.{Repeat}
 use Rattle.n2k_wire.specs.Steps.{◌>>=◌, holds_or}
 use Rattle.n2k_table.specs.Tree.{message_bits, is_extended, check_keys, as_members}
 use Rattle.n2k_table.specs.Lookup.{LookupParts}
-use Rattle.n2k_table.specs.Strings.{taken, data_behind}
+use Rattle.n2k_table.specs.Strings.{taken, data_after}
 use Rattle.n2k_table.specs.Field.{Meaning, string, FieldParts, is_string, first_bit, bit_count, steps_to, check_end}
 use Rattle.n2k_table.specs.Fields.{fields}
 use Rattle.n2k_table.specs.Shown.{ShownParts, all_shown}
@@ -25,7 +25,7 @@ use Rattle.n2k_table.specs.Shown.{ShownParts, all_shown}
 pub record RepeatParts : Type 0 where
   pub at : ℕ
   pub bits : ℕ
-  pub behind : List Step
+  pub after : List Step
   pub fields : List FieldParts
 
 -- how many bytes a field of that meaning, at that bit of these data, adds to the bits of its set: a string its own, if
@@ -39,7 +39,7 @@ abbrev pub strings_size : List FieldParts → List ℕ → Option ℕ
 strings_size [] bytes = Some 0
 strings_size (f ∷ fs) bytes =
     option_and_then (λ n. option_map (λ m. n + m) (strings_size fs bytes))
-    (own_bytes f.meaning f.at (data_behind f.behind bytes))
+    (own_bytes f.meaning f.at (data_after f.after bytes))
 
 -- the first number, if it is at most the second
 abbrev pub if_inside : ℕ → ℕ → Option ℕ
@@ -63,7 +63,7 @@ sets_in r bytes = sets_from r (length bytes) bytes
 
 -- the data from the first set on: none if a string before them has no end
 abbrev pub from_first : RepeatParts → List ℕ → List ℕ
-from_first r payload = drop (r.at / 8) (unwrap_or (data_behind r.behind payload) [])
+from_first r payload = drop (r.at / 8) (unwrap_or (data_after r.after payload) [])
 
 -- the bytes of each set
 abbrev pub sets : RepeatParts → List ℕ → List (List ℕ)
@@ -89,8 +89,8 @@ repeat format lookups own d = do
   known ← check_keys (Repeat format) m
   at ← first_bit 8 m
   bits ← bit_count 8 (least_set_bits format) message_bits m
-  behind ← steps_to own None (get_member (codes "after") m)
-  inside ← check_end behind at bits message_bits
+  after ← steps_to own None (get_member (codes "after") m)
+  inside ← check_end after at bits message_bits
   all ← fields format (Set bits) lookups m
   some ← holds_or Range (has_some bits all)
-  Ok (record { at = at; bits = bits; behind = behind; fields = all })
+  Ok (record { at = at; bits = bits; after = after; fields = all })

@@ -17,7 +17,7 @@ use Rattle.n2k_table.specs.Bits.{raw, signed_value, greatest, bits_set}
 use Rattle.n2k_table.specs.Field.{FieldParts, Meaning}
 use Rattle.n2k_table.specs.Field as means
 use Rattle.n2k_table.specs.Lookup.{name_of_value}
-use Rattle.n2k_table.specs.Strings.{data_behind, content, units, is_filling_unit}
+use Rattle.n2k_table.specs.Strings.{data_after, content, units, is_filling_unit}
 
 -- a bit that is 1, by its name, or by its number if it has no name
 pub data FlagParts : Type 0 where
@@ -72,20 +72,20 @@ abbrev pub lies_inside : FieldParts → List ℕ → Bool
 lies_inside f payload = nat_le (f.at + f.bits) (8 * length payload)
 
 -- The value says that none is there: the greatest, from two bits on, and the greatest but one, from four bits on.
-abbrev pub says_none : Bool → ℕ → ℤ → Bool
-says_none signed n value =
+abbrev pub is_not_available : Bool → ℕ → ℤ → Bool
+is_not_available signed n value =
     (nat_le 2 n && int_eq value (pos (greatest signed n))) || (nat_le 4 n && int_eq value (pos (greatest signed n - 1)))
 
 -- a number of n bits, times the mantissa of its resolution
 abbrev pub shown_number : Bool → Resolution → ℕ → ℕ → ShownParts
 shown_number signed resolution n r =
-    if says_none signed n (signed_value signed n r) then absent
+    if is_not_available signed n (signed_value signed n r) then absent
     else number (signed_value signed n r *ℤ pos resolution.mantissa) resolution.decimals
 
 -- An unsigned number of n bits and the offset, times the mantissa. Whether it is there says the number alone.
 abbrev pub shown_shifted : ℤ → Resolution → ℕ → ℕ → ShownParts
 shown_shifted offset resolution n r =
-    if says_none false n (pos r) then absent
+    if is_not_available false n (pos r) then absent
     else number ((pos r +ℤ offset) *ℤ pos resolution.mantissa) resolution.decimals
 
 -- a value of n bits that has no name: from two bits on the greatest says that none is there
@@ -190,15 +190,15 @@ abbrev pub begins_inside : FieldParts → List ℕ → Bool
 begins_inside f payload = nat_lt f.at (8 * length payload)
 
 -- what these bytes show of a text or of bytes that go on after them
-abbrev pub shown_front : Meaning → List ℕ → ShownParts
-shown_front means.text front = shown_text (trimmed front)
-shown_front means.bytes front = bytes front
-shown_front _ front = absent
+abbrev pub shown_prefix : Meaning → List ℕ → ShownParts
+shown_prefix means.text prefix = shown_text (trimmed prefix)
+shown_prefix means.bytes prefix = bytes prefix
+shown_prefix _ prefix = absent
 
 -- what a field shows that ends after the data: a short field shows the part that is there
 abbrev pub shown_part : FieldParts → List ℕ → ShownParts
 shown_part f payload =
-    if f.short && begins_inside f payload then shown_front f.meaning (drop (f.at / 8) payload) else absent
+    if f.short && begins_inside f payload then shown_prefix f.meaning (drop (f.at / 8) payload) else absent
 
 -- what a field shows of the data from where its place counts
 abbrev pub shown_from : FieldParts → List ℕ → ShownParts
@@ -211,7 +211,7 @@ shown_if_there f (Some rest) = shown_from f rest
 
 -- what a field shows of the data, which count from the end of the strings before it
 abbrev pub shown : FieldParts → List ℕ → ShownParts
-shown f payload = shown_if_there f (data_behind f.behind payload)
+shown f payload = shown_if_there f (data_after f.after payload)
 
 -- the name of each field and what it shows, in order
 abbrev pub all_shown : List FieldParts → List ℕ → List (List ℕ × ShownParts)

@@ -17,13 +17,13 @@ taken Lau (l ∷ bs) = if nat_le 2 l && nat_le l (length (l ∷ bs)) then Some l
 taken Lz (l ∷ bs) = if nat_le (1 + l) (length (l ∷ bs)) then Some (1 + l) else None
 
 -- the bytes after a string that begins with the first of them, if it has an end
-abbrev pub behind_string : Form → List ℕ → Option (List ℕ)
-behind_string form bytes = option_map (λ n. drop n bytes) (taken form bytes)
+abbrev pub after_string : Form → List ℕ → Option (List ℕ)
+after_string form bytes = option_map (λ n. drop n bytes) (taken form bytes)
 
 -- the data from where a field's place counts: after the strings before it, if each of these has an end
-abbrev pub data_behind : List Step → List ℕ → Option (List ℕ)
-data_behind [] payload = Some payload
-data_behind (s ∷ ss) payload = option_and_then (data_behind ss) (behind_string s.form (drop (s.at / 8) payload))
+abbrev pub data_after : List Step → List ℕ → Option (List ℕ)
+data_after [] payload = Some payload
+data_after (s ∷ ss) payload = option_and_then (data_after ss) (after_string s.form (drop (s.at / 8) payload))
 
 -- so many bytes of those that are there; of a short string what is there of them
 abbrev pub first_bytes : Bool → ℕ → List ℕ → Option (List ℕ)

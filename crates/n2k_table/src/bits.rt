@@ -46,7 +46,7 @@ pub(crate) fn first_word(data: &[u8]) -> u64
 /// The raw value of bits that lie in the eight bytes from a byte on.
 #[inline(always)]
 fn raw_in_word(data: &[u8], from: usize, at: usize, bits: u32, mask: u64) -> u64
-    requires front { 8 * from ≤ at }
+    requires prefix { 8 * from ≤ at }
     requires word { at + bits ≤ 8 * from + 64 }
     requires within { at + bits ≤ 8 * length «data».now }
     requires some { 1 ≤ bits }

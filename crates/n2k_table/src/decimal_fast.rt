@@ -5,7 +5,7 @@ ghost use Rattle.std.specs.Prelude.{◌≡◌, ◌++◌, ◌+◌, ◌-◌, ◌�
 ghost use Rattle.n2k_table.specs.Decimal.{after_dot, dotted, padded_digits};
 ghost use Rattle.n2k_table.specs.Inner.Digits.{pairs_word, values_word};
 
-use crate::head::number_text;
+use crate::json_header::number_text;
 use crate::line_buffer::TextBuffer;
 use itoa::write_digits;
 
@@ -95,7 +95,7 @@ fn eight_values(number: u64) -> u64
 /// Appends the first bytes of some, and a dot and the first bytes of others unless they are none. There is room for 17.
 #[inline(always)]
 fn write_parts<const SIZE: usize>(
-    front: [u8; 8],
+    prefix: [u8; 8],
     whole: usize,
     back: [u8; 8],
     decimals: usize,
@@ -104,9 +104,9 @@ fn write_parts<const SIZE: usize>(
     requires whole { whole ≤ 8 }
     requires decimals { decimals ≤ 8 }
     requires room { line.old.held + 17 ≤ SIZE }
-    ensures { line.new.items ≡ line.old.items ++ (take whole front ++ after_dot (take decimals back)) }
+    ensures { line.new.items ≡ line.old.items ++ (take whole prefix ++ after_dot (take decimals back)) }
 {
-    line.write(&front, whole);
+    line.write(&prefix, whole);
     line.write(b".", usize::from(decimals > 0));
     line.write(&back, decimals);
 }
@@ -132,10 +132,10 @@ pub(crate) fn write_short<const SIZE: usize>(
         let zeros = (values.trailing_zeros() / 8) as usize;
         let skipped = zeros.min(DIGITS - 1 - decimals);
         let whole = DIGITS - decimals - skipped;
-        let front = (values + NOUGHTS) >> (8 * skipped);
-        let back = front >> (8 * (whole - 1)) >> 8;
+        let prefix = (values + NOUGHTS) >> (8 * skipped);
+        let back = prefix >> (8 * (whole - 1)) >> 8;
         write_parts(
-            front.to_le_bytes(),
+            prefix.to_le_bytes(),
             whole,
             back.to_le_bytes(),
             decimals,

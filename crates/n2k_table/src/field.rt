@@ -9,9 +9,9 @@ use crate::flags::flags_value;
 use crate::line_buffer::{TextBuffer, VALUE_ROOM};
 use crate::lookup::Lookup;
 use crate::number::{Scale, Shift};
-use crate::padded_text::{FRONT_ROOM, PaddedText};
+use crate::padded_text::{PREFIX_ROOM, PaddedText};
 use crate::shown::Shown;
-use crate::string_place::{Form, Step, data_behind, taken_at};
+use crate::string_place::{Form, Step, data_after, taken_at};
 use crate::string_value::string_value;
 use std::alloc::AllocError;
 use std::marker::Model;
@@ -52,7 +52,7 @@ pub struct Field {
     /// Whether it shows the part that is there if the data end before it does.
     pub(crate) short: bool,
     /// The strings before it, from the first on. Its first bit counts from the end of the last.
-    pub(crate) behind: Vec<Step>,
+    pub(crate) after: Vec<Step>,
     pub(crate) meaning: Meaning,
     pub(crate) match_value: Option<u64>,
 }
@@ -69,12 +69,12 @@ impl Model for Field {
       at = f.at;
       bits = f.bits;
       short = f.short;
-      behind = f.behind.items;
+      after = f.after.items;
       meaning = seen_meaning f.meaning;
       match_value = f.match_value;
     } };
 
-    ghost invariant = { λ f. IsKept (string_bytes f.name) f.key f.at f.bits f.end f.behind.items f.meaning f.match_value };
+    ghost invariant = { λ f. IsKept (string_bytes f.name) f.key f.at f.bits f.end f.after.items f.meaning f.match_value };
 }
 
 impl Field {
@@ -84,7 +84,7 @@ impl Field {
     ghost use Rattle.n2k_table.specs.Inner.Line.{key_json};
     ghost use Rattle.n2k_table.specs.Inner.FieldValue.{value_parts, stands_inside};
     ghost use Rattle.n2k_table.specs.Shown.{lies_inside, field_bytes, begins_inside, shown_part, shown_from, shown, shown_parts};
-    ghost use Rattle.n2k_table.specs.Strings.{data_behind};
+    ghost use Rattle.n2k_table.specs.Strings.{data_after};
     ghost use Rattle.n2k_table.specs.Field.{is_string};
     ghost use Rattle.n2k_table.specs.Repeat.{own_bytes};
     ghost use Rattle.n2k_table.specs.Table.{field_matches};
@@ -118,7 +118,7 @@ impl Field {
         ensures room { OnOk result (line.new.held + 64 ≤ SIZE) }
     {
         let from = if later { 0 } else { 1 };
-        line.reserve(FRONT_ROOM + VALUE_ROOM)?;
+        line.reserve(PREFIX_ROOM + VALUE_ROOM)?;
         self.key.push_from(from, VALUE_ROOM, line)
     }
 
@@ -132,10 +132,10 @@ impl Field {
     /// The bytes that the set that begins with the first of these has for the field beside its bits: those of a string, and
     /// nothing if it is not proper.
     pub(crate) fn own_bytes(&self, set: &[u8]) -> Option<usize>
-        ensures { result ≡ own_bytes self.now.meaning self.now.at (data_behind self.now.behind set.now) }
+        ensures { result ≡ own_bytes self.now.meaning self.now.at (data_after self.now.after set.now) }
     {
         match self.meaning {
-            Meaning::String(form) => taken_at(form, data_behind(&self.behind, set)?, self.at),
+            Meaning::String(form) => taken_at(form, data_after(&self.after, set)?, self.at),
             _ => Some(0),
         }
     }
@@ -217,9 +217,9 @@ impl Field {
     /// assert_eq!(rt; rate.rest(&[1, 2]), Some([1, 2].as_slice()));
     /// ```
     pub fn rest<'a>(&self, data: &'a [u8]) -> Option<&'a [u8]>
-        ensures { option_map (λ rest. rest.now) result ≡ data_behind self.now.behind «data».now }
+        ensures { option_map (λ rest. rest.now) result ≡ data_after self.now.after «data».now }
     {
-        data_behind(&self.behind, data)
+        data_after(&self.after, data)
     }
 
     /// Whether it has a match value.
@@ -262,7 +262,7 @@ impl Field {
     }
 
     /// The bytes from that of the field's first bit on.
-    fn front<'a>(&self, data: &'a [u8]) -> &'a [u8]
+    fn prefix<'a>(&self, data: &'a [u8]) -> &'a [u8]
         requires { self.now.at ≤ 8 * length «data».now }
         ensures { result.now ≡ drop (self.now.at / 8) «data».now }
     {
@@ -277,8 +277,8 @@ impl Field {
             return Shown::Absent;
         }
         match &self.meaning {
-            Meaning::Text => text_value(self.front(data)).shown(),
-            Meaning::Bytes => Shown::Bytes(self.front(data)),
+            Meaning::Text => text_value(self.prefix(data)).shown(),
+            Meaning::Bytes => Shown::Bytes(self.prefix(data)),
             _ => Shown::Absent,
         }
     }
@@ -298,7 +298,7 @@ impl Field {
         ensures { IfSome (value_parts result) (λ parts. parts ≡ shown self.now «data».now) }
     {
         if !self.stands_inside(data) {
-            if self.short || !self.behind.is_empty() {
+            if self.short || !self.after.is_empty() {
                 return FieldValue::Seldom;
             }
             return FieldValue::Absent;
@@ -343,7 +343,7 @@ impl Field {
             Meaning::Text => return text_value(self.bytes(data)).shown(),
             Meaning::Bytes => return Shown::Bytes(self.bytes(data)),
             Meaning::Digits => return digits_value(self.bytes(data)),
-            Meaning::String(form) => return string_value(*form, self.short, self.front(data)),
+            Meaning::String(form) => return string_value(*form, self.short, self.prefix(data)),
             Meaning::Flags(lookup) => {
                 let raw = raw(data, self.at, self.bits);
                 return flags_value(lookup, self.bits, raw);
@@ -362,7 +362,7 @@ impl Field {
     pub fn shown<'a>(&'a self, data: &'a [u8]) -> Shown<'a>
         ensures { shown_parts result ≡ shown self.now «data».now }
     {
-        match data_behind(&self.behind, data) {
+        match data_after(&self.after, data) {
             Some(rest) => self.shown_from(rest),
             None => Shown::Absent,
         }

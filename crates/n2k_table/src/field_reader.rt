@@ -171,8 +171,8 @@ fn steps_through(alloc: Global, earlier: &Field) -> Result<Vec<Step>, AllocError
     ensures value { IfOk result (λ steps. steps.items ≡ steps_through earlier.now) }
     ensures room { IfOk result (λ steps. fixed_place steps.items 0 ≤ message_bits) }
 {
-    let mut steps = Vec::with_capacity(alloc, earlier.behind.len().saturating_add(1))?;
-    steps.extend_from_slice(earlier.behind.as_slice())?;
+    let mut steps = Vec::with_capacity(alloc, earlier.after.len().saturating_add(1))?;
+    steps.extend_from_slice(earlier.after.as_slice())?;
     if let Meaning::String(form) = earlier.meaning {
         steps.push(Step {
             at: earlier.at,
@@ -224,28 +224,28 @@ fn steps_of(alloc: Global, before: &[Field], table: &Table) -> Result<Vec<Step>,
 }
 
 /// The place of a field after these strings if they took no bytes.
-fn fixed_place(behind: &[Step], at: u32) -> u32
-    requires { at + fixed_place behind.now 0 ≤ message_bits + last_bit }
-    ensures value { result ≡ fixed_place behind.now at }
-    ensures later { result ≡ at + fixed_place behind.now 0 }
+fn fixed_place(after: &[Step], at: u32) -> u32
+    requires { at + fixed_place after.now 0 ≤ message_bits + last_bit }
+    ensures value { result ≡ fixed_place after.now at }
+    ensures later { result ≡ at + fixed_place after.now 0 }
 {
     let mut place = at;
-    for step in behind {
+    for step in after {
         place += step.at;
     }
     place
 }
 
 /// Refuses bits after strings if they end past the end, as far as the table says it.
-pub(crate) fn check_end(behind: &[Step], at: u32, bits: u32, end: u32) -> Result<(), TableFault>
-    requires before { fixed_place behind.now 0 ≤ message_bits }
+pub(crate) fn check_end(after: &[Step], at: u32, bits: u32, end: u32) -> Result<(), TableFault>
+    requires before { fixed_place after.now 0 ≤ message_bits }
     requires at { at ≤ last_bit }
     requires bits { bits ≤ message_bits }
-    ensures value { Gives (λ done. done) result (check_end behind.now at bits end) }
-    ensures fixed { IfOk result (λ _. fixed_place behind.now at + bits ≤ end) }
+    ensures value { Gives (λ done. done) result (check_end after.now at bits end) }
+    ensures fixed { IfOk result (λ _. fixed_place after.now at + bits ≤ end) }
     ensures inside { IfOk result (λ _. at + bits ≤ end) }
 {
-    if fixed_place(behind, at) + bits > end {
+    if fixed_place(after, at) + bits > end {
         return Err(TableFault::Range);
     }
     Ok(())
@@ -424,20 +424,20 @@ fn field_at(
     name: &str,
     at: u32,
     bits: u32,
-    behind: Vec<Step>,
+    after: Vec<Step>,
     table: &Table,
     room: &mut Vec<u8>,
 ) -> Result<Field, TableFault>
     requires known { HasBits kind bits }
-    requires fixed { fixed_place behind.items at + bits ≤ message_bits }
+    requires fixed { fixed_place after.items at + bits ≤ message_bits }
     requires inside { at + bits ≤ message_bits }
     ensures { ReaderGives (λ field. field) result
-        (field_at lookups.now kind holder name.now at bits behind.items (table_view table.now)) }
+        (field_at lookups.now kind holder name.now at bits after.items (table_view table.now)) }
 {
     let meaning = meaning_of(lookups, kind, bits, table)?;
     let short = short_of(kind, holder, table)?;
     let match_value = match_value_of(kind, holder, bits, table)?;
-    let end = bytes_needed(&behind, at, bits);
+    let end = bytes_needed(&after, at, bits);
     Ok(Field {
         name: String::from_str(alloc, name)?,
         key: key_of(alloc, name, room)?,
@@ -445,7 +445,7 @@ fn field_at(
         bits,
         end,
         short,
-        behind,
+        after,
         meaning,
         match_value,
     })
@@ -472,9 +472,9 @@ pub(crate) fn read_field(
     let name = text_at(table, "name")?;
     let at = first_bit(table, alignment(kind))?;
     let bits = bits_of(kind, table)?;
-    let behind = steps_of(alloc, before, table)?;
-    check_end(&behind, at, bits, holder.end())?;
+    let after = steps_of(alloc, before, table)?;
+    check_end(&after, at, bits, holder.end())?;
     field_at(
-        alloc, lookups, kind, holder, name, at, bits, behind, table, room,
+        alloc, lookups, kind, holder, name, at, bits, after, table, room,
     )
 }

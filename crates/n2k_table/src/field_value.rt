@@ -81,11 +81,11 @@ pub(crate) fn trimmed(text: &[u8]) -> &[u8]
     ensures { result.now ≡ trimmed text.now }
 {
     let mut kept = text;
-    while let Some((last, front)) = kept.split_last() {
+    while let Some((last, prefix)) = kept.split_last() {
         if !is_filling(*last) {
             break;
         }
-        kept = front;
+        kept = prefix;
     }
     kept
 }
@@ -114,11 +114,11 @@ fn without_ff(bytes: &[u8]) -> &[u8]
     ensures { result.now ≡ trimmed_of is_no_digit bytes.now }
 {
     let mut kept = bytes;
-    while let Some((last, front)) = kept.split_last() {
+    while let Some((last, prefix)) = kept.split_last() {
         if !is_no_digit(*last) {
             break;
         }
-        kept = front;
+        kept = prefix;
     }
     kept
 }

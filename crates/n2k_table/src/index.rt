@@ -6,7 +6,7 @@ ghost use Rattle.n2k_table.specs.Table.{are_mixed, is_of};
 ghost use Rattle.n2k_table.specs.Inner.Index.{candidates_in, differs, places_of, GainsCandidate, IsIndex};
 
 use crate::definition::StoredDefinition;
-use crate::glance::{Glance, glance_of};
+use crate::match_prefilter::{MatchPrefilter, match_prefilter_of};
 use indexmap::IndexMap;
 use std::alloc::{AllocError, Global};
 use std::marker::Model;
@@ -19,7 +19,7 @@ const QUICK: usize = 8192;
 #[derive(Clone, Copy)]
 pub(crate) struct Candidate {
     pub(crate) place: usize,
-    pub(crate) glance: Glance,
+    pub(crate) match_prefilter: MatchPrefilter,
 }
 
 /// For each PGN its definitions, in file order.
@@ -72,12 +72,15 @@ fn all_candidates(
 {
     let mut candidates = IndexMap::new(alloc);
     for (place, definition) in definitions.iter().enumerate() {
-        let glance = glance_of(definition.fields());
+        let match_prefilter = match_prefilter_of(definition.fields());
         note(
             alloc,
             &mut candidates,
             definition.pgn(),
-            Candidate { place, glance },
+            Candidate {
+                place,
+                match_prefilter,
+            },
         )?;
     }
     Ok(candidates)

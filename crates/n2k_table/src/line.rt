@@ -19,10 +19,10 @@ use crate::definition::{Definition, StoredDefinition};
 use crate::field::Field;
 use crate::field_value::FieldValue;
 use crate::flags::{Flags, NamedBit};
-use crate::head::push_head;
+use crate::json_header::push_header;
 use crate::known_pgn::KnownPgn;
 use crate::line_buffer::{LINE_ALONE, LineBuffer, TextBuffer};
-use crate::padded_text::FRONT_ROOM;
+use crate::padded_text::PREFIX_ROOM;
 use crate::repeat::Repeat;
 use crate::shown::Shown;
 use crate::table::Table;
@@ -123,7 +123,7 @@ fn push_bit<const SIZE: usize>(
 ) -> Result<(), AllocError>
     ensures { AddsText result line.old.items line.new.items (member_text later (Some (flag_json (named_bit bit.entry)))) }
 {
-    line.reserve(1 + FRONT_ROOM)?;
+    line.reserve(1 + PREFIX_ROOM)?;
     write_comma(later, line);
     match bit {
         NamedBit::Name(name) => name.push_json(line),
@@ -169,7 +169,7 @@ fn push_shown<const SIZE: usize>(
 ) -> Result<(), AllocError>
     ensures items { OnOk result (IfSome (value_json true (shown_parts shown.entry))
         (λ value. line.new.items ≡ line.old.items ++ value)) }
-    ensures front { OnErr result (begins line.old.items line.new.items ≡ true) }
+    ensures prefix { OnErr result (begins line.old.items line.new.items ≡ true) }
 {
     match shown {
         Shown::Absent => line.extend_from_slice(b"null"),
@@ -196,7 +196,7 @@ fn push_seldom<const SIZE: usize>(
     ensures items { let member = member_json (are_null absent) (field.now.name, shown field.now «data».now) in
         IfOk result (λ more. (line.new.items ≡ line.old.items ++ member_text later member)
         × (more ≡ (later || is_some member))) }
-    ensures front { OnErr result (begins line.old.items line.new.items ≡ true) }
+    ensures prefix { OnErr result (begins line.old.items line.new.items ≡ true) }
 {
     let shown = field.shown(data);
     match (shown, absent) {
@@ -259,7 +259,7 @@ fn push_members<const SIZE: usize>(
 ) -> Result<bool, AllocError>
     ensures items { let ms = members (are_null absent) (all_shown fields.now «data».now) in
         IfOk result (λ later. (line.new.items ≡ line.old.items ++ join_with_byte comma ms) × (later ≡ has_members ms)) }
-    ensures front { OnErr result (begins line.old.items line.new.items ≡ true) }
+    ensures prefix { OnErr result (begins line.old.items line.new.items ≡ true) }
 {
     let mut later = false;
     let mut rest = fields;
@@ -300,10 +300,10 @@ fn push_sets<const SIZE: usize>(
 {
     let mut later = false;
     let mut rest = repeat.from_first(data);
-    while let Some((set, behind)) = repeat.split_set(rest) {
+    while let Some((set, after)) = repeat.split_set(rest) {
         push_set(repeat.fields(), set, later, absent, line)?;
         later = true;
-        rest = behind;
+        rest = after;
     }
     Ok(())
 }
@@ -359,7 +359,7 @@ fn push_matched<const SIZE: usize>(
     requires { definition.now.pgn ≡ packet.now.id.pgn }
     ensures { AddsText result line.old.items line.new.items (chosen_json (Some definition.now) packet.now (are_null absent)) }
 {
-    push_head(packet, line)?;
+    push_header(packet, line)?;
     line.extend_from_slice(definition.label())?;
     push_fields(definition, packet.data(), absent, line)?;
     line.put(b"}}\n", 3)
@@ -373,7 +373,7 @@ fn push_unmatched<const SIZE: usize>(
 ) -> Result<(), AllocError>
     ensures { AddsText result line.old.items line.new.items (unmatched_json packet.now) }
 {
-    push_head(packet, line)?;
+    push_header(packet, line)?;
     push_pgn(packet.id().pgn, line)?;
     line.extend_from_slice(b",\"description\":\"Unmatched\",\"fields\":{\"Data\":")?;
     push_pairs(packet.data(), line)?;

@@ -29,7 +29,7 @@ pub type LineBuffer = TextBuffer<RUN_ROOM>;
 #[derive(Drop)]
 pub struct TextBuffer<const SIZE: usize> {
     /// The first bytes of lines that are longer than the room. Mostly there are none.
-    front: Vec<u8>,
+    prefix: Vec<u8>,
     room: [u8; SIZE],
     /// How many bytes of the room are used. They follow the front.
     at: usize,
@@ -41,18 +41,18 @@ impl<const SIZE: usize> Model for TextBuffer<SIZE> {
 
     ghost Value = { LineBufferParts };
 
-    ghost view = { λ l. record { items = l.front.items ++ take l.at l.room; held = l.at } };
+    ghost view = { λ l. record { items = l.prefix.items ++ take l.at l.room; held = l.at } };
 
     ghost invariant = { λ l. (l.at ≤ SIZE) × (1024 ≤ SIZE) };
 }
 
 /// Appends bytes to the front. It is not inlined: few lines need it.
 #[inline(never)]
-fn append(front: &mut Vec<u8>, bytes: &[u8]) -> Result<(), AllocError>
-    ensures ok { OnOk result (front.new.items ≡ front.old.items ++ bytes.now) }
-    ensures unchanged { OnErr result (front.new.items ≡ front.old.items) }
+fn append(prefix: &mut Vec<u8>, bytes: &[u8]) -> Result<(), AllocError>
+    ensures ok { OnOk result (prefix.new.items ≡ prefix.old.items ++ bytes.now) }
+    ensures unchanged { OnErr result (prefix.new.items ≡ prefix.old.items) }
 {
-    front.extend_from_slice(bytes)
+    prefix.extend_from_slice(bytes)
 }
 
 /// Writes bytes to a place of the room. They are given by value: of two references the copy would test whether they
@@ -81,7 +81,7 @@ impl<const SIZE: usize> TextBuffer<SIZE> {
         ensures { result.items ≡ [] }
     {
         TextBuffer {
-            front: Vec::new(alloc),
+            prefix: Vec::new(alloc),
             room: [0; SIZE],
             at: 0,
         }
@@ -98,7 +98,7 @@ impl<const SIZE: usize> TextBuffer<SIZE> {
     pub fn clear(&mut self)
         ensures { self.new.items ≡ [] }
     {
-        self.front.clear();
+        self.prefix.clear();
         self.at = 0;
     }
 
@@ -114,7 +114,7 @@ impl<const SIZE: usize> TextBuffer<SIZE> {
         ensures { result.0.now ++ result.1.now ≡ self.now.items }
     {
         let room = &self.room[..];
-        (self.front.as_slice(), &room[..self.at])
+        (self.prefix.as_slice(), &room[..self.at])
     }
 
     /// How many bytes the lines have.
@@ -122,7 +122,7 @@ impl<const SIZE: usize> TextBuffer<SIZE> {
     pub(crate) fn len(&self) -> usize
         ensures { result ≡ length self.now.items }
     {
-        self.front.len() + self.at
+        self.prefix.len() + self.at
     }
 
     /// Drops what comes after so many bytes.
@@ -132,8 +132,8 @@ impl<const SIZE: usize> TextBuffer<SIZE> {
         requires { count ≤ length self.old.items }
         ensures { self.new.items ≡ take count self.old.items }
     {
-        self.front.truncate(count);
-        self.at = count - self.front.len();
+        self.prefix.truncate(count);
+        self.at = count - self.prefix.len();
     }
 
     /// Moves all lines to the front.
@@ -144,7 +144,7 @@ impl<const SIZE: usize> TextBuffer<SIZE> {
     {
         if self.at > 0 {
             let room = &self.room[..];
-            append(&mut self.front, &room[..self.at])?;
+            append(&mut self.prefix, &room[..self.at])?;
             self.at = 0;
         }
         Ok(())
@@ -166,7 +166,7 @@ impl<const SIZE: usize> TextBuffer<SIZE> {
         ensures unchanged { OnErr result (self.new.items ≡ self.old.items) }
     {
         self.settle()?;
-        Ok(mem::replace(&mut self.front, Vec::new(alloc)))
+        Ok(mem::replace(&mut self.prefix, Vec::new(alloc)))
     }
 
     /// Has these lines alone.
@@ -179,7 +179,7 @@ impl<const SIZE: usize> TextBuffer<SIZE> {
     pub fn put_back(&mut self, lines: Vec<u8>)
         ensures { self.new.items ≡ lines.items }
     {
-        self.front = lines;
+        self.prefix = lines;
         self.at = 0;
     }
 
@@ -189,7 +189,7 @@ impl<const SIZE: usize> TextBuffer<SIZE> {
         ensures err { OnErr result (out.new.items ≡ out.old.items) }
     {
         self.settle()?;
-        out.extend_from_slice(&self.front)
+        out.extend_from_slice(&self.prefix)
     }
 
     /// Makes room for so many bytes. What is appended part by part has one such test.
@@ -265,7 +265,7 @@ impl<const SIZE: usize> TextBuffer<SIZE> {
         ensures { AddsText result self.old.items self.new.items bytes.now }
     {
         self.settle()?;
-        append(&mut self.front, bytes)
+        append(&mut self.prefix, bytes)
     }
 
     /// Appends the plain line of a packet. A refused growth leaves the lines as they were.

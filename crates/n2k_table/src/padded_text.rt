@@ -10,10 +10,10 @@ use std::alloc::{AllocError, Global};
 use std::marker::Model;
 
 /// How many bytes are copied at once, for which there has to be room.
-pub(crate) const FRONT_ROOM: usize = 32;
+pub(crate) const PREFIX_ROOM: usize = 32;
 
 /// How many bytes a front has: one more, since a text may be appended without its first byte.
-const FRONT: usize = FRONT_ROOM + 1;
+const PREFIX: usize = PREFIX_ROOM + 1;
 
 /// A text that is appended to many lines. One that is copied at once takes no memory of its own.
 #[derive(Drop)]
@@ -21,7 +21,7 @@ pub(crate) struct PaddedText {
     /// How many bytes it has.
     len: usize,
     /// The bytes and zeros after them, if they have room.
-    front: [u8; FRONT],
+    prefix: [u8; PREFIX],
     /// The bytes, if they are more than are copied at once.
     long: Vec<u8>,
 }
@@ -32,9 +32,9 @@ impl Model for PaddedText {
 
     ghost Value = { List ℕ };
 
-    ghost view = { λ p. padded_text p.len p.front p.long.items };
+    ghost view = { λ p. padded_text p.len p.prefix p.long.items };
 
-    ghost invariant = { λ p. IsPadded p.len p.front p.long.items };
+    ghost invariant = { λ p. IsPadded p.len p.prefix p.long.items };
 }
 
 impl PaddedText {
@@ -44,18 +44,18 @@ impl PaddedText {
     pub(crate) fn new(alloc: Global, text: &[u8]) -> Result<PaddedText, AllocError>
         ensures { IfOk result (λ p. p ≡ text.now) }
     {
-        let mut front = [0; FRONT];
-        if text.len() <= FRONT {
-            front[..text.len()].copy_from_slice(text);
+        let mut prefix = [0; PREFIX];
+        if text.len() <= PREFIX {
+            prefix[..text.len()].copy_from_slice(text);
         }
         let mut long = Vec::new(alloc);
-        if text.len() > FRONT_ROOM {
+        if text.len() > PREFIX_ROOM {
             long.reserve_exact(text.len())?;
             long.extend_from_slice(text)?;
         }
         Ok(PaddedText {
             len: text.len(),
-            front,
+            prefix,
             long,
         })
     }
@@ -77,11 +77,11 @@ impl PaddedText {
         ensures room { OnOk result (line.new.held + more ≤ SIZE) }
     {
         let count = self.len - from;
-        if count > FRONT_ROOM {
+        if count > PREFIX_ROOM {
             line.extend_from_slice(&self.long[from..])?;
             return line.reserve(more);
         }
-        if let Some(wide) = self.front[from..].first_chunk::<FRONT_ROOM>() {
+        if let Some(wide) = self.prefix[from..].first_chunk::<PREFIX_ROOM>() {
             line.write(wide, count);
         }
         Ok(())

@@ -13,7 +13,7 @@ use crate::field_reader::{bit_count, check_end, first_bit, steps_of_sets};
 use crate::fields_reader::read_fields;
 use crate::lookup::Lookups;
 use crate::shown::Fields;
-use crate::string_place::{Step, data_behind};
+use crate::string_place::{Step, data_after};
 use crate::tree::{Holder, MESSAGE_BITS, Section, TableFormat, as_members, check_keys};
 use std::alloc::Global;
 use std::marker::Model;
@@ -28,7 +28,7 @@ pub struct Repeat {
     size: u32,
     /// The strings of the message before the sets, from the first on. The first byte counts from the end of the
     /// last.
-    behind: Vec<Step>,
+    after: Vec<Step>,
     fields: Vec<Field>,
     /// Whether a field of a set is a string.
     has_strings: bool,
@@ -45,7 +45,7 @@ impl Model for Repeat {
     ghost view = { λ r. record {
       at = 8 * r.first;
       bits = 8 * r.size;
-      behind = r.behind.items;
+      after = r.after.items;
       fields = r.fields.items;
     } };
 
@@ -89,7 +89,7 @@ impl Repeat {
     pub fn from_first<'a>(&self, data: &'a [u8]) -> &'a [u8]
         ensures { result.now ≡ from_first self.now «data».now }
     {
-        let rest = data_behind(&self.behind, data).unwrap_or(&[]);
+        let rest = data_after(&self.after, data).unwrap_or(&[]);
         rest.get(self.first as usize..).unwrap_or(&[])
     }
 
@@ -198,8 +198,8 @@ pub(crate) fn read_repeat(
     check_keys(table, Section::Repeat(format))?;
     let at = first_bit(table, 8)?;
     let bits = bit_count(table, 8, least_set_bits(format), MESSAGE_BITS)?;
-    let behind = steps_of_sets(alloc, own, table)?;
-    check_end(&behind, at, bits, MESSAGE_BITS)?;
+    let after = steps_of_sets(alloc, own, table)?;
+    check_end(&after, at, bits, MESSAGE_BITS)?;
     let fields = read_fields(alloc, lookups, format, Holder::Set(bits), table)?;
     let has_strings = any_is_string(&fields);
     if bits == 0 && !has_strings {
@@ -208,7 +208,7 @@ pub(crate) fn read_repeat(
     Ok(Repeat {
         first: at / 8,
         size: bits / 8,
-        behind,
+        after,
         fields,
         has_strings,
     })

@@ -1,6 +1,6 @@
 //! Strings, which contain their own length, and the places after them.
 ghost use Rattle.std.specs.Prelude.{◌≡◌, ◌≤◌, ◌+◌, ◌/◌, drop, option_map};
-ghost use Rattle.n2k_table.specs.Strings.{taken, behind_string, data_behind};
+ghost use Rattle.n2k_table.specs.Strings.{taken, after_string, data_after};
 ghost use Rattle.n2k_table.specs.Tree.{message_bits};
 ghost use Rattle.n2k_table.specs.Inner.Kept.{bytes_needed};
 
@@ -34,8 +34,8 @@ fn taken(form: Form, bytes: &[u8]) -> Option<usize>
 }
 
 /// The bytes after a string that begins with the first of them, if it has an end.
-fn behind_string(form: Form, bytes: &[u8]) -> Option<&[u8]>
-    ensures { option_map (λ rest. rest.now) result ≡ behind_string form bytes.now }
+fn after_string(form: Form, bytes: &[u8]) -> Option<&[u8]>
+    ensures { option_map (λ rest. rest.now) result ≡ after_string form bytes.now }
 {
     let taken = taken(form, bytes)?;
     bytes.get(taken..)
@@ -56,23 +56,23 @@ pub(crate) fn taken_at(form: Form, bytes: &[u8], at: u32) -> Option<usize>
 }
 
 /// The data from where a field's place counts: after the strings before it, if each of these has an end.
-pub(crate) fn data_behind<'a>(steps: &[Step], data: &'a [u8]) -> Option<&'a [u8]>
-    ensures { option_map (λ rest. rest.now) result ≡ data_behind steps.now «data».now }
+pub(crate) fn data_after<'a>(steps: &[Step], data: &'a [u8]) -> Option<&'a [u8]>
+    ensures { option_map (λ rest. rest.now) result ≡ data_after steps.now «data».now }
 {
     let mut rest = data;
     for step in steps {
-        rest = behind_string(step.form, from_bit(rest, step.at))?;
+        rest = after_string(step.form, from_bit(rest, step.at))?;
     }
     Some(rest)
 }
 
 /// How many bytes the data must have for a field to lie inside them. If a string precedes the field, that is more than
 /// any have.
-pub(crate) fn bytes_needed(behind: &[Step], at: u32, bits: u32) -> usize
+pub(crate) fn bytes_needed(after: &[Step], at: u32, bits: u32) -> usize
     requires { at + bits ≤ message_bits }
-    ensures { result ≡ bytes_needed behind.now at bits }
+    ensures { result ≡ bytes_needed after.now at bits }
 {
-    if behind.is_empty() {
+    if after.is_empty() {
         (at + bits + 7) as usize / 8
     } else {
         usize::MAX

@@ -207,7 +207,7 @@ impl Table {
             → option_map (λ d. d.now) result ≡ choice self.now pgn «data».now }
     {
         for candidate in candidates {
-            if candidate.glance.allows(data) {
+            if candidate.match_prefilter.allows(data) {
                 let definition = &self.definitions[candidate.place];
                 if definition.matches(data) {
                     return Some(definition);

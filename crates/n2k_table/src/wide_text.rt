@@ -17,8 +17,8 @@ fn split_unit(bytes: &[u8]) -> Option<(u16, &[u8])>
     ensures { MatchOption result (units bytes.now ≡ [])
         (λ p. (units bytes.now ≡ p.0 ∷ units p.1.now) × (length p.1.now + 2 ≡ length bytes.now)) }
 {
-    let (low, behind) = bytes.split_first()?;
-    let (high, rest) = behind.split_first()?;
+    let (low, after) = bytes.split_first()?;
+    let (high, rest) = after.split_first()?;
     Some((u16::from(*low) + 256 * u16::from(*high), rest))
 }
 
@@ -53,13 +53,13 @@ pub fn split_character(bytes: &[u8]) -> Option<(char, &[u8])>
         (λ p. (utf16_lossy_chars (units bytes.now) ≡ p.0 ∷ utf16_lossy_chars (units p.1.now))
         × (length p.1.now < length bytes.now)) }
 {
-    let (unit, behind) = split_unit(bytes)?;
-    if let Some((next, rest)) = split_unit(behind) {
+    let (unit, after) = split_unit(bytes)?;
+    if let Some((next, rest)) = split_unit(after) {
         if let Some(letter) = pair_character(unit, next) {
             return Some((letter, rest));
         }
     }
-    Some((lone_character(unit), behind))
+    Some((lone_character(unit), after))
 }
 
 /// Appends a character, escaped if necessary.
@@ -78,9 +78,9 @@ fn push_inner_wide<const SIZE: usize>(
     ensures { AddsText result line.old.items line.new.items (flat_map escape_byte (wide_text bytes.now)) }
 {
     let mut rest = bytes;
-    while let Some((letter, behind)) = split_character(rest) {
+    while let Some((letter, after)) = split_character(rest) {
         push_char(letter, line)?;
-        rest = behind;
+        rest = after;
     }
     Ok(())
 }

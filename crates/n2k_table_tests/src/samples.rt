@@ -70,14 +70,14 @@ repeat = { at = 8, bits = 24, fields = [
 
 // Replaces the first occurrence of a part.
 pub(crate) fn replaced(alloc: Global, text: &str, old: &str, new: &str) -> Result<String, Fail> {
-    let (front, back) = text.split_once(old).ok_or("a part of the text")?;
-    Ok(format!(in alloc; "{front}{new}{back}")?)
+    let (prefix, back) = text.split_once(old).ok_or("a part of the text")?;
+    Ok(format!(in alloc; "{prefix}{new}{back}")?)
 }
 
 // Sample 2, with this text at its end.
 pub(crate) fn sample_2(alloc: Global, end: &str) -> Result<String, Fail> {
-    let front = replaced(alloc, SAMPLE, "format = 1", "format = 2")?;
-    Ok(format!(in alloc; "{front}{end}")?)
+    let prefix = replaced(alloc, SAMPLE, "format = 1", "format = 2")?;
+    Ok(format!(in alloc; "{prefix}{end}")?)
 }
 
 /// Sample 2 as a table.

@@ -102,8 +102,8 @@ fn has_lines<R: Abort + AllocGlobal>(rt: &R, lines: &LineBuffer, line: &str, cou
             return;
         }
     }
-    let (front, rest) = lines.parts();
-    assert_eq!(rt; wanted.strip_prefix(front), Some(rest));
+    let (prefix, rest) = lines.parts();
+    assert_eq!(rt; wanted.strip_prefix(prefix), Some(rest));
 }
 
 // Adds lines beyond the room, and takes them out.

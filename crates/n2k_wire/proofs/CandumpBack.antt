@@ -17,7 +17,7 @@ use Rattle.n2k_wire.specs.Digits.{decimal_digit, decimal_after, decimal_number}
 use Rattle.n2k_wire.specs.Entry.{entry, settled}
 use Rattle.n2k_wire.specs.Identifier.{join, split}
 use Rattle.n2k_wire.specs.Packet.{PacketParts, IsPacketParts}
-use Rattle.n2k_wire.specs.Pieces.{cut_at, after_byte, skip_spaces}
+use Rattle.n2k_wire.specs.Cuts.{cut_at, after_byte, skip_spaces}
 use Rattle.n2k_wire.specs.Stamp.{Moment, moment, three_digits, millis_digits, utc_text, utc_moment}
 use Rattle.n2k_wire.specs.Texts.{second_digits, candump_line, candump_parts, candump_text}
 use Rattle.n2k_wire.specs.Inner.Stamp.{IsMoment}
@@ -37,19 +37,19 @@ HasNone p xs = list_all (λ b. not (p b)) xs ≡ true
 head_fails : (p : ℕ → Bool) (b : ℕ) (xs : List ℕ) → HasNone p (b ∷ xs) → (p b ≡ false) × HasNone p xs
 head_fails p b xs none = grind arith
 
-place_behind : (p : ℕ → Bool) (front rest : List ℕ) (b : ℕ) → HasNone p front → p b ≡ true → position_or_len p (front ++ (b ∷ rest)) ≡ length front
-place_behind p [] rest b none passes = rw passes refl
-place_behind p (x ∷ front) rest b none passes = grind (arith, place_behind p front rest b (head_fails p x front none).1 passes)
+place_after : (p : ℕ → Bool) (prefix rest : List ℕ) (b : ℕ) → HasNone p prefix → p b ≡ true → position_or_len p (prefix ++ (b ∷ rest)) ≡ length prefix
+place_after p [] rest b none passes = rw passes refl
+place_after p (x ∷ prefix) rest b none passes = grind (arith, place_after p prefix rest b (head_fails p x prefix none).1 passes)
 
-found_behind : (p : ℕ → Bool) (front rest : List ℕ) (b : ℕ) → HasNone p front → p b ≡ true → position p (front ++ (b ∷ rest)) ≡ Some (length front)
-found_behind p front rest b none passes = grind (arith, place_behind, length-append)
+found_after : (p : ℕ → Bool) (prefix rest : List ℕ) (b : ℕ) → HasNone p prefix → p b ≡ true → position p (prefix ++ (b ∷ rest)) ≡ Some (length prefix)
+found_after p prefix rest b none passes = grind (arith, place_after, length-append)
 
-pub cut_behind : (separator : ℕ) (front rest : List ℕ) → HasNone (λ b. b == separator) front → cut_at separator (front ++ (separator ∷ rest)) ≡ Some (front, rest)
+pub cut_after : (separator : ℕ) (prefix rest : List ℕ) → HasNone (λ b. b == separator) prefix → cut_at separator (prefix ++ (separator ∷ rest)) ≡ Some (prefix, rest)
 unfolding cut_at
-cut_behind separator front rest none =
+cut_after separator prefix rest none =
     let same : (separator == separator) ≡ true = eq-eqb separator separator refl in
-    let after : drop (length front + 1) (front ++ (separator ∷ rest)) ≡ rest = drop-append-add front (separator ∷ rest) 1 in
-    rw (found_behind (λ b. b == separator) front rest separator none same, take-append_seam front (separator ∷ rest), after) refl
+    let after : drop (length prefix + 1) (prefix ++ (separator ∷ rest)) ≡ rest = drop-append-add prefix (separator ∷ rest) 1 in
+    rw (found_after (λ b. b == separator) prefix rest separator none same, take-append_seam prefix (separator ∷ rest), after) refl
 
 -- a text that begins with no space
 no_space : (b : ℕ) (rest : List ℕ) → (b == 32) ≡ false → skip_spaces (b ∷ rest) ≡ Some (b ∷ rest)
@@ -120,7 +120,7 @@ is_other p c none b some = elim (cases_Bool (b == c)) [ inl same ↦ absurd (let
 -- the text between the parentheses is read as the moment
 moment_read : (seen : Moment) → IsMoment seen → moment (second_digits seen.seconds ++ (46 ∷ (millis_digits seen.millis ++ codes "000"))) ≡ Some seen
 unfolding moment three_digits
-moment_read seen fits = grind (arith, number_is 12 seen.seconds (second_digits seen.seconds) (length-seconds seen.seconds fits.seconds_fit).0 (length-seconds seen.seconds fits.seconds_fit).1 (seconds_after seen.seconds fits.seconds_fit), number_is 9 (10 * (10 * (10 * seen.millis + 0) + 0) + 0) (millis_digits seen.millis ++ codes "000") (omega arith) (omega arith) (fraction_after seen.millis fits.millis_fit), number_is 3 seen.millis (millis_digits seen.millis) (omega arith) (omega arith) (millis_after seen.millis [] fits.millis_fit ∙ after-none seen.millis), cut_behind 46 (second_digits seen.seconds) (millis_digits seen.millis ++ codes "000") (none_of is_ascii_digit (λ b. b == 46) (is_other is_ascii_digit 46 refl) (second_digits seen.seconds) (digits_alone 0 seen.seconds (second_digits seen.seconds) (seconds_after seen.seconds fits.seconds_fit))))
+moment_read seen fits = grind (arith, number_is 12 seen.seconds (second_digits seen.seconds) (length-seconds seen.seconds fits.seconds_fit).0 (length-seconds seen.seconds fits.seconds_fit).1 (seconds_after seen.seconds fits.seconds_fit), number_is 9 (10 * (10 * (10 * seen.millis + 0) + 0) + 0) (millis_digits seen.millis ++ codes "000") (omega arith) (omega arith) (fraction_after seen.millis fits.millis_fit), number_is 3 seen.millis (millis_digits seen.millis) (omega arith) (omega arith) (millis_after seen.millis [] fits.millis_fit ∙ after-none seen.millis), cut_after 46 (second_digits seen.seconds) (millis_digits seen.millis ++ codes "000") (none_of is_ascii_digit (λ b. b == 46) (is_other is_ascii_digit 46 refl) (second_digits seen.seconds) (digits_alone 0 seen.seconds (second_digits seen.seconds) (seconds_after seen.seconds fits.seconds_fit))))
 
 -- ---- hexadecimal digits
 
@@ -141,13 +141,13 @@ upper_hexes (b ∷ bytes) ok =
 no_hex_in : (c : ℕ) → is_ascii_hexdigit c ≡ false → (text : List ℕ) → list_all is_ascii_hexdigit text ≡ true → HasNone (λ b. b == c) text
 no_hex_in c other text all = none_of is_ascii_hexdigit (λ b. b == c) (is_other is_ascii_hexdigit c other) text all
 
-pub framed_read : (name digits behind : List ℕ) → is_interface name ≡ true → 0 < length digits → list_all is_ascii_hexdigit digits ≡ true
-    → framed (32 ∷ (name ++ (32 ∷ (digits ++ (35 ∷ behind))))) ≡ Some (digits, behind)
+pub framed_read : (name digits after : List ℕ) → is_interface name ≡ true → 0 < length digits → list_all is_ascii_hexdigit digits ≡ true
+    → framed (32 ∷ (name ++ (32 ∷ (digits ++ (35 ∷ after))))) ≡ Some (digits, after)
 unfolding framed after_byte
-framed_read name digits behind ok some hex =
+framed_read name digits after ok some hex =
     let parts = name_parts name ok in
     let none = none_of is_interface_byte (λ b. b == 32) (is_other is_interface_byte 32 refl) name parts.2 in
-    rw (no_space_in_front name (32 ∷ (digits ++ (35 ∷ behind))) parts.0 none, cut_behind 32 name (digits ++ (35 ∷ behind)) none, ok, no_space_in_front digits (35 ∷ behind) some (no_hex_in 32 refl digits hex), cut_behind 35 digits behind (no_hex_in 35 refl digits hex)) refl
+    rw (no_space_in_front name (32 ∷ (digits ++ (35 ∷ after))) parts.0 none, cut_after 32 name (digits ++ (35 ∷ after)) none, ok, no_space_in_front digits (35 ∷ after) some (no_hex_in 32 refl digits hex), cut_after 35 digits after (no_hex_in 35 refl digits hex)) refl
 
 word_bytes : (n : ℕ) → IsBytes (to_be_bytes w32 n)
 word_bytes n zero = omega arith
@@ -183,35 +183,35 @@ frame_read seen n bytes ok short = rw (no_other_frame (encode_upper bytes) (uppe
 stamped_read : (seen : Moment) (rest : List ℕ) → IsMoment seen
     → stamped (40 ∷ ((second_digits seen.seconds ++ (46 ∷ (millis_digits seen.millis ++ codes "000"))) ++ (41 ∷ rest))) ≡ Some (second_digits seen.seconds ++ (46 ∷ (millis_digits seen.millis ++ codes "000")), rest)
 unfolding stamped after_byte
-stamped_read seen rest fits = grind (arith, none_of is_ascii_digit (λ b. b == 41) (is_other is_ascii_digit 41 refl) (second_digits seen.seconds) (digits_alone 0 seen.seconds (second_digits seen.seconds) (seconds_after seen.seconds fits.seconds_fit)), list_all-append (λ b. not (b == 41)) (second_digits seen.seconds) (46 ∷ (millis_digits seen.millis ++ codes "000")), cut_behind)
+stamped_read seen rest fits = grind (arith, none_of is_ascii_digit (λ b. b == 41) (is_other is_ascii_digit 41 refl) (second_digits seen.seconds) (digits_alone 0 seen.seconds (second_digits seen.seconds) (seconds_after seen.seconds fits.seconds_fit)), list_all-append (λ b. not (b == 41)) (second_digits seen.seconds) (46 ∷ (millis_digits seen.millis ++ codes "000")), cut_after)
 
-grouped : (seconds millis name digits behind : List ℕ)
-    → (codes "(" ++ seconds ++ codes "." ++ millis ++ codes "000) " ++ name ++ codes " " ++ digits ++ codes "#" ++ behind)
-    ≡ 40 ∷ ((seconds ++ (46 ∷ (millis ++ codes "000"))) ++ (41 ∷ (32 ∷ (name ++ (32 ∷ (digits ++ (35 ∷ behind)))))))
-grouped seconds millis name digits behind = simp append_assoc
+grouped : (seconds millis name digits after : List ℕ)
+    → (codes "(" ++ seconds ++ codes "." ++ millis ++ codes "000) " ++ name ++ codes " " ++ digits ++ codes "#" ++ after)
+    ≡ 40 ∷ ((seconds ++ (46 ∷ (millis ++ codes "000"))) ++ (41 ∷ (32 ∷ (name ++ (32 ∷ (digits ++ (35 ∷ after)))))))
+grouped seconds millis name digits after = simp append_assoc
 
 -- a line that begins as candump's do
 pub candump_entry : (rest : List ℕ) (packing : Packing) → length (40 ∷ rest) ≤ 2048 → entry (40 ∷ rest) packing ≡ settled (candump (40 ∷ rest))
 unfolding entry
 candump_entry rest packing short = grind arith
 
-candump_by : (line outer text digits behind : List ℕ) (seen : Moment) (n : ℕ) (found : Entry) → stamped line ≡ Some (outer, text) → moment outer ≡ Some seen → framed text ≡ Some (digits, behind)
-    → identifier digits ≡ Ok (Some n) → frame_or_skip seen (Some n) behind ≡ Ok found → candump line ≡ Ok found
+candump_by : (line outer text digits after : List ℕ) (seen : Moment) (n : ℕ) (found : Entry) → stamped line ≡ Some (outer, text) → moment outer ≡ Some seen → framed text ≡ Some (digits, after)
+    → identifier digits ≡ Ok (Some n) → frame_or_skip seen (Some n) after ≡ Ok found → candump line ≡ Ok found
 unfolding candump
-candump_by line outer text digits behind seen n found es em ef ei er = rw (es, em, ef, ei, er) refl
+candump_by line outer text digits after seen n found es em ef ei er = rw (es, em, ef, ei, er) refl
 
 module _ (p : PacketParts) (name : List ℕ) (packing : Packing) (seen : Moment) (n : ℕ) (ok : IsPacketParts p) (short : length p.payload ≤ 8) (named : is_interface name ≡ true) (stamp : utc_moment p.stamp ≡ Some seen) (joined : join p.id ≡ Some n) where
   abbrev digits : List ℕ
   digits = encode_upper (to_be_bytes w32 n)
 
-  abbrev behind : List ℕ
-  behind = encode_upper p.payload
+  abbrev after : List ℕ
+  after = encode_upper p.payload
 
   abbrev outer : List ℕ
   outer = second_digits seen.seconds ++ (46 ∷ (millis_digits seen.millis ++ codes "000"))
 
   abbrev text : List ℕ
-  text = 32 ∷ (name ++ (32 ∷ (digits ++ (35 ∷ behind))))
+  text = 32 ∷ (name ++ (32 ∷ (digits ++ (35 ∷ after))))
 
   line_is : candump_line name seen n p.payload ≡ 40 ∷ (outer ++ (41 ∷ text))
   unfolding candump_line

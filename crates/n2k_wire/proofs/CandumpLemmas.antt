@@ -14,7 +14,7 @@ use Rattle.n2k_wire.specs.declared.fault.WireFault.TheVariants.{NoStamp, NoId, M
 use Rattle.n2k_wire.specs.Identifier.{join}
 use Rattle.n2k_wire.specs.Packet.{PacketParts}
 use Rattle.n2k_wire.specs.Inner.Digits.{AreDigitsOf}
-use Rattle.n2k_wire.specs.Inner.Stamp.{IsStampText, behind_millis, second_front}
+use Rattle.n2k_wire.specs.Inner.Stamp.{IsStampText, after_millis, second_prefix}
 use Rattle.n2k_wire.specs.Stamp.{Moment, millis_digits, utc_moment}
 use Rattle.n2k_wire.specs.Texts.{Appends, candump_line, candump_parts, candump_text}
 
@@ -50,8 +50,8 @@ pub digits_put : (text digits bytes : List ℕ) (at k end : ℕ) → digits ≡ 
 digits_put text digits bytes at k end same is inside =
     take-put_mid at k text digits end (is ∙ ap (λ n. at + n) (sym (ap length same ∙ upper_len bytes))) inside ∙ ap (λ (t : List ℕ). take at text ++ t) same
 
-pub behind_short : (interface : List ℕ) → IsTrue (is_interface interface) → length (behind_millis interface) ≤ 21
-behind_short interface ok = omega (arith, interface_short interface ok, length-append interface (codes " "))
+pub after_short : (interface : List ℕ) → IsTrue (is_interface interface) → length (after_millis interface) ≤ 21
+after_short interface ok = omega (arith, interface_short interface ok, length-append interface (codes " "))
 
 -- ---- why a packet has no line, and the line that it has
 
@@ -69,17 +69,17 @@ no_memory interface begun digits p old new (seen, found, is) (identifier, joined
 
 -- the line of a moment, an identifier and data, by how it begins
 abbrev line_of : List ℕ → List ℕ → ℕ → List ℕ → List ℕ
-line_of begun behind identifier payload = begun ++ behind ++ encode_upper (to_be_bytes w32 identifier) ++ codes "#" ++ encode_upper payload ++ codes "\n"
+line_of begun after identifier payload = begun ++ after ++ encode_upper (to_be_bytes w32 identifier) ++ codes "#" ++ encode_upper payload ++ codes "\n"
 
-line_is : (interface begun : List ℕ) (seen : Moment) (identifier : ℕ) (payload : List ℕ) → begun ≡ second_front seen.seconds ++ millis_digits seen.millis
-    → line_of begun (behind_millis interface) identifier payload ≡ candump_line interface seen identifier payload ++ codes "\n"
+line_is : (interface begun : List ℕ) (seen : Moment) (identifier : ℕ) (payload : List ℕ) → begun ≡ second_prefix seen.seconds ++ millis_digits seen.millis
+    → line_of begun (after_millis interface) identifier payload ≡ candump_line interface seen identifier payload ++ codes "\n"
 unfolding candump_line
 line_is interface begun seen identifier payload is = rw is (simp append_assoc)
 
 -- A line that was written after the old text, with the unused room after it cut off, is the packet's.
-pub appended : (interface front millis behind digits : List ℕ) (p : PacketParts) (payload old room written rest cut : List ℕ) (at n all : ℕ)
-    → IsStampText (utc_moment p.stamp) (front ++ millis) → AreDigitsOf p.id digits → behind ≡ behind_millis interface → payload ≡ p.payload
-    → take n written ≡ take at room ++ (front ++ millis ++ behind ++ take 8 digits ++ codes "#" ++ encode_upper payload ++ codes "\n") → take at room ≡ old
+pub appended : (interface prefix millis after digits : List ℕ) (p : PacketParts) (payload old room written rest cut : List ℕ) (at n all : ℕ)
+    → IsStampText (utc_moment p.stamp) (prefix ++ millis) → AreDigitsOf p.id digits → after ≡ after_millis interface → payload ≡ p.payload
+    → take n written ≡ take at room ++ (prefix ++ millis ++ after ++ take 8 digits ++ codes "#" ++ encode_upper payload ++ codes "\n") → take at room ≡ old
     → cut ≡ take n (take all (written ++ rest)) → length written ≡ all → Appends (candump_text interface p) (Ok tt) old cut
 unfolding candump_parts
-appended interface front millis behind digits p payload old room written rest cut at n all (seen, found, is) (identifier, joined, digits_is) behind_is payload_is line before cut_is long = grind (arith, take_at, line_is)
+appended interface prefix millis after digits p payload old room written rest cut at n all (seen, found, is) (identifier, joined, digits_is) after_is payload_is line before cut_is long = grind (arith, take_at, line_is)

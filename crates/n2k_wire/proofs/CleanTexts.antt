@@ -7,7 +7,7 @@ use Rattle.std.proofs.lemmas.List.Elements.{All-nil, All-cons, All-append, All-w
 use Rattle.std.proofs.lemmas.List.Sums.{AllPass-from_list_all}
 use Rattle.hex.specs.Hex.{lower_digits, encode_with, IsBytes}
 use Rattle.n2k_wire.specs.Packet.{PacketParts, IsPacketParts, is_printable, is_stamp_byte, starts_stamp}
-use Rattle.n2k_wire.specs.Texts.{byte_piece, number_piece, plain_line}
+use Rattle.n2k_wire.specs.Texts.{byte_column, number_column, plain_line}
 
 abbrev IsClean : List ℕ → Type 0
 IsClean bytes = All (λ b. 32 ≤ b) bytes
@@ -21,18 +21,18 @@ onward xs ys = All-append (λ b. 32 ≤ b) xs ys
 figure : (d : ℕ) → IsClean ((48 + d) ∷ [])
 figure d = more (48 + d) [] (omega arith) (All-nil (λ b. 32 ≤ b))
 
-clean-number : (n : ℕ) → n < 2 ^ 64 → IsClean (number_piece n)
-clean-number n wide = more 44 (decimal n) (omega arith) (decimal_by_steps (λ k text. IsClean text) (λ k small. figure k) (λ k text large front. onward text ((48 + k % 10) ∷ []) front (figure (k % 10))) n wide)
+clean-number : (n : ℕ) → n < 2 ^ 64 → IsClean (number_column n)
+clean-number n wide = more 44 (decimal n) (omega arith) (decimal_by_steps (λ k text. IsClean text) (λ k small. figure k) (λ k text large prefix. onward text ((48 + k % 10) ∷ []) prefix (figure (k % 10))) n wide)
 
 digit : (d : ℕ) → d < 16 → 32 ≤ slice_index lower_digits d
 digit d small = leb-true 32 _ (agree_below_at (λ k. leb 32 (slice_index lower_digits k)) (λ k. true) 16 d refl small)
 
-clean-bytes : (bytes : List ℕ) → IsBytes bytes → IsClean (flat_map byte_piece bytes)
+clean-bytes : (bytes : List ℕ) → IsBytes bytes → IsClean (flat_map byte_column bytes)
 unfolding encode_with
 clean-bytes [] are = All-nil (λ b. 32 ≤ b)
 clean-bytes (b ∷ bytes) are =
     let small : b < 256 = are 0 in
-    let rest = flat_map byte_piece bytes in
+    let rest = flat_map byte_column bytes in
     let low = more (slice_index lower_digits (b % 16)) rest (digit (b % 16) (omega arith)) (clean-bytes bytes (λ i. are (suc i))) in
     more 44 (slice_index lower_digits (b / 16) ∷ slice_index lower_digits (b % 16) ∷ rest) (omega arith) (more (slice_index lower_digits (b / 16)) (slice_index lower_digits (b % 16) ∷ rest) (digit (b / 16) (omega arith)) low)
 

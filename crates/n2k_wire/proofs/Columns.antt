@@ -4,7 +4,7 @@ use Rattle.std.specs.List.{position_or_len, slice_split, onto_first}
 use Rattle.std.proofs.lemmas.Bool.{cases_Bool}
 use Rattle.std.proofs.lemmas.List.Sums.{prefix_len-le-length}
 use Rattle.std.proofs.lemmas.List.Splits.{slice_split-cons_no, slice_split_first}
-use Rattle.n2k_wire.specs.Pieces.{cut_at}
+use Rattle.n2k_wire.specs.Cuts.{cut_at}
 
 -- a byte that is not found
 pub none_found : (p : ℕ → Bool) (xs : List ℕ) → None ≡ position p xs → length xs ≡ position_or_len p xs

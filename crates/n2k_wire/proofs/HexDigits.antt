@@ -54,10 +54,10 @@ all_before p (b ∷ text) =
       | inr fails ↦ rw fails refl
     ]
 
-pub all_front : (p : ℕ → Bool) (n : ℕ) (text : List ℕ) → list_all p text ≡ true → list_all p (take n text) ≡ true
-all_front p zero text all = refl
-all_front p (suc n) [] all = refl
-all_front p (suc n) (b ∷ text) all = grind (arith, all_front p n text (and_parts (p b) (list_all p text) all).1)
+pub all_prefix : (p : ℕ → Bool) (n : ℕ) (text : List ℕ) → list_all p text ≡ true → list_all p (take n text) ≡ true
+all_prefix p zero text all = refl
+all_prefix p (suc n) [] all = refl
+all_prefix p (suc n) (b ∷ text) all = grind (arith, all_prefix p n text (and_parts (p b) (list_all p text) all).1)
 
 -- one byte more is looked at
 pub all_more : (p : ℕ → Bool) (bytes : List ℕ) (i : ℕ) (so_far : Bool) → i < length bytes → (so_far && list_all p (drop i bytes)) ≡ list_all p bytes

@@ -17,12 +17,12 @@ use Rattle.n2k_wire.specs.declared.identifier.Id.{Id}
 use Rattle.n2k_wire.specs.Digits.{decimal_number}
 use Rattle.n2k_wire.specs.Entry.{entry}
 use Rattle.n2k_wire.specs.Packet.{is_stamp, is_stamp_byte, starts_stamp}
-use Rattle.n2k_wire.specs.Pieces.{after_byte}
+use Rattle.n2k_wire.specs.Cuts.{after_byte}
 use Rattle.n2k_wire.specs.Plain.{bytes_of, header, id_of, number_to, packet_of, pairs, columns, plain_packet}
 use Rattle.n2k_wire.specs.Inner.Digits.{hex_value}
 use Rattle.n2k_wire.specs.Inner.Plain.{AreRead, AreSpelled, IsIdBefore, IsNumberBefore, IsPackedOf, with_commas}
 use Rattle.n2k_wire.proofs.CandumpBack.{is_other}
-use Rattle.n2k_wire.proofs.HexDigits.{all_front, pair_spelled, spelled, spelled_bytes}
+use Rattle.n2k_wire.proofs.HexDigits.{all_prefix, pair_spelled, spelled, spelled_bytes}
 use Rattle.n2k_wire.proofs.PlainTexts.{partly}
 use Rattle.n2k_wire.proofs.PlainLemmas.{bytes_of-pairs, regroup}
 use Rattle.n2k_wire.proofs.ReadBack.{HasNoComma, last_column, next_column, plain_entry, stamp_parts}
@@ -31,11 +31,11 @@ use Rattle.n2k_wire.proofs.FastStamps.{follows, number_digits}
 
 -- ---- the stamp
 
-pub line_parts : (n : ℕ) (line stamp behind text : List ℕ) → stamp ≡ take n line → behind ≡ drop n line → after_byte 44 behind ≡ Some text → line ≡ stamp ++ (44 ∷ text)
-line_parts n line stamp behind text stamp_is behind_is comma = grind (arith, follows, take-append-drop)
+pub line_parts : (n : ℕ) (line stamp after text : List ℕ) → stamp ≡ take n line → after ≡ drop n line → after_byte 44 after ≡ Some text → line ≡ stamp ++ (44 ∷ text)
+line_parts n line stamp after text stamp_is after_is comma = grind (arith, follows, take-append-drop)
 
-pub is_found : (n : ℕ) (line front stamp : List ℕ) → front ≡ take 32 line → stamp ≡ take n line → n ≤ 32 → length stamp ≡ n → list_all is_stamp_byte (take n front) ≡ true → starts_stamp stamp ≡ true → IsTrue (is_stamp stamp)
-is_found n line front stamp front_is stamp_is few long all starts = grind (arith, take-take n 32 line few)
+pub is_found : (n : ℕ) (line prefix stamp : List ℕ) → prefix ≡ take 32 line → stamp ≡ take n line → n ≤ 32 → length stamp ≡ n → list_all is_stamp_byte (take n prefix) ≡ true → starts_stamp stamp ≡ true → IsTrue (is_stamp stamp)
+is_found n line prefix stamp prefix_is stamp_is few long all starts = grind (arith, take-take n 32 line few)
 
 -- ---- numbers
 
@@ -48,14 +48,14 @@ no_comma_among : (column : List ℕ) → list_all is_ascii_digit column ≡ true
 no_comma_among column all = All-weaker (λ b. is_ascii_digit b ≡ true) (λ b. (b == 44) ≡ false) (is_other is_ascii_digit 44 refl) column (AllPass-from_list_all is_ascii_digit column all)
 
 -- digits before a comma are a column
-pub numbered : (limit n : ℕ) (text column behind rest : List ℕ) → column ++ behind ≡ text → after_byte 44 behind ≡ Some rest → number_to limit column ≡ Some n → IsNumberBefore limit text n rest
-numbered limit n text column behind rest whole comma found = grind (arith, follows, no_comma_among, read_digits, next_column)
+pub numbered : (limit n : ℕ) (text column after rest : List ℕ) → column ++ after ≡ text → after_byte 44 after ≡ Some rest → number_to limit column ≡ Some n → IsNumberBefore limit text n rest
+numbered limit n text column after rest whole comma found = grind (arith, follows, no_comma_among, read_digits, next_column)
 
 -- ---- columns that were read
 
 -- columns read before, and then more
-pub read_more : (all next rest : List (List ℕ)) (front bytes : List ℕ) → AreRead all front next → AreRead next bytes rest → AreRead all (front ++ bytes) rest
-read_more all next rest front bytes a b = grind (arith, length-append, regroup)
+pub read_more : (all next rest : List (List ℕ)) (prefix bytes : List ℕ) → AreRead all prefix next → AreRead next bytes rest → AreRead all (prefix ++ bytes) rest
+read_more all next rest prefix bytes a b = grind (arith, length-append, regroup)
 
 -- all were read
 pub all_read : (all : List (List ℕ)) (bytes : List ℕ) → AreRead all bytes [] → bytes_of (length bytes) all ≡ Some bytes
@@ -105,12 +105,12 @@ digits_read n (a ∷ b ∷ c ∷ rest) text more ends all e =
     (digits_read (n - 1) (c ∷ rest) text more ends eb.1 (omega arith))
 
 -- eight columns and the text after them
-eight_read : (text bytes behind : List ℕ) (more : List (List ℕ)) → AreSpelled text bytes → Follow behind more → AreRead (columns (text ++ behind)) bytes more
-eight_read text bytes behind more is ends = grind (arith, spelled_bytes 8 is.digits bytes is.hexadecimal is.count is.bytes_are, digits_read 7 is.digits behind more ends is.hexadecimal is.count)
+eight_read : (text bytes after : List ℕ) (more : List (List ℕ)) → AreSpelled text bytes → Follow after more → AreRead (columns (text ++ after)) bytes more
+eight_read text bytes after more is ends = grind (arith, spelled_bytes 8 is.digits bytes is.hexadecimal is.count is.bytes_are, digits_read 7 is.digits after more ends is.hexadecimal is.count)
 
 -- a comma and more columns follow
-pub read_before : (text chunk bytes behind rest : List ℕ) → AreSpelled chunk bytes → text ≡ chunk ++ behind → after_byte 44 behind ≡ Some rest → AreRead (columns text) bytes (columns rest)
-read_before text chunk bytes behind rest is whole comma = grind (arith, eight_read chunk bytes behind (columns rest) is (λ column alone. ap (λ t. columns (column ++ t)) (follows 44 behind rest comma) ∙ next_column column rest alone))
+pub read_before : (text chunk bytes after rest : List ℕ) → AreSpelled chunk bytes → text ≡ chunk ++ after → after_byte 44 after ≡ Some rest → AreRead (columns text) bytes (columns rest)
+read_before text chunk bytes after rest is whole comma = grind (arith, eight_read chunk bytes after (columns rest) is (λ column alone. ap (λ t. columns (column ++ t)) (follows 44 after rest comma) ∙ next_column column rest alone))
 
 nothing_more : Follow [] []
 nothing_more column alone = ap columns (append-nil column) ∙ last_column column alone
@@ -126,37 +126,37 @@ three_more : (j : ℕ) → 3 * suc j ≡ suc (suc (suc (3 * j)))
 three_more j = omega arith
 
 -- the first columns, and their bytes
-front_columns : (j : ℕ) (digits : List ℕ) → take (suc (suc (3 * j))) (with_commas digits) ≡ with_commas (take (suc (suc (2 * j))) digits)
+prefix_columns : (j : ℕ) (digits : List ℕ) → take (suc (suc (3 * j))) (with_commas digits) ≡ with_commas (take (suc (suc (2 * j))) digits)
 unfolding with_commas
-front_columns zero [] = refl
-front_columns zero (a ∷ []) = refl
-front_columns zero (a ∷ b ∷ []) = refl
-front_columns zero (a ∷ b ∷ c ∷ more) = refl
-front_columns (suc j) [] = refl
-front_columns (suc j) (a ∷ []) = refl
-front_columns (suc j) (a ∷ b ∷ []) = rw (three_more j, two_more j) refl
-front_columns (suc j) (a ∷ b ∷ c ∷ more) = rw (three_more j, two_more j) (ap (λ (t : List ℕ). a ∷ b ∷ 44 ∷ t) (front_columns j (c ∷ more)))
+prefix_columns zero [] = refl
+prefix_columns zero (a ∷ []) = refl
+prefix_columns zero (a ∷ b ∷ []) = refl
+prefix_columns zero (a ∷ b ∷ c ∷ more) = refl
+prefix_columns (suc j) [] = refl
+prefix_columns (suc j) (a ∷ []) = refl
+prefix_columns (suc j) (a ∷ b ∷ []) = rw (three_more j, two_more j) refl
+prefix_columns (suc j) (a ∷ b ∷ c ∷ more) = rw (three_more j, two_more j) (ap (λ (t : List ℕ). a ∷ b ∷ 44 ∷ t) (prefix_columns j (c ∷ more)))
 
-front_spelled : (j : ℕ) (digits : List ℕ) → spelled (take (suc (suc (2 * j))) digits) ≡ take (suc j) (spelled digits)
+prefix_spelled : (j : ℕ) (digits : List ℕ) → spelled (take (suc (suc (2 * j))) digits) ≡ take (suc j) (spelled digits)
 unfolding spelled
-front_spelled zero [] = refl
-front_spelled zero (a ∷ []) = refl
-front_spelled zero (a ∷ b ∷ more) = refl
-front_spelled (suc j) [] = refl
-front_spelled (suc j) (a ∷ []) = refl
-front_spelled (suc j) (a ∷ b ∷ more) = rw (two_more j) (ap (λ (t : List ℕ). (hex_value a * 16 + hex_value b) ∷ t) (front_spelled j more))
+prefix_spelled zero [] = refl
+prefix_spelled zero (a ∷ []) = refl
+prefix_spelled zero (a ∷ b ∷ more) = refl
+prefix_spelled (suc j) [] = refl
+prefix_spelled (suc j) (a ∷ []) = refl
+prefix_spelled (suc j) (a ∷ b ∷ more) = rw (two_more j) (ap (λ (t : List ℕ). (hex_value a * 16 + hex_value b) ∷ t) (prefix_spelled j more))
 
 -- the text is the first of eight columns
 pub read_last : (text padded bytes : List ℕ) (count : ℕ) → AreSpelled padded bytes → take (length text) padded ≡ text → length text + 1 ≡ 3 * count → 1 ≤ count → count ≤ 8 → AreRead (columns text) (take count bytes) []
-read_last text padded bytes zero is front_is long some few = absurd (omega arith)
-read_last text padded bytes (suc j) is front_is long some few =
-    let front = take (suc (suc (2 * j))) is.digits in
+read_last text padded bytes zero is prefix_is long some few = absurd (omega arith)
+read_last text padded bytes (suc j) is prefix_is long some few =
+    let prefix = take (suc (suc (2 * j))) is.digits in
     let len : length text ≡ suc (suc (3 * j)) = omega arith in
-    let text_is : with_commas front ≡ text = sym (ap (take (suc (suc (3 * j)))) is.text_is ∙ front_columns j is.digits) ∙ (rw len at front_is) in
-    let same : spelled front ≡ take (suc j) bytes = front_spelled j is.digits ∙ ap (take (suc j)) (spelled_bytes 8 is.digits bytes is.hexadecimal is.count is.bytes_are) in
-    let two : length front ≡ 2 * suc j = length-take-le (suc (suc (2 * j))) is.digits (omega (arith, is.count)) ∙ omega arith in
-    let read = digits_read j front [] [] nothing_more (all_front is_ascii_hexdigit (suc (suc (2 * j))) is.digits is.hexadecimal) two in
-    subst (λ t. AreRead (columns t) (take (suc j) bytes) []) (append-nil (with_commas front) ∙ text_is) (subst (λ bs. AreRead (columns (with_commas front ++ [])) bs []) same read)
+    let text_is : with_commas prefix ≡ text = sym (ap (take (suc (suc (3 * j)))) is.text_is ∙ prefix_columns j is.digits) ∙ (rw len at prefix_is) in
+    let same : spelled prefix ≡ take (suc j) bytes = prefix_spelled j is.digits ∙ ap (take (suc j)) (spelled_bytes 8 is.digits bytes is.hexadecimal is.count is.bytes_are) in
+    let two : length prefix ≡ 2 * suc j = length-take-le (suc (suc (2 * j))) is.digits (omega (arith, is.count)) ∙ omega arith in
+    let read = digits_read j prefix [] [] nothing_more (all_prefix is_ascii_hexdigit (suc (suc (2 * j))) is.digits is.hexadecimal) two in
+    subst (λ t. AreRead (columns t) (take (suc j) bytes) []) (append-nil (with_commas prefix) ∙ text_is) (subst (λ bs. AreRead (columns (with_commas prefix ++ [])) bs []) same read)
 
 -- ---- by their places
 
@@ -196,19 +196,19 @@ eight_spelled text bytes long commas hex decoded =
 -- ---- the line
 
 -- the packet of a line, by its parts
-packet_read : (line stamp text behind rest payload : List ℕ) (id : Id) (n : ℕ) → line ≡ stamp ++ (44 ∷ text) → IsTrue (is_stamp stamp) → IsIdBefore text id behind → IsNumberBefore 223 behind n rest → bytes_of n (columns rest) ≡ Some payload
+packet_read : (line stamp text after rest payload : List ℕ) (id : Id) (n : ℕ) → line ≡ stamp ++ (44 ∷ text) → IsTrue (is_stamp stamp) → IsIdBefore text id after → IsNumberBefore 223 after n rest → bytes_of n (columns rest) ≡ Some payload
     → plain_packet line ≡ Ok (record { stamp = stamp; id = id; payload = payload })
 unfolding packet_of header id_of
-packet_read line stamp text behind rest payload id n line_is ok (pgn, src, dst, first, second, third, fourth) len bytes = grind (arith, next_column, stamp_parts)
+packet_read line stamp text after rest payload id n line_is ok (pgn, src, dst, first, second, third, fourth) len bytes = grind (arith, next_column, stamp_parts)
 
 -- the entry of a line, by its parts and its data
-pub entry_read : (packing : Packing) (line stamp text behind rest : List ℕ) (id : Id) (n : ℕ) (e : Entry) → line ≡ stamp ++ (44 ∷ text) → length line ≤ 2048 → IsTrue (is_stamp stamp) → IsIdBefore text id behind → IsNumberBefore 223 behind n rest
+pub entry_read : (packing : Packing) (line stamp text after rest : List ℕ) (id : Id) (n : ℕ) (e : Entry) → line ≡ stamp ++ (44 ∷ text) → length line ≤ 2048 → IsTrue (is_stamp stamp) → IsIdBefore text id after → IsNumberBefore 223 after n rest
     → (bytes : Option (List ℕ)) → bytes_of n (columns rest) ≡ bytes → IsPackedOf packing stamp id bytes e → e ≡ entry line packing
-entry_read packing line stamp text behind rest id n e line_is short ok is len None read made = absurd cc
-entry_read packing line stamp text behind rest id n e line_is short ok is len (Some payload) read made = grind (arith, packet_read line stamp text behind rest payload id n line_is ok is len read, plain_entry)
+entry_read packing line stamp text after rest id n e line_is short ok is len None read made = absurd cc
+entry_read packing line stamp text after rest id n e line_is short ok is len (Some payload) read made = grind (arith, packet_read line stamp text after rest payload id n line_is ok is len read, plain_entry)
 
 -- the frame of a line with eight bytes of data
-pub frame_line : (line stamp text behind rest eight bytes : List ℕ) (id : Id) (e : Entry) → line ≡ stamp ++ (44 ∷ text) → length line ≤ 2048 → IsTrue (is_stamp stamp) → IsIdBefore text id behind → IsNumberBefore 223 behind 8 rest
+pub frame_line : (line stamp text after rest eight bytes : List ℕ) (id : Id) (e : Entry) → line ≡ stamp ++ (44 ∷ text) → length line ≤ 2048 → IsTrue (is_stamp stamp) → IsIdBefore text id after → IsNumberBefore 223 after 8 rest
     → eight ≡ rest → AreSpelled eight bytes → length bytes ≡ 8 → e ≡ entries.Frame (record { stamp = stamp; id = id; payload = bytes }) → e ≡ entry line packings.Frames
-frame_line line stamp text behind rest eight bytes id e line_is short ok is len eight_is are long made =
-    entry_read packings.Frames line stamp text behind rest id 8 e line_is short ok is len _ refl (frame_made rest stamp bytes id e (rw eight_is at (read_alone eight bytes are)) long made)
+frame_line line stamp text after rest eight bytes id e line_is short ok is len eight_is are long made =
+    entry_read packings.Frames line stamp text after rest id 8 e line_is short ok is len _ refl (frame_made rest stamp bytes id e (rw eight_is at (read_alone eight bytes are)) long made)

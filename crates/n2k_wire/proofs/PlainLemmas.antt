@@ -4,23 +4,23 @@ use Rattle.std.proofs.lemmas.Bool.{eq-eqb, ne_eqb}
 use Rattle.n2k_wire.specs.Plain.{pair, pairs, bytes_of}
 
 -- the bytes read before, and those still read
-abbrev pub with_front : List ℕ → Option (List ℕ) → Option (List ℕ)
-with_front front read = option_map (λ bytes. front ++ bytes) read
+abbrev pub with_prefix : List ℕ → Option (List ℕ) → Option (List ℕ)
+with_prefix prefix read = option_map (λ bytes. prefix ++ bytes) read
 
-pub regroup : (front byte : List ℕ) (read : Option (List ℕ)) → with_front front (option_map (λ bytes. byte ++ bytes) read) ≡ with_front (front ++ byte) read
-regroup front byte read = grind (arith, append_assoc)
+pub regroup : (prefix byte : List ℕ) (read : Option (List ℕ)) → with_prefix prefix (option_map (λ bytes. byte ++ bytes) read) ≡ with_prefix (prefix ++ byte) read
+regroup prefix byte read = grind (arith, append_assoc)
 
-pub reads_column : (front byte column : List ℕ) (more : List (List ℕ)) → pair column ≡ Some byte → with_front front (pairs (column ∷ more)) ≡ with_front (front ++ byte) (pairs more)
+pub reads_column : (prefix byte column : List ℕ) (more : List (List ℕ)) → pair column ≡ Some byte → with_prefix prefix (pairs (column ∷ more)) ≡ with_prefix (prefix ++ byte) (pairs more)
 unfolding pairs
-reads_column front byte column more e = rw e (regroup front byte (pairs more))
+reads_column prefix byte column more e = rw e (regroup prefix byte (pairs more))
 
-pub ends_column : (front column : List ℕ) (more : List (List ℕ)) → pair column ≡ None → with_front front (pairs (column ∷ more)) ≡ None
+pub ends_column : (prefix column : List ℕ) (more : List (List ℕ)) → pair column ≡ None → with_prefix prefix (pairs (column ∷ more)) ≡ None
 unfolding pairs
-ends_column front column more e = rw e refl
+ends_column prefix column more e = rw e refl
 
-pub pairs-end : (front : List ℕ) → with_front front (pairs []) ≡ Some front
+pub pairs-end : (prefix : List ℕ) → with_prefix prefix (pairs []) ≡ Some prefix
 unfolding pairs
-pairs-end front = ap Some (append-nil front)
+pairs-end prefix = ap Some (append-nil prefix)
 
 pub bytes_of-pairs : (len : ℕ) (more : List (List ℕ)) → length more ≡ len → bytes_of len more ≡ pairs more
 unfolding bytes_of

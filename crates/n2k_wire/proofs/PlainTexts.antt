@@ -10,8 +10,8 @@ use Rattle.n2k_wire.specs.Inner.Digits.{lower_lane}
 use lib.Lanes.{pick_l, sel_l, top, zip2}
 use Rattle.itoa.proofs.Decimal.{decimal_two, decimal_four}
 use Rattle.std.proofs.lemmas.Fmt.{decimal_digit}
-use Rattle.n2k_wire.specs.Texts.{byte_piece, number_piece, plain_line, plain_text}
-use Rattle.n2k_wire.proofs.TextLemmas.{listed, listed_all, piece_of_one, piece_of_two, piece_of_three}
+use Rattle.n2k_wire.specs.Texts.{byte_column, number_column, plain_line, plain_text}
+use Rattle.n2k_wire.proofs.TextLemmas.{listed, listed_all, column_of_one, column_of_two, column_of_three}
 
 take_past : (p q : List ℕ) (k : ℕ) → take (length p + k) (p ++ q) ≡ p ++ take k q
 take_past [] q k = grind arith
@@ -34,19 +34,19 @@ eight_bytes : (x a b c d e f g h : ℕ) → a < 256 → b < 256 → c < 256 → 
     → x ≡ a + b * 2 ^ 8 + c * 2 ^ 16 + d * 2 ^ 24 + (e + f * 2 ^ 8 + g * 2 ^ 16 + h * 2 ^ 24) * 2 ^ 32 → to_le_bytes w64 x ≡ a ∷ b ∷ c ∷ d ∷ e ∷ f ∷ g ∷ h ∷ []
 eight_bytes x a b c d e f g h A B C D E F G H is = grind arith
 
-one_digit : (n : ℕ) → n < 10 → take 2 (to_le_bytes w32 (digits_of n / 2 ^ 16 - 4)) ≡ number_piece n
-one_digit n small = grind (arith, piece_of_one)
+one_digit : (n : ℕ) → n < 10 → take 2 (to_le_bytes w32 (digits_of n / 2 ^ 16 - 4)) ≡ number_column n
+one_digit n small = grind (arith, column_of_one)
 
-two_digits : (n : ℕ) → 10 ≤ n → n < 100 → take 3 (to_le_bytes w32 (digits_of n / 2 ^ 8 - 4)) ≡ number_piece n
-two_digits n large small = grind (arith, piece_of_two)
+two_digits : (n : ℕ) → 10 ≤ n → n < 100 → take 3 (to_le_bytes w32 (digits_of n / 2 ^ 8 - 4)) ≡ number_column n
+two_digits n large small = grind (arith, column_of_two)
 
-three_digits : (n : ℕ) → 100 ≤ n → n < 1000 → take 4 (to_le_bytes w32 (digits_of n / 2 ^ 0 - 4)) ≡ number_piece n
-three_digits n large small = grind (arith, piece_of_three)
+three_digits : (n : ℕ) → 100 ≤ n → n < 1000 → take 4 (to_le_bytes w32 (digits_of n / 2 ^ 0 - 4)) ≡ number_column n
+three_digits n large small = grind (arith, column_of_three)
 
 -- the comma takes the place of the last zero
-pub piece_of_small : (n free : ℕ) → n < 256 → (n < 10 → free ≡ 2) → (10 ≤ n → n < 100 → free ≡ 1) → (100 ≤ n → free ≡ 0)
-    → take (4 - free) (to_le_bytes w32 (digits_of n / 2 ^ (8 * free) - 4)) ≡ number_piece n
-piece_of_small n free byte two one none = grind (arith, one_digit, two_digits, three_digits)
+pub column_of_small : (n free : ℕ) → n < 256 → (n < 10 → free ≡ 2) → (10 ≤ n → n < 100 → free ≡ 1) → (100 ≤ n → free ≡ 0)
+    → take (4 - free) (to_le_bytes w32 (digits_of n / 2 ^ (8 * free) - 4)) ≡ number_column n
+column_of_small n free byte two one none = grind (arith, one_digit, two_digits, three_digits)
 
 -- ---- PGNs of five and six digits
 
@@ -54,11 +54,11 @@ piece_of_small n free byte two one none = grind (arith, one_digit, two_digits, t
 abbrev pub pgn_of : ℕ → ℕ
 pgn_of n = digits_of (n / 1000) + digits_of (n % 1000) / 256 * 4294967296
 
-pub piece_of_six : (n : ℕ) → 100000 ≤ n → n < 1000000 → take 7 (to_le_bytes w64 (pgn_of n - 4)) ≡ number_piece n
-piece_of_six n large small = grind (arith, decimal_four, decimal_two)
+pub column_of_six : (n : ℕ) → 100000 ≤ n → n < 1000000 → take 7 (to_le_bytes w64 (pgn_of n - 4)) ≡ number_column n
+column_of_six n large small = grind (arith, decimal_four, decimal_two)
 
-pub piece_of_five : (n : ℕ) → 10000 ≤ n → n < 100000 → take 6 (to_le_bytes w64 (pgn_of n / 256 - 4)) ≡ number_piece n
-piece_of_five n large small = grind (arith, decimal_four, decimal_digit)
+pub column_of_five : (n : ℕ) → 10000 ≤ n → n < 100000 → take 6 (to_le_bytes w64 (pgn_of n / 256 - 4)) ≡ number_column n
+column_of_five n large small = grind (arith, decimal_four, decimal_digit)
 
 pub word_is_large : (n free : ℕ) → free ≤ 2 → 4 ≤ digits_of n / 2 ^ (8 * free)
 word_is_large n free few = grind (arith, cases_lt free 1, cases_lt free 2)
@@ -81,7 +81,7 @@ low_digit : (b : ℕ) → lower_lane (bit_and b 15) ≡ get_or lower_digits (b %
 low_digit b = grind (arith, and_mask b 4)
 
 abbrev pub pieces_of : List ℕ → List ℕ
-pieces_of bytes = number_piece 8 ++ flat_map byte_piece bytes ++ codes "\n"
+pieces_of bytes = number_column 8 ++ flat_map byte_column bytes ++ codes "\n"
 
 abbrev end_of : List ℕ → List ℕ
 end_of bytes =
@@ -102,8 +102,8 @@ end_is bytes long small = grind (arith, listed_all 8 0 bytes long, end_of_eight 
 -- the pieces, written in order, are the line
 pub line_is : (p : PacketParts) (t0 t1 t2 t3 t4 t5 t6 stamp prio pgn src dst bytes : List ℕ)
     → t1 ≡ t0 ++ stamp → t2 ≡ t1 ++ prio → t3 ≡ t2 ++ pgn → t4 ≡ t3 ++ src → t5 ≡ t4 ++ dst
-    → t6 ≡ t5 ++ number_piece (length bytes) ++ flat_map byte_piece bytes ++ codes "\n"
-    → stamp ≡ p.stamp → prio ≡ number_piece p.id.prio → pgn ≡ number_piece p.id.pgn → src ≡ number_piece p.id.src → dst ≡ number_piece p.id.dst
+    → t6 ≡ t5 ++ number_column (length bytes) ++ flat_map byte_column bytes ++ codes "\n"
+    → stamp ≡ p.stamp → prio ≡ number_column p.id.prio → pgn ≡ number_column p.id.pgn → src ≡ number_column p.id.src → dst ≡ number_column p.id.dst
     → bytes ≡ p.payload → t6 ≡ t0 ++ plain_text p
 unfolding plain_line
 line_is p t0 t1 t2 t3 t4 t5 t6 stamp prio pgn src dst bytes a b c d e f stamp_is prio_is pgn_is src_is dst_is bytes_are = grind (arith, append_assoc)

@@ -14,7 +14,7 @@ use Rattle.n2k_wire.specs.Digits.{decimal_digit, decimal_after, decimal_number}
 use Rattle.n2k_wire.specs.Entry.{entry, is_skipped, is_candump, settled}
 use Rattle.n2k_wire.specs.Packet.{PacketParts, IsPacketParts, is_printable, is_stamp, is_stamp_byte, starts_stamp}
 use Rattle.n2k_wire.specs.Plain.{columns, number_to, pair, pairs, header, id_of, packed, packet_of, plain}
-use Rattle.n2k_wire.specs.Texts.{byte_piece, number_piece, plain_line}
+use Rattle.n2k_wire.specs.Texts.{byte_column, number_column, plain_line}
 use Rattle.n2k_wire.proofs.PlainLemmas.{bytes_of-pairs}
 
 -- ---- columns
@@ -65,14 +65,14 @@ bytes_read [] h = refl
 bytes_read (b ∷ bytes) h = rw (byte_reads b (h 0), bytes_read bytes (λ i. h (suc i))) refl
 
 -- a column, followed by one column for each byte
-columns_of_bytes : (front bytes : List ℕ) → HasNoComma front → IsBytes bytes → columns (front ++ flat_map byte_piece bytes) ≡ front ∷ map byte_digits bytes
-columns_of_bytes front [] h bs = rw append-nil (last_column front h)
-columns_of_bytes front (b ∷ bytes) h bs = grind (arith, columns_of_bytes (byte_digits b) bytes (byte_no_comma b (bs 0)) (λ i. bs (suc i)), next_column)
+columns_of_bytes : (prefix bytes : List ℕ) → HasNoComma prefix → IsBytes bytes → columns (prefix ++ flat_map byte_column bytes) ≡ prefix ∷ map byte_digits bytes
+columns_of_bytes prefix [] h bs = rw append-nil (last_column prefix h)
+columns_of_bytes prefix (b ∷ bytes) h bs = grind (arith, columns_of_bytes (byte_digits b) bytes (byte_no_comma b (bs 0)) (λ i. bs (suc i)), next_column)
 
 -- three characters for each byte
-length-bytes : (bytes : List ℕ) → length (flat_map byte_piece bytes) ≡ 3 * length bytes
+length-bytes : (bytes : List ℕ) → length (flat_map byte_column bytes) ≡ 3 * length bytes
 length-bytes [] = refl
-length-bytes (b ∷ bytes) = omega (arith, length-byte_digits b, length-bytes bytes, length-append (byte_piece b) (flat_map byte_piece bytes))
+length-bytes (b ∷ bytes) = omega (arith, length-byte_digits b, length-bytes bytes, length-append (byte_column b) (flat_map byte_column bytes))
 
 -- ---- numbers
 
@@ -85,13 +85,13 @@ unfolding decimal_after
 one_digit before d h = rw (digit_reads d h) refl
 
 -- one digit more on the right
-digit_behind : (before b : ℕ) (digits : List ℕ) (n : ℕ) → decimal_after before digits ≡ Some n → decimal_after before (digits ++ (b ∷ [])) ≡ decimal_after n (b ∷ [])
+digit_after : (before b : ℕ) (digits : List ℕ) (n : ℕ) → decimal_after before digits ≡ Some n → decimal_after before (digits ++ (b ∷ [])) ≡ decimal_after n (b ∷ [])
 unfolding decimal_after
-digit_behind before b [] n e = let same : before ≡ n = cc in rw same refl
-digit_behind before b (c ∷ digits) n e =
+digit_after before b [] n e = let same : before ≡ n = cc in rw same refl
+digit_after before b (c ∷ digits) n e =
     elim (decimal_digit c) as (λ o. option_and_then (λ digit. decimal_after (10 * before + digit) digits) o ≡ Some n → option_and_then (λ digit. decimal_after (10 * before + digit) (digits ++ (b ∷ []))) o ≡ decimal_after n (b ∷ [])) [
       | None ↦ λ none. cc
-      | Some digit ↦ λ some. digit_behind (10 * before + digit) b digits n some
+      | Some digit ↦ λ some. digit_after (10 * before + digit) b digits n some
     ] e
 
 -- a text that is read as this number, and is one column
@@ -105,9 +105,9 @@ one_digit_reads : (n : ℕ) → n < 10 → IsReadAs n ((48 + n) ∷ [])
 one_digit_reads n h = (one_digit 0 n h ∙ ap Some (omega arith), glyph_no_comma n)
 
 more_digits_read : (n : ℕ) (text : List ℕ) → 10 ≤ n → IsReadAs (n / 10) text → IsReadAs n (text ++ ((48 + n % 10) ∷ []))
-more_digits_read n text h front = (
-  digit_behind 0 (48 + n % 10) text (n / 10) front.0 ∙ one_digit (n / 10) (n % 10) (omega arith) ∙ ap Some (omega arith),
-  All-append (λ x. (x == 44) ≡ false) text ((48 + n % 10) ∷ []) front.1 (glyph_no_comma (n % 10)),
+more_digits_read n text h prefix = (
+  digit_after 0 (48 + n % 10) text (n / 10) prefix.0 ∙ one_digit (n / 10) (n % 10) (omega arith) ∙ ap Some (omega arith),
+  All-append (λ x. (x == 44) ≡ false) text ((48 + n % 10) ∷ []) prefix.1 (glyph_no_comma (n % 10)),
 )
 
 -- the decimal digits of a number are read as that number
@@ -127,8 +127,8 @@ number_reads limit n within h =
     let small : leb n limit ≡ true = le-leb n limit within in
     rw (some, few, (decimal_reads n wide).0, small) refl
 
-length-number_piece : (n : ℕ) → n < 10 ^ 10 → length (number_piece n) ≤ 11
-length-number_piece n h = omega (arith, length-decimal-le 10 n (omega arith) h (omega arith))
+length-number_column : (n : ℕ) → n < 10 ^ 10 → length (number_column n) ≤ 11
+length-number_column n h = omega (arith, length-decimal-le 10 n (omega arith) h (omega arith))
 
 -- ---- the stamp
 
@@ -161,27 +161,27 @@ module _ (p : PacketParts) (packing : Packing) (ok : IsPacketParts p) where
   stamp_is = stamp_parts p.stamp ok.packet_ok.stamp_ok
 
   -- the text after the stamp
-  abbrev behind_stamp : List ℕ
-  behind_stamp =
-      number_piece p.id.prio ++ (number_piece p.id.pgn ++ (number_piece p.id.src ++ (number_piece p.id.dst ++ (number_piece (length p.payload) ++ flat_map byte_piece p.payload))))
+  abbrev after_stamp : List ℕ
+  after_stamp =
+      number_column p.id.prio ++ (number_column p.id.pgn ++ (number_column p.id.src ++ (number_column p.id.dst ++ (number_column (length p.payload) ++ flat_map byte_column p.payload))))
 
-  line_is : plain_line p ≡ p.stamp ++ behind_stamp
+  line_is : plain_line p ≡ p.stamp ++ after_stamp
   unfolding plain_line
-  line_is = regroup p.stamp (number_piece p.id.prio) (number_piece p.id.pgn) (number_piece p.id.src) (number_piece p.id.dst) (number_piece (length p.payload)) (flat_map byte_piece p.payload)
+  line_is = regroup p.stamp (number_column p.id.prio) (number_column p.id.pgn) (number_column p.id.src) (number_column p.id.dst) (number_column (length p.payload)) (flat_map byte_column p.payload)
 
   line_short : length (plain_line p) ≤ 2048
   unfolding plain_line
-  line_short = grind (arith, lengths, stamp_is, length-number_piece, length-bytes)
+  line_short = grind (arith, lengths, stamp_is, length-number_column, length-bytes)
 
   -- the columns after the stamp
-  abbrev behind : List (List ℕ)
-  behind =
+  abbrev after : List (List ℕ)
+  after =
       decimal p.id.prio ∷ decimal p.id.pgn ∷ decimal p.id.src ∷ decimal p.id.dst ∷ decimal (length p.payload) ∷ map byte_digits p.payload
 
-  columns_are : columns (p.stamp ++ behind_stamp) ≡ p.stamp ∷ behind
+  columns_are : columns (p.stamp ++ after_stamp) ≡ p.stamp ∷ after
   columns_are = grind (arith, next_column, stamp_is, number_no_comma, columns_of_bytes)
 
-  packet_read : packet_of p.stamp behind ≡ Ok p
+  packet_read : packet_of p.stamp after ≡ Ok p
   unfolding packet_of header id_of
   packet_read = grind (arith, bytes_of-pairs, length-map, bytes_read, number_reads)
 

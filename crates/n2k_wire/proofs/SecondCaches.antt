@@ -5,8 +5,8 @@ use Rattle.std.specs.List.{list_all}
 use Rattle.std.proofs.lemmas.Bool.{and_parts, eq-eqb}
 use Rattle.n2k_wire.specs.Digits.{decimal_after, decimal_digit, decimal_number}
 use Rattle.n2k_wire.specs.Packet.{is_stamp}
-use Rattle.n2k_wire.specs.Pieces.{after_byte}
-use Rattle.n2k_wire.specs.Inner.Candump.{IsSecondFront, stamp_behind}
+use Rattle.n2k_wire.specs.Cuts.{after_byte}
+use Rattle.n2k_wire.specs.Inner.Candump.{IsSecondPrefix, stamp_after}
 use Rattle.n2k_wire.specs.Stamp.{millis_digits, three_digits, utc_text}
 use Rattle.n2k_wire.proofs.CandumpBack.{number_is}
 use Rattle.n2k_wire.proofs.FastStamps.{follows, usual}
@@ -29,34 +29,34 @@ unfolding after_byte
 opens byte rest = rw (eq-eqb byte byte refl) refl
 
 -- the start of a line with up to twelve digits
-pub front_read : (front seconds : List ℕ) (s : ℕ) → front ≡ 40 ∷ (seconds ++ (46 ∷ [])) → decimal_number 12 seconds ≡ Some s → s ≤ 253402300799 → IsSecondFront front s
-front_read front seconds s is read small fraction rest f m part third = grind (arith, usual (40 ∷ ((seconds ++ (46 ∷ fraction)) ++ (41 ∷ rest))) ((seconds ++ (46 ∷ fraction)) ++ (41 ∷ rest)) (seconds ++ (46 ∷ fraction)) (41 ∷ rest) rest seconds (46 ∷ fraction) fraction s f m (opens 40 ((seconds ++ (46 ∷ fraction)) ++ (41 ∷ rest))) refl (opens 41 rest) refl (opens 46 fraction) read part third small, append_assoc)
+pub prefix_read : (prefix seconds : List ℕ) (s : ℕ) → prefix ≡ 40 ∷ (seconds ++ (46 ∷ [])) → decimal_number 12 seconds ≡ Some s → s ≤ 253402300799 → IsSecondPrefix prefix s
+prefix_read prefix seconds s is read small fraction rest f m part third = grind (arith, usual (40 ∷ ((seconds ++ (46 ∷ fraction)) ++ (41 ∷ rest))) ((seconds ++ (46 ∷ fraction)) ++ (41 ∷ rest)) (seconds ++ (46 ∷ fraction)) (41 ∷ rest) rest seconds (46 ∷ fraction) fraction s f m (opens 40 ((seconds ++ (46 ∷ fraction)) ++ (41 ∷ rest))) refl (opens 41 rest) refl (opens 46 fraction) read part third small, append_assoc)
 
 -- the start of a line of 1970's first second
-pub first_front : IsSecondFront (codes "(0000000000.") 0
+pub first_prefix : IsSecondPrefix (codes "(0000000000.") 0
 unfolding decimal_number decimal_after decimal_digit
-first_front = front_read (codes "(0000000000.") (codes "0000000000") 0 refl refl (omega arith)
+first_prefix = prefix_read (codes "(0000000000.") (codes "0000000000") 0 refl refl (omega arith)
 
 -- the parts of the start of a line
-pub front_parts : (front inner digits point rest : List ℕ) → length front ≡ 12 → after_byte 40 front ≡ Some inner → digits ≡ take 10 inner → point ≡ drop 10 inner → after_byte 46 point ≡ Some rest
-    → front ≡ 40 ∷ (digits ++ (46 ∷ []))
-front_parts front inner digits point [] twelve opened digits_is point_is pointed =
+pub prefix_parts : (prefix inner digits point rest : List ℕ) → length prefix ≡ 12 → after_byte 40 prefix ≡ Some inner → digits ≡ take 10 inner → point ≡ drop 10 inner → after_byte 46 point ≡ Some rest
+    → prefix ≡ 40 ∷ (digits ++ (46 ∷ []))
+prefix_parts prefix inner digits point [] twelve opened digits_is point_is pointed =
     let inner_is : inner ≡ digits ++ (46 ∷ []) = sym (rw (digits_is, sym (follows 46 point [] pointed), point_is) (take-append-drop 10 inner)) in
-    follows 40 front inner opened ∙ ap (λ (t : List ℕ). 40 ∷ t) inner_is
-front_parts front inner digits point (b ∷ rest) twelve opened digits_is point_is pointed = grind (arith, follows)
+    follows 40 prefix inner opened ∙ ap (λ (t : List ℕ). 40 ∷ t) inner_is
+prefix_parts prefix inner digits point (b ∷ rest) twelve opened digits_is point_is pointed = grind (arith, follows)
 
 -- the first bytes of a text and the rest
-pub first_chunk : (n : ℕ) (text front rest : List ℕ) → front ≡ take n text → rest ≡ drop n text → length rest + n ≡ length text → (length front ≡ n) × (text ≡ front ++ rest)
-first_chunk n text front rest front_is rest_is long = grind (arith, length-take-le, take-append-drop)
+pub first_chunk : (n : ℕ) (text prefix rest : List ℕ) → prefix ≡ take n text → rest ≡ drop n text → length rest + n ≡ length text → (length prefix ≡ n) × (text ≡ prefix ++ rest)
+first_chunk n text prefix rest prefix_is rest_is long = grind (arith, length-take-le, take-append-drop)
 
 -- a line that begins so, by the text of its stamp
-pub stamped_on : (front fraction rest : List ℕ) (seconds : ℕ) → IsSecondFront front seconds → seconds ≤ 253402300799 → list_all is_ascii_digit fraction ≡ true → length fraction ≡ 6
-    → (m : ℕ) × (stamp_behind (front ++ (fraction ++ (41 ∷ rest))) ≡ Some (utc_text (record { seconds = seconds; millis = m }), rest)) × (millis_digits m ≡ three_digits fraction) × (m ≤ 999)
+pub stamped_on : (prefix fraction rest : List ℕ) (seconds : ℕ) → IsSecondPrefix prefix seconds → seconds ≤ 253402300799 → list_all is_ascii_digit fraction ≡ true → length fraction ≡ 6
+    → (m : ℕ) × (stamp_after (prefix ++ (fraction ++ (41 ∷ rest))) ≡ Some (utc_text (record { seconds = seconds; millis = m }), rest)) × (millis_digits m ≡ three_digits fraction) × (m ≤ 999)
 unfolding three_digits
-stamped_on front [] rest seconds is small all six = absurd (omega arith)
-stamped_on front (a ∷ []) rest seconds is small all six = absurd (omega arith)
-stamped_on front (a ∷ b ∷ []) rest seconds is small all six = absurd (omega arith)
-stamped_on front (a ∷ b ∷ c ∷ more) rest seconds is small all six =
+stamped_on prefix [] rest seconds is small all six = absurd (omega arith)
+stamped_on prefix (a ∷ []) rest seconds is small all six = absurd (omega arith)
+stamped_on prefix (a ∷ b ∷ []) rest seconds is small all six = absurd (omega arith)
+stamped_on prefix (a ∷ b ∷ c ∷ more) rest seconds is small all six =
     let ea = and_parts (is_ascii_digit a) (list_all is_ascii_digit (b ∷ c ∷ more)) all in
     let eb = and_parts (is_ascii_digit b) (list_all is_ascii_digit (c ∷ more)) ea.1 in
     let ec = and_parts (is_ascii_digit c) (list_all is_ascii_digit more) eb.1 in
@@ -76,9 +76,9 @@ millis_put text (a ∷ b ∷ []) seconds m is six three = absurd (omega arith)
 millis_put text (a ∷ b ∷ c ∷ more) seconds m is six three = grind arith
 
 -- the text of a line's stamp, by the text of its second
-pub stamped_text : (line front fraction behind text texts stamp : List ℕ) (seconds : ℕ) → IsSecondFront front seconds → seconds ≤ 253402300799
+pub stamped_text : (line prefix fraction after text texts stamp : List ℕ) (seconds : ℕ) → IsSecondPrefix prefix seconds → seconds ≤ 253402300799
     → texts ≡ utc_text (record { seconds = seconds; millis = 0 }) → list_all is_ascii_digit fraction ≡ true → length fraction ≡ 6
-    → line ≡ front ++ (fraction ++ behind) → after_byte 41 behind ≡ Some text
+    → line ≡ prefix ++ (fraction ++ after) → after_byte 41 after ≡ Some text
     → ((s m : ℕ) → texts ≡ utc_text (record { seconds = s; millis = 0 }) → millis_digits m ≡ three_digits fraction → stamp ≡ utc_text (record { seconds = s; millis = m }))
-    → (stamp_behind line ≡ Some (stamp, text)) × IsTrue (is_stamp stamp)
-stamped_text line front fraction behind text texts stamp seconds is small texts_is all six line_is closed put = grind (arith, stamped_on front fraction text seconds is small all six, follows 41 behind text closed, utc_is_stamp)
+    → (stamp_after line ≡ Some (stamp, text)) × IsTrue (is_stamp stamp)
+stamped_text line prefix fraction after text texts stamp seconds is small texts_is all six line_is closed put = grind (arith, stamped_on prefix fraction text seconds is small all six, follows 41 after text closed, utc_is_stamp)

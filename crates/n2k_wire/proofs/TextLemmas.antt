@@ -4,16 +4,16 @@ use Rattle.std.proofs.Math.ListN.{drop_of_length-le}
 use Rattle.std.proofs.Math.Seq.{drop-cons}
 use Rattle.std.proofs.lemmas.Fmt.{decimal_digit}
 use Rattle.itoa.proofs.Decimal.{decimal_two, decimal_pair}
-use Rattle.n2k_wire.specs.Texts.{number_piece}
+use Rattle.n2k_wire.specs.Texts.{number_column}
 
-pub piece_of_one : (n : ℕ) → n < 10 → number_piece n ≡ 44 ∷ (48 + n % 10) ∷ []
-piece_of_one n small = grind (arith, decimal_digit)
+pub column_of_one : (n : ℕ) → n < 10 → number_column n ≡ 44 ∷ (48 + n % 10) ∷ []
+column_of_one n small = grind (arith, decimal_digit)
 
-pub piece_of_two : (n : ℕ) → 10 ≤ n → n < 100 → number_piece n ≡ 44 ∷ (48 + n / 10 % 10) ∷ (48 + n % 10) ∷ []
-piece_of_two n large small = grind (arith, decimal_two)
+pub column_of_two : (n : ℕ) → 10 ≤ n → n < 100 → number_column n ≡ 44 ∷ (48 + n / 10 % 10) ∷ (48 + n % 10) ∷ []
+column_of_two n large small = grind (arith, decimal_two)
 
-pub piece_of_three : (n : ℕ) → 100 ≤ n → n < 1000 → number_piece n ≡ 44 ∷ (48 + n / 100) ∷ (48 + n / 10 % 10) ∷ (48 + n % 10) ∷ []
-piece_of_three n large small = grind (arith, decimal_pair, decimal_digit)
+pub column_of_three : (n : ℕ) → 100 ≤ n → n < 1000 → number_column n ≡ 44 ∷ (48 + n / 100) ∷ (48 + n / 10 % 10) ∷ (48 + n % 10) ∷ []
+column_of_three n large small = grind (arith, decimal_pair, decimal_digit)
 
 -- the bytes of a text from a place on, one by one
 unfoldable pub listed : ℕ → ℕ → List ℕ → List ℕ

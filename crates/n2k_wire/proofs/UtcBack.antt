@@ -4,7 +4,7 @@ use Rattle.std.proofs.lemmas.Bool.{and_parts, eqb-true, ltb-true}
 use Rattle.jiff_core.specs.Calendar.{IsCivilDate}
 use Rattle.n2k_wire.specs.Calendar.{day_number, is_date, year_of, month_of, day_of_month}
 use Rattle.n2k_wire.specs.Digits.{decimal_digit, decimal_after, decimal_number}
-use Rattle.n2k_wire.specs.Stamp.{Moment, two_digits, four_digits, millis_digits, date_text, time_text, utc_text, has_utc_form, number_at, day_at_start, second_behind_date, utc_moment}
+use Rattle.n2k_wire.specs.Stamp.{Moment, two_digits, four_digits, millis_digits, date_text, time_text, utc_text, has_utc_form, number_at, day_at_start, second_after_date, utc_moment}
 use Rattle.n2k_wire.specs.Steps.{◌>>=◌, or_cause, some_if}
 use Rattle.n2k_wire.specs.Inner.Stamp.{IsMoment}
 use Rattle.n2k_wire.proofs.CalendarLemmas.{IsDateOf, date_of_number, to_last_day}
@@ -166,8 +166,8 @@ module _ (text : List ℕ) (form : has_utc_form text ≡ true) where
       )
 
   -- the time of the day
-  pub time_back : (second : ℕ) → second_behind_date text ≡ Some second → TimeStands second
-  unfolding second_behind_date
+  pub time_back : (second : ℕ) → second_after_date text ≡ Some second → TimeStands second
+  unfolding second_after_date
   time_back second e =
       with_some (number_at 11 2 text) _ second e (λ h eh more. with_some (number_at 14 2 text) _ second more (λ m em most. with_some (number_at 17 2 text) _ second most (λ s es last. time_found h m s second eh em es last)))
 
@@ -178,7 +178,7 @@ grouped : (y m d h n s f : List ℕ)
 grouped y m d h n s f = simp append_assoc
 
 -- the parts of a moment that is in a text
-found_parts : (text : List ℕ) (seen : Moment) (day second millis : ℕ) → has_utc_form text ≡ true → day_at_start text ≡ Some day → second_behind_date text ≡ Some second
+found_parts : (text : List ℕ) (seen : Moment) (day second millis : ℕ) → has_utc_form text ≡ true → day_at_start text ≡ Some day → second_after_date text ≡ Some second
     → number_at 20 3 text ≡ Some millis → day * 86400 + second ≡ seen.seconds → millis ≡ seen.millis → (utc_text seen ≡ text) × IsMoment seen
 unfolding utc_text
 found_parts text seen day second millis form ed es em seconds fraction = grind (arith, date_back text form day ed, time_back text form second es, three_at text form 20 millis (omega arith) em, whole text form)
@@ -192,7 +192,7 @@ unfolding utc_moment
 utc_back text seen e =
     with_some (some_if (has_utc_form text) text) _ seen e (λ f ef e1.
     with_some (day_at_start text) _ seen e1 (λ day ed e2.
-    with_some (second_behind_date text) _ seen e2 (λ second es e3.
+    with_some (second_after_date text) _ seen e2 (λ second es e3.
     with_some (number_at 20 3 text) _ seen e3 (λ millis em e4.
     let is = moment_is seen (day * 86400 + second) millis e4 in
     found_parts text seen day second millis (if_some (has_utc_form text) text f ef).0 ed es em is.0 is.1))))

@@ -11,7 +11,7 @@ use Rattle.n2k_wire.specs.declared.entry.BadCause.TheVariants as causes
 use Rattle.n2k_wire.specs.declared.entry.Entry.{Entry}
 use Rattle.n2k_wire.specs.declared.entry.Entry.TheVariants as entries
 use Rattle.n2k_wire.specs.Identifier.{split}
-use Rattle.n2k_wire.specs.Pieces.{cut_at, after_byte, skip_spaces}
+use Rattle.n2k_wire.specs.Cuts.{cut_at, after_byte, skip_spaces}
 use Rattle.n2k_wire.specs.Stamp.{Moment, moment, utc_text}
 use Rattle.n2k_wire.specs.Steps.{◌>>=◌, or_cause, some_if}
 

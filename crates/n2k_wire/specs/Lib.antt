@@ -5,7 +5,7 @@ pub mod Entry
 pub mod Identifier
 pub mod Inner
 pub mod Packet
-pub mod Pieces
+pub mod Cuts
 pub mod Plain
 pub mod Stamp
 pub mod Steps

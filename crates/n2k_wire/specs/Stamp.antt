@@ -3,7 +3,7 @@ use Rattle.std.specs.Prelude.{ℕ, ◌+◌, ◌*◌, ◌/◌, ◌%◌, ◌==◌,
 use Rattle.std.specs.Prelude.{slice_index, take, drop, Option, Some, codes, option_and_then}
 use Rattle.n2k_wire.specs.Calendar.{day_number, is_date, year_of, month_of, day_of_month}
 use Rattle.n2k_wire.specs.Digits.{decimal_number}
-use Rattle.n2k_wire.specs.Pieces.{cut_at}
+use Rattle.n2k_wire.specs.Cuts.{cut_at}
 use Rattle.n2k_wire.specs.Steps.{some_if}
 
 -- the last second of the year 9999
@@ -92,8 +92,8 @@ day_at_start text = do
   some_if (is_date year month day) (day_number year month day)
 
 -- the second of the day of `HH:MM:SS` after `YYYY-MM-DDT`
-unfoldable pub second_behind_date : List ℕ → Option ℕ
-second_behind_date text = do
+unfoldable pub second_after_date : List ℕ → Option ℕ
+second_after_date text = do
   hour ← number_at 11 2 text
   minute ← number_at 14 2 text
   second ← number_at 17 2 text
@@ -104,6 +104,6 @@ unfoldable pub utc_moment : List ℕ → Option Moment
 utc_moment text = do
   form ← some_if (has_utc_form text) text
   day ← day_at_start text
-  second ← second_behind_date text
+  second ← second_after_date text
   millis ← number_at 20 3 text
   Some (record { seconds = day * seconds_of_day + second; millis = millis })

@@ -11,18 +11,18 @@ use Rattle.n2k_wire.specs.Stamp.{Moment, millis_digits, utc_moment}
 use Rattle.n2k_wire.specs.Steps.{◌>>=◌, or_cause}
 
 -- a byte as a piece of a plain line: a comma and two digits in lower case
-abbrev pub byte_piece : ℕ → List ℕ
-byte_piece b = 44 ∷ encode_lower (b ∷ [])
+abbrev pub byte_column : ℕ → List ℕ
+byte_column b = 44 ∷ encode_lower (b ∷ [])
 
 -- a number as a piece of a plain line
-abbrev pub number_piece : ℕ → List ℕ
-number_piece n = 44 ∷ decimal n
+abbrev pub number_column : ℕ → List ℕ
+number_column n = 44 ∷ decimal n
 
 -- `stamp,prio,pgn,src,dst,len,b0,b1,..`
 unfoldable pub plain_line : PacketParts → List ℕ
 plain_line p =
-    p.stamp ++ number_piece p.id.prio ++ number_piece p.id.pgn ++ number_piece p.id.src ++ number_piece p.id.dst
-    ++ number_piece (length p.payload) ++ flat_map byte_piece p.payload
+    p.stamp ++ number_column p.id.prio ++ number_column p.id.pgn ++ number_column p.id.src ++ number_column p.id.dst
+    ++ number_column (length p.payload) ++ flat_map byte_column p.payload
 
 -- a plain line with its LF
 abbrev pub plain_text : PacketParts → List ℕ

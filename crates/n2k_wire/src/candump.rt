@@ -12,9 +12,9 @@ ghost use Rattle.n2k_wire.specs.Views.{Finds, Gives};
 ghost use Rattle.n2k_wire.specs.Entry.{IsEntry, settled};
 ghost use Rattle.n2k_wire.specs.Packet.{IsPacket};
 
+use crate::cuts::{after_byte, cut_at, skip_spaces};
 use crate::entry::{BadCause, Entry, set_frame};
 use crate::identifier::{Id, split_id};
-use crate::pieces::{after_byte, cut_at, skip_spaces};
 use crate::stamp::{Moment, UTC_LEN, read_moment, utc_text};
 use arrayvec::ArrayVec;
 use hex::FromHex;

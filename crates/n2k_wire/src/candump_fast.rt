@@ -10,19 +10,19 @@ ghost use Rattle.n2k_wire.specs.Candump.{is_interface_byte, identifier, is_other
 ghost use Rattle.n2k_wire.specs.Entry.{entry, IsEntry, IsShort};
 ghost use Rattle.n2k_wire.specs.declared.entry.Packing.{Packing};
 ghost use Rattle.n2k_wire.specs.Packet.{is_stamp};
-ghost use Rattle.n2k_wire.specs.Inner.Candump.{IsFramed, IsSecondFront, stamp_behind};
+ghost use Rattle.n2k_wire.specs.Inner.Candump.{IsFramed, IsSecondPrefix, stamp_after};
 ghost use Rattle.n2k_wire.specs.Stamp.{last_second, millis_digits, three_digits, utc_text};
 
 use crate::candump::{FIRST_ERROR_FRAME, LONGEST_INTERFACE};
+use crate::cuts::after_byte;
 use crate::digits::{begins_with_digits, decimal_number, eight_bytes};
 use crate::entry::{Entry, set_frame_fast};
 use crate::identifier::split_id;
-use crate::pieces::after_byte;
 use crate::stamp::{Moment, UTC_LEN, utc_text};
 use std::simd::prelude::*;
 
 /// The bytes of `(1751608800.`.
-const FRONT: usize = 12;
+const PREFIX: usize = 12;
 
 /// The digits of the seconds.
 const SECONDS: usize = 10;
@@ -45,11 +45,11 @@ const LANES: usize = 16;
 #[derive(Drop)]
 pub(crate) struct SecondCache {
     /// The first bytes of a line of that second.
-    front: [u8; FRONT],
+    prefix: [u8; PREFIX],
     seconds: u64,
     /// The UTC text of the second's begin.
     text: [u8; UTC_LEN],
-    ghost is_front: { IsSecondFront front seconds },
+    ghost is_prefix: { IsSecondPrefix prefix seconds },
     ghost seconds_fit: { seconds ≤ last_second },
     ghost is_text: { text ≡ utc_text (record { seconds = seconds; millis = 0 }) },
 }
@@ -57,7 +57,7 @@ pub(crate) struct SecondCache {
 impl SecondCache {
     pub(crate) fn new() -> SecondCache {
         SecondCache {
-            front: *b"(0000000000.",
+            prefix: *b"(0000000000.",
             seconds: 0,
             text: utc_text(Moment {
                 seconds: 0,
@@ -68,14 +68,14 @@ impl SecondCache {
 
     /// Sets the second to that of lines with these first bytes. None if no line has them.
     #[inline(never)]
-    fn recompute(&mut self, front: &[u8; FRONT]) -> Option<()>
-        ensures { IfSome result (λ done. self.new.front ≡ front.now) }
+    fn recompute(&mut self, prefix: &[u8; PREFIX]) -> Option<()>
+        ensures { IfSome result (λ done. self.new.prefix ≡ prefix.now) }
     {
-        let inner = after_byte(b'(', front)?;
+        let inner = after_byte(b'(', prefix)?;
         let (digits, point) = inner.split_at(SECONDS);
         after_byte(b'.', point)?;
         let seconds = decimal_number(12, digits)?;
-        self.front = *front;
+        self.prefix = *prefix;
         self.seconds = seconds;
         self.text = utc_text(Moment { seconds, millis: 0 });
         Some(())
@@ -83,40 +83,40 @@ impl SecondCache {
 
     /// Sets the second of the next line. Mostly it is the second of the line before.
     #[inline]
-    fn advance_to(&mut self, front: &[u8; FRONT]) -> Option<()>
-        ensures { IfSome result (λ done. self.new.front ≡ front.now) }
+    fn advance_to(&mut self, prefix: &[u8; PREFIX]) -> Option<()>
+        ensures { IfSome result (λ done. self.new.prefix ≡ prefix.now) }
     {
-        if are_same(front, &self.front) {
+        if are_same(prefix, &self.prefix) {
             Some(())
         } else {
-            self.recompute(front)
+            self.recompute(prefix)
         }
     }
 
     /// The UTC text of a line's stamp, and the text after the stamp.
     #[inline]
-    fn stamp_behind<'a>(&mut self, line: &'a [u8]) -> Option<([u8; UTC_LEN], &'a [u8])>
-        ensures value { IfSome result (λ x. stamp_behind line.now ≡ Some (x.0, x.1.now)) }
+    fn stamp_after<'a>(&mut self, line: &'a [u8]) -> Option<([u8; UTC_LEN], &'a [u8])>
+        ensures value { IfSome result (λ x. stamp_after line.now ≡ Some (x.0, x.1.now)) }
         ensures stamp { IfSome result (λ x. IsTrue (is_stamp x.0)) }
     {
-        let (front, behind) = line.split_first_chunk::<FRONT>()?;
-        let eight = behind.first_chunk::<8>()?;
+        let (prefix, after) = line.split_first_chunk::<PREFIX>()?;
+        let eight = after.first_chunk::<8>()?;
         if !begins_with_digits(u8x8::from_array(*eight)) {
             return None;
         }
-        let (fraction, behind) = behind.split_first_chunk::<FRACTION>()?;
-        let text = after_byte(b')', behind)?;
-        self.advance_to(front)?;
+        let (fraction, after) = after.split_first_chunk::<FRACTION>()?;
+        let text = after_byte(b')', after)?;
+        self.advance_to(prefix)?;
         Some((with_millis(&self.text, fraction), text))
     }
 }
 
 /// The first bytes of a line as two words.
 #[inline(always)]
-fn front_words(front: &[u8; FRONT]) -> (u64, u32)
-    ensures { front.now ≡ to_le_bytes w64 result.0 ++ to_le_bytes w32 result.1 }
+fn prefix_words(prefix: &[u8; PREFIX]) -> (u64, u32)
+    ensures { prefix.now ≡ to_le_bytes w64 result.0 ++ to_le_bytes w32 result.1 }
 {
-    let [a, b, c, d, e, f, g, h, i, j, k, l] = *front;
+    let [a, b, c, d, e, f, g, h, i, j, k, l] = *prefix;
     (
         u64::from_le_bytes([a, b, c, d, e, f, g, h]),
         u32::from_le_bytes([i, j, k, l]),
@@ -125,11 +125,11 @@ fn front_words(front: &[u8; FRONT]) -> (u64, u32)
 
 /// Whether two lines begin with the same bytes.
 #[inline(always)]
-fn are_same(front: &[u8; FRONT], other: &[u8; FRONT]) -> bool
-    ensures { IsTrue result → front.now ≡ other.now }
+fn are_same(prefix: &[u8; PREFIX], other: &[u8; PREFIX]) -> bool
+    ensures { IsTrue result → prefix.now ≡ other.now }
 {
-    let (start, end) = front_words(front);
-    let (other_start, other_end) = front_words(other);
+    let (start, end) = prefix_words(prefix);
+    let (other_start, other_end) = prefix_words(other);
     start == other_start && end == other_end
 }
 
@@ -205,9 +205,9 @@ fn fast_framed(text: &[u8]) -> Option<(u32, &[u8])>
     }
     let (_, rest) = named.split_at(at);
     let inner = after_byte(b' ', rest)?;
-    let (digits, behind) = inner.split_first_chunk::<WORD_DIGITS>()?;
+    let (digits, after) = inner.split_first_chunk::<WORD_DIGITS>()?;
     let identifier = fast_identifier(digits)?;
-    let data = after_byte(b'#', behind)?;
+    let data = after_byte(b'#', after)?;
     Some((identifier, data))
 }
 
@@ -231,7 +231,7 @@ pub(crate) fn read_candump_fast(cache: &mut SecondCache, line: &[u8], out: &mut 
     if line.len() < SHORTEST || line.len() > LONGEST {
         return None;
     }
-    let (stamp, text) = cache.stamp_behind(line)?;
+    let (stamp, text) = cache.stamp_after(line)?;
     let (identifier, text) = fast_framed(text)?;
     let data = fast_payload(text)?;
     set_frame_fast(out, &stamp, split_id(identifier), &data);

@@ -5,7 +5,7 @@ ghost use Rattle.hex.specs.Hex.{encode_upper};
 ghost use Rattle.n2k_wire.specs.Candump.{frame_payload, is_interface, longest_interface};
 ghost use Rattle.n2k_wire.specs.Identifier.{join};
 ghost use Rattle.n2k_wire.specs.Inner.Digits.{AreDigitsOf};
-ghost use Rattle.n2k_wire.specs.Inner.Stamp.{IsSecond, IsStampText, are_millis, behind_millis, second_front};
+ghost use Rattle.n2k_wire.specs.Inner.Stamp.{IsSecond, IsStampText, are_millis, after_millis, second_prefix};
 ghost use Rattle.n2k_wire.specs.Stamp.{last_second, utc_moment};
 ghost use Rattle.n2k_wire.specs.Texts.{Appends, candump_text};
 
@@ -70,39 +70,39 @@ impl ShortText {
 
 /// The start of the lines of a second, `(0000000010.`.
 #[tactic(auto, using(crate::proofs::CandumpLemmas::seconds_short, std::proofs::Common::append_assoc))]
-fn second_front(seconds: u64) -> ShortText
+fn second_prefix(seconds: u64) -> ShortText
     requires { seconds ≤ last_second }
-    ensures { result ≡ second_front seconds }
+    ensures { result ≡ second_prefix seconds }
 {
     let mut buffer = itoa::Buffer::new();
     let digits = buffer.format(seconds).as_bytes();
-    let mut front = ShortText::EMPTY;
-    front.push(b"(");
-    front.push(&b"0000000000"[digits.len().min(10)..]);
-    front.push(digits);
-    front.push(b".");
-    front
+    let mut prefix = ShortText::EMPTY;
+    prefix.push(b"(");
+    prefix.push(&b"0000000000"[digits.len().min(10)..]);
+    prefix.push(digits);
+    prefix.push(b".");
+    prefix
 }
 
 /// The text between the milliseconds and the identifier, `000) can0 `.
 #[tactic(auto, using(std::proofs::Common::append_assoc))]
-fn behind_millis(interface: &[u8]) -> ShortText
+fn after_millis(interface: &[u8]) -> ShortText
     requires { length interface.now ≤ longest_interface }
-    ensures { result ≡ behind_millis interface.now }
+    ensures { result ≡ after_millis interface.now }
 {
-    let mut behind = ShortText::EMPTY;
-    behind.push(b"000) ");
-    behind.push(interface);
-    behind.push(b" ");
-    behind
+    let mut after = ShortText::EMPTY;
+    after.push(b"000) ");
+    after.push(interface);
+    after.push(b" ");
+    after
 }
 
 /// Whether the rest of a stamp after the second is milliseconds and the end.
 #[inline]
-fn are_millis(behind: &[u8; MILLIS_LEN]) -> bool
-    ensures { result ≡ are_millis behind.now }
+fn are_millis(after: &[u8; MILLIS_LEN]) -> bool
+    ensures { result ≡ are_millis after.now }
 {
-    let [a, b, c, end] = *behind;
+    let [a, b, c, end] = *after;
     a.is_ascii_digit() && b.is_ascii_digit() && c.is_ascii_digit() && end == b'Z'
 }
 
@@ -123,7 +123,7 @@ impl WrittenSecond {
     {
         WrittenSecond {
             stamp: *b"1970-01-01T00:00:00.",
-            line: second_front(0),
+            line: second_prefix(0),
         }
     }
 
@@ -131,18 +131,18 @@ impl WrittenSecond {
     fn advance_to<'s>(&mut self, stamp: &'s [u8]) -> Option<&'s [u8; MILLIS_LEN]>
         requires { IsSecond self.old.stamp self.old.line }
         ensures second { IsSecond self.new.stamp self.new.line }
-        ensures some { IfSome result (λ behind. IsStampText (utc_moment stamp.now) (self.new.line ++ take 3 behind.now)) }
+        ensures some { IfSome result (λ after. IsStampText (utc_moment stamp.now) (self.new.line ++ take 3 after.now)) }
         ensures none { IfNone result (utc_moment stamp.now ≡ None) }
     {
-        let (front, behind) = stamp.split_first_chunk::<SECOND_LEN>()?;
-        let behind = behind.as_array::<MILLIS_LEN>()?;
-        if *front == self.stamp && are_millis(behind) {
-            return Some(behind);
+        let (prefix, after) = stamp.split_first_chunk::<SECOND_LEN>()?;
+        let after = after.as_array::<MILLIS_LEN>()?;
+        if *prefix == self.stamp && are_millis(after) {
+            return Some(after);
         }
         let seen = read_utc(stamp)?;
-        self.stamp = *front;
-        self.line = second_front(seen.seconds);
-        Some(behind)
+        self.stamp = *prefix;
+        self.line = second_prefix(seen.seconds);
+        Some(after)
     }
 }
 
@@ -152,7 +152,7 @@ impl WrittenSecond {
 pub struct CandumpLines<'a> {
     interface: &'a str,
     /// The text after the milliseconds.
-    behind: ShortText,
+    after: ShortText,
     second: WrittenSecond,
     /// The identifier of the packet before.
     id: Id,
@@ -164,13 +164,13 @@ impl<'a> Model for CandumpLines<'a> {
     ghost use Rattle.std.specs.Prelude.{◌≡◌, List, ℕ, IsTrue};
     ghost use Rattle.n2k_wire.specs.Candump.{is_interface};
     ghost use Rattle.n2k_wire.specs.Inner.Digits.{AreDigitsOf};
-    ghost use Rattle.n2k_wire.specs.Inner.Stamp.{IsSecond, behind_millis};
+    ghost use Rattle.n2k_wire.specs.Inner.Stamp.{IsSecond, after_millis};
 
     ghost Value = { List ℕ };
 
     ghost view = { λ l. l.interface.now };
 
-    ghost invariant = { λ l. IsTrue (is_interface l.interface.now) × (l.behind ≡ behind_millis l.interface.now)
+    ghost invariant = { λ l. IsTrue (is_interface l.interface.now) × (l.after ≡ after_millis l.interface.now)
         × IsSecond l.second.stamp l.second.line × AreDigitsOf l.id l.digits };
 }
 
@@ -228,22 +228,22 @@ fn put_data(text: &mut [u8], at: usize, payload: &[u8]) -> usize
 fn write_line(
     text: &mut [u8],
     at: usize,
-    front: &ShortText,
+    prefix: &ShortText,
     millis: &[u8; MILLIS_LEN],
-    behind: &ShortText,
+    after: &ShortText,
     digits: &[u8; 8],
     payload: &[u8],
 ) -> usize
     requires room { at + 85 ≤ length text.old }
-    requires front { length front.now ≤ 14 }
-    requires behind { length behind.now ≤ 21 }
+    requires prefix { length prefix.now ≤ 14 }
+    requires after { length after.now ≤ 21 }
     requires short { length payload.now ≤ frame_payload }
-    ensures { take result text.new ≡ take at text.old ++ (front.now ++ take 3 millis.now ++ behind.now
+    ensures { take result text.new ≡ take at text.old ++ (prefix.now ++ take 3 millis.now ++ after.now
         ++ take 8 digits.now ++ codes "#" ++ encode_upper payload.now ++ codes "\n") }
 {
-    let at = front.put(text, at);
+    let at = prefix.put(text, at);
     let at = put(text, at, millis, 3);
-    let at = behind.put(text, at);
+    let at = after.put(text, at);
     let at = put(text, at, digits, 8);
     let at = put(text, at, b"#", 1);
     put_data(text, at, payload)
@@ -271,7 +271,7 @@ impl<'a> CandumpLines<'a> {
     {
         CandumpLines {
             interface,
-            behind: behind_millis(interface.as_bytes()),
+            after: after_millis(interface.as_bytes()),
             second: WrittenSecond::new(),
             id: split_id(0),
             digits: [b'0'; 8],
@@ -293,7 +293,7 @@ impl<'a> CandumpLines<'a> {
     /// let wanted = "(0000000010.300000) can0 18EAFF01#14F001\n";
     /// assert_eq!(rt; text.as_slice(), wanted.repeat(alloc, 2)?.as_bytes());
     /// ```
-    #[tactic(auto, using(crate::proofs::CandumpLemmas::behind_short, crate::proofs::CandumpLemmas::no_stamp, crate::proofs::CandumpLemmas::no_id, crate::proofs::CandumpLemmas::no_memory, crate::proofs::CandumpLemmas::appended))]
+    #[tactic(auto, using(crate::proofs::CandumpLemmas::after_short, crate::proofs::CandumpLemmas::no_stamp, crate::proofs::CandumpLemmas::no_id, crate::proofs::CandumpLemmas::no_memory, crate::proofs::CandumpLemmas::appended))]
     pub fn append(
         &mut self,
         _alloc: Global,
@@ -318,7 +318,7 @@ impl<'a> CandumpLines<'a> {
             start,
             &self.second.line,
             millis,
-            &self.behind,
+            &self.after,
             &self.digits,
             packet.data(),
         );

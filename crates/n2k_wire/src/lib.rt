@@ -29,13 +29,13 @@
 mod candump;
 mod candump_fast;
 mod candump_writer;
+mod cuts;
 mod digits;
 mod entry;
 mod fault;
 mod identifier;
 pub mod laws;
 mod packet;
-mod pieces;
 mod plain;
 mod plain_fast;
 mod plain_writer;

@@ -7,11 +7,11 @@ ghost use Rattle.n2k_wire.specs.Entry.{IsEntry, settled};
 ghost use Rattle.n2k_wire.specs.Packet.{IsPacket, greatest_pgn, greatest_priority, longest_message};
 
 use crate::candump::FRAME_PAYLOAD;
+use crate::cuts::cut_at;
 use crate::digits::decimal_number;
 use crate::entry::{BadCause, Entry, Packing, set_frame, set_whole};
 use crate::identifier::Id;
 use crate::packet::{GREATEST_PGN, GREATEST_PRIORITY, LONGEST_MESSAGE, is_stamp};
-use crate::pieces::cut_at;
 use arrayvec::ArrayVec;
 use hex::FromHex;
 

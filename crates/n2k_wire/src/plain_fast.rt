@@ -14,11 +14,11 @@ ghost use Rattle.n2k_wire.specs.declared.entry.Entry.TheVariants as entries;
 ghost use Rattle.n2k_wire.specs.declared.entry.Packing.TheVariants as packings;
 
 use crate::candump::FRAME_PAYLOAD;
+use crate::cuts::after_byte;
 use crate::digits::eight_bytes;
 use crate::entry::{Entry, LONGEST_LINE, Packing, set_frame, set_frame_fast};
 use crate::identifier::Id;
 use crate::packet::{GREATEST_PGN, GREATEST_PRIORITY, LONGEST_MESSAGE, LONGEST_STAMP};
-use crate::pieces::after_byte;
 use crate::plain::{GREATEST_ADDRESS, number_to, set_packed};
 use crate::stamp::UTC_LEN;
 use std::simd::prelude::*;
@@ -45,7 +45,7 @@ fn mask_of_others(lanes: u8x32) -> u64
 /// The number of stamp bytes that a text begins with. All are compared at once.
 #[inline(always)]
 fn stamp_len(text: &[u8; LONGEST_STAMP]) -> usize
-    ensures front { list_all is_stamp_byte (take result text.now) ≡ true }
+    ensures prefix { list_all is_stamp_byte (take result text.now) ≡ true }
     ensures within { result ≤ longest_stamp }
 {
     let mask = mask_of_others(u8x32::from_array(*text));
@@ -74,8 +74,8 @@ fn stamp_before(line: &[u8]) -> Option<(&[u8], &[u8])>
     ensures stamp { IfSome result (λ x. IsTrue (is_stamp x.0.now)) }
 {
     let len = stamp_len(line.first_chunk::<LONGEST_STAMP>()?);
-    let (stamp, behind) = line.split_at(len);
-    let text = after_byte(b',', behind)?;
+    let (stamp, after) = line.split_at(len);
+    let text = after_byte(b',', after)?;
     if !starts_stamp(stamp) {
         return None;
     }
@@ -91,8 +91,8 @@ fn number_before(digits: usize, limit: u64, text: &[u8]) -> Option<(u64, &[u8])>
     if text.len() < digits {
         return None;
     }
-    let (column, behind) = text.split_at(digits);
-    let rest = after_byte(b',', behind)?;
+    let (column, after) = text.split_at(digits);
+    let rest = after_byte(b',', after)?;
     let number = number_to(limit, column)?;
     Some((number, rest))
 }
@@ -151,16 +151,16 @@ fn id_before(text: &[u8]) -> Option<(Id, &[u8])>
 fn eight_columns(text: &[u8; EIGHT_COLUMNS]) -> Option<[u8; FRAME_PAYLOAD]>
     ensures { IfSome result (λ bytes. AreSpelled text.now bytes) }
 {
-    let front = u8x16::from_slice(text);
+    let prefix = u8x16::from_slice(text);
     let back = u8x16::from_slice(&text[7..]);
-    let commas: u8x16 = front.shuffle(
+    let commas: u8x16 = prefix.shuffle(
         back,
         [2, 5, 8, 11, 14, 26, 29, 29, 29, 29, 29, 29, 29, 29, 29, 29],
     );
     if commas.simd_ne(u8x16::splat(b',')).to_bitmask() != 0 {
         return None;
     }
-    let digits: u8x16 = front.shuffle(
+    let digits: u8x16 = prefix.shuffle(
         back,
         [0, 1, 3, 4, 6, 7, 9, 10, 12, 13, 15, 25, 27, 28, 30, 31],
     );

@@ -5,7 +5,7 @@ ghost use Rattle.std.specs.Prelude.{OnOk, OnErr};
 ghost use Rattle.std.specs.List.{flat_map};
 ghost use Rattle.n2k_wire.specs.Packet.{longest_message};
 ghost use Rattle.n2k_wire.specs.Inner.Digits.{lower_lane};
-ghost use Rattle.n2k_wire.specs.Texts.{byte_piece, number_piece, plain_text};
+ghost use Rattle.n2k_wire.specs.Texts.{byte_column, number_column, plain_text};
 
 use crate::candump::FRAME_PAYLOAD;
 use crate::packet::Packet;
@@ -27,16 +27,16 @@ const END: usize = 27;
 pub(crate) fn put<const N: usize>(
     text: &mut [u8],
     at: usize,
-    piece: &[u8; N],
+    column: &[u8; N],
     count: usize,
 ) -> usize
     requires room { at + N ≤ length text.old }
     requires few { count ≤ N }
-    ensures bytes { take result text.new ≡ take at text.old ++ take count piece.now }
+    ensures bytes { take result text.new ≡ take at text.old ++ take count column.now }
     ensures end { result ≡ at + count }
     ensures len { length text.new ≡ length text.old }
 {
-    Simd::<u8, N>::from_array(*piece).copy_to_slice(&mut text[at..]);
+    Simd::<u8, N>::from_array(*column).copy_to_slice(&mut text[at..]);
     at + count
 }
 
@@ -67,8 +67,8 @@ fn leading_zeros(number: u8) -> u32
 
 /// A number as a piece of a plain line. The comma takes the place of the last zero.
 #[inline(always)]
-fn small_piece(number: u8) -> ([u8; 4], usize)
-    ensures piece { take result.1 result.0 ≡ number_piece number }
+fn small_column(number: u8) -> ([u8; 4], usize)
+    ensures column { take result.1 result.0 ≡ number_column number }
     ensures few { result.1 ≤ 4 }
 {
     let zeros = leading_zeros(number);
@@ -78,9 +78,9 @@ fn small_piece(number: u8) -> ([u8; 4], usize)
 
 /// A PGN as a piece of a plain line. The comma takes the place of the last zero.
 #[inline(always)]
-fn pgn_piece(pgn: u32) -> ([u8; 8], usize)
+fn pgn_column(pgn: u32) -> ([u8; 8], usize)
     requires { (10000 ≤ pgn) × (pgn < 1000000) }
-    ensures piece { take result.1 result.0 ≡ number_piece pgn }
+    ensures column { take result.1 result.0 ≡ number_column pgn }
     ensures few { result.1 ≤ 7 }
 {
     let high = u64::from(digits_word(pgn / 1000));
@@ -97,7 +97,7 @@ fn pgn_piece(pgn: u32) -> ([u8; 8], usize)
 #[inline(never)]
 fn put_number(text: &mut [u8], at: usize, number: u32) -> usize
     requires { at + 11 ≤ length text.old }
-    ensures bytes { take result text.new ≡ take at text.old ++ number_piece number }
+    ensures bytes { take result text.new ≡ take at text.old ++ number_column number }
     ensures end { result ≤ at + 11 }
     ensures len { length text.new ≡ length text.old }
 {
@@ -113,13 +113,13 @@ fn put_number(text: &mut [u8], at: usize, number: u32) -> usize
 #[inline(always)]
 fn put_pgn(text: &mut [u8], at: usize, pgn: u32) -> usize
     requires { at + 11 ≤ length text.old }
-    ensures bytes { take result text.new ≡ take at text.old ++ number_piece pgn }
+    ensures bytes { take result text.new ≡ take at text.old ++ number_column pgn }
     ensures end { result ≤ at + 11 }
     ensures len { length text.new ≡ length text.old }
 {
     if pgn >= 10_000 && pgn < 1_000_000 {
-        let (piece, count) = pgn_piece(pgn);
-        put(text, at, &piece, count)
+        let (column, count) = pgn_column(pgn);
+        put(text, at, &column, count)
     } else {
         put_number(text, at, pgn)
     }
@@ -138,8 +138,8 @@ fn lower_digits(numbers: u8x16) -> u8x16
 
 /// The text after the destination in the line of eight bytes.
 #[inline(always)]
-fn end_piece(data: &[u8; FRAME_PAYLOAD]) -> [u8; 32]
-    ensures { take 27 result ≡ number_piece 8 ++ flat_map byte_piece «data».now ++ codes "\n" }
+fn end_column(data: &[u8; FRAME_PAYLOAD]) -> [u8; 32]
+    ensures { take 27 result ≡ number_column 8 ++ flat_map byte_column «data».now ++ codes "\n" }
 {
     let bytes = u8x8::from_array(*data);
     let high = bytes >> u8x8::splat(4);
@@ -158,8 +158,8 @@ fn end_piece(data: &[u8; FRAME_PAYLOAD]) -> [u8; 32]
 
 /// A byte as a piece of the line, and a byte that doesn't count.
 #[inline]
-fn byte_piece(byte: u8) -> [u8; 4]
-    ensures { take 3 result ≡ byte_piece byte }
+fn byte_column(byte: u8) -> [u8; 4]
+    ensures { take 3 result ≡ byte_column byte }
 {
     let mut pair = [0; 2];
     let _ = hex::encode_to_slice([byte], &mut pair);
@@ -170,13 +170,13 @@ fn byte_piece(byte: u8) -> [u8; 4]
 /// Writes bytes as pieces of the line.
 fn put_bytes(text: &mut [u8], at: usize, bytes: &[u8]) -> usize
     requires { at + 3 * length bytes.now + 1 ≤ length text.old }
-    ensures bytes { take result text.new ≡ take at text.old ++ flat_map byte_piece bytes.now }
+    ensures bytes { take result text.new ≡ take at text.old ++ flat_map byte_column bytes.now }
     ensures end { result ≡ at + 3 * length bytes.now }
     ensures len { length text.new ≡ length text.old }
 {
     let mut at = at;
     for byte in bytes {
-        at = put(text, at, &byte_piece(*byte), 3);
+        at = put(text, at, &byte_column(*byte), 3);
     }
     at
 }
@@ -187,15 +187,15 @@ fn put_end(text: &mut [u8], at: usize, data: &[u8]) -> usize
     requires room { at + 32 ≤ length text.old }
     requires bytes { at + 3 * length «data».now + 5 ≤ length text.old }
     requires short { length «data».now ≤ 223 }
-    ensures bytes { take result text.new ≡ take at text.old ++ number_piece (length «data».now)
-        ++ flat_map byte_piece «data».now ++ codes "\n" }
+    ensures bytes { take result text.new ≡ take at text.old ++ number_column (length «data».now)
+        ++ flat_map byte_column «data».now ++ codes "\n" }
     ensures end { result ≤ length text.old }
 {
     if let Some(data) = data.as_array() {
-        return put(text, at, &end_piece(data), END);
+        return put(text, at, &end_column(data), END);
     }
-    let (piece, count) = small_piece(data.len() as u8);
-    let at = put(text, at, &piece, count);
+    let (column, count) = small_column(data.len() as u8);
+    let at = put(text, at, &column, count);
     let at = put_bytes(text, at, data);
     put(text, at, b"\n", 1)
 }
@@ -223,10 +223,10 @@ pub fn write_line(text: &mut [u8], at: usize, packet: &Packet) -> usize
     let at = put(text, at, stamp, len);
     let at = put(text, at, &[b',', b'0' + id.prio], 2);
     let at = put_pgn(text, at, id.pgn);
-    let (piece, count) = small_piece(id.src);
-    let at = put(text, at, &piece, count);
-    let (piece, count) = small_piece(id.dst);
-    let at = put(text, at, &piece, count);
+    let (column, count) = small_column(id.src);
+    let at = put(text, at, &column, count);
+    let (column, count) = small_column(id.dst);
+    let at = put(text, at, &column, count);
     put_end(text, at, packet.data())
 }
 

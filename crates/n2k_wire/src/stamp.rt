@@ -7,12 +7,12 @@ ghost use Rattle.std.specs.List.{list_all};
 ghost use Rattle.n2k_wire.specs.Packet.{is_stamp, is_stamp_byte};
 ghost use Rattle.n2k_wire.specs.Inner.Stamp.{IsMoment, last_day, plain_moment};
 ghost use Rattle.n2k_wire.specs.Stamp.{seconds_of_day, utc_len, moment, three_digits, two_digits, date_text, time_text};
-ghost use Rattle.n2k_wire.specs.Stamp.{utc_text, has_utc_form, number_at, day_at_start, second_behind_date, utc_moment};
+ghost use Rattle.n2k_wire.specs.Stamp.{utc_text, has_utc_form, number_at, day_at_start, second_after_date, utc_moment};
 ghost use Rattle.n2k_wire.specs.Calendar.{day_number, is_date, year_of, month_of, day_of_month};
 ghost use Rattle.n2k_wire.specs.Views.{Finds};
 
+use crate::cuts::cut_at;
 use crate::digits::decimal_number;
-use crate::pieces::cut_at;
 use jiff::ToSpan;
 use jiff::civil::{Date, date};
 
@@ -212,10 +212,10 @@ fn day_at_start(text: &[u8]) -> Option<u32>
 }
 
 /// The second of the day of `HH:MM:SS` after `YYYY-MM-DDT`.
-#[tactic(auto, unfolding(crate::specs::Stamp::second_behind_date))]
-fn second_behind_date(text: &[u8]) -> Option<u32>
+#[tactic(auto, unfolding(crate::specs::Stamp::second_after_date))]
+fn second_after_date(text: &[u8]) -> Option<u32>
     requires { length text.now ≡ utc_len }
-    ensures value { result ≡ second_behind_date text.now }
+    ensures value { result ≡ second_after_date text.now }
     ensures bound { IfSome result (λ n. n < seconds_of_day) }
 {
     let hour = number_at(11, 2, text)?;
@@ -238,7 +238,7 @@ pub(crate) fn read_utc(text: &[u8]) -> Option<Moment>
         return None;
     }
     let day = u64::from(day_at_start(text)?);
-    let second = u64::from(second_behind_date(text)?);
+    let second = u64::from(second_after_date(text)?);
     let millis = number_at(20, 3, text)?;
     Some(Moment {
         seconds: day * SECONDS_OF_DAY + second,

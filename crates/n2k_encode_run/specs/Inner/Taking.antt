@@ -43,23 +43,23 @@ most_kept = 65538
 -- Bytes arrived after part of a line. All complete lines before `left` were taken. `kept` is a prefix of the unfinished
 -- line after them.
 pub record TakesBytes (t : TableParts) (nearest : Bool) (part bytes left kept : List ℕ) (l l' : Ledger) : Type 0 where
-  pub front : List ℕ
+  pub prefix : List ℕ
   pub rest : List ℕ
-  pub split : part ++ bytes ≡ front ++ (rest ++ left)
-  pub ends : IsEmptyOrEndsWith front line_feed
+  pub split : part ++ bytes ≡ prefix ++ (rest ++ left)
+  pub ends : IsEmptyOrEndsWith prefix line_feed
   pub no_feed : HasNoFeed rest
   pub kept_is : kept ≡ take most_kept rest
-  pub taken : TakesLines t nearest (lines front) l l'
+  pub taken : TakesLines t nearest (lines prefix) l l'
 
 -- the line limit is reached, and there are more bytes
 pub record TakesMost (t : TableParts) (nearest : Bool) (bytes : List ℕ) (l l' : Ledger) : Type 0 where
-  pub front : List ℕ
+  pub prefix : List ℕ
   pub more : List ℕ
-  pub split : bytes ≡ front ++ more
-  pub ends : IsEmptyOrEndsWith front line_feed
+  pub split : bytes ≡ prefix ++ more
+  pub ends : IsEmptyOrEndsWith prefix line_feed
   pub some : 0 < length more
   pub full : l'.counts.lines ≡ most_lines
-  pub taken : TakesLines t nearest (lines front) l l'
+  pub taken : TakesLines t nearest (lines prefix) l l'
 
 -- the result of bytes that arrived
 abbrev pub FeedsBytes : {T : Type 0} → TableParts → Bool → List ℕ → List ℕ → List ℕ → Ledger → Ledger
@@ -87,13 +87,13 @@ pub record TakesRead {T : Type 0} (t : TableParts) (nearest : Bool) (part bytes 
 -- kept.
 pub record BetweenReads (t : TableParts) (nearest : Bool) (before now : Devices) (kept : List ℕ) (l : Ledger)
     (reads : ℕ) : Type 0 where
-  pub front : List ℕ
+  pub prefix : List ℕ
   pub rest : List ℕ
-  pub came : Consumes before.left now.left (front ++ rest)
-  pub ends : IsEmptyOrEndsWith front line_feed
+  pub came : Consumes before.left now.left (prefix ++ rest)
+  pub ends : IsEmptyOrEndsWith prefix line_feed
   pub no_feed : HasNoFeed rest
   pub kept_is : kept ≡ take most_kept rest
-  pub taken : Takes t nearest before now l.counts front
+  pub taken : Takes t nearest before now l.counts prefix
   pub no_text : l.text.items ≡ []
   pub no_report : l.report.items ≡ []
   pub called : CallsAre before.calls now.calls 0 reads

@@ -46,8 +46,8 @@ beside side end entries at =
     if at == nowhere then end
     else option_map_or (λ (e : FrameKey × Linked). side e.1) (slice_get entries at) at
 
-abbrev pub behind_of : OpenGroups → ℕ → ℕ
-behind_of g = beside (λ l. l.behind) g.first g.groups.entries
+abbrev pub after_of : OpenGroups → ℕ → ℕ
+after_of g = beside (λ l. l.after) g.first g.groups.entries
 
 abbrev pub before_of : OpenGroups → ℕ → ℕ
 before_of g = beside (λ l. l.before) g.last g.groups.entries
@@ -56,7 +56,7 @@ before_of g = beside (λ l. l.before) g.last g.groups.entries
 abbrev pub places_from : Entries → ℕ → ℕ → List ℕ
 places_from entries zero at = []
 places_from entries (suc n) at =
-    option_map_or (λ (e : FrameKey × Linked). at ∷ places_from entries n e.1.behind) (slice_get entries at) []
+    option_map_or (λ (e : FrameKey × Linked). at ∷ places_from entries n e.1.after) (slice_get entries at) []
 
 -- the places of the groups, from the first on
 abbrev pub places : OpenGroups → List ℕ
@@ -78,7 +78,7 @@ RiseBelow least next (g ∷ gs) = (least ≤ g.first) × RiseBelow (g.first + 1)
 -- the groups are a list, each once, and were opened one after the other at lines before `next`
 pub record IsKept (next : ℕ) (g : OpenGroups) : Type 0 where
   pub few : length g.groups.entries < nowhere
-  pub linked : AreLinked (length g.groups.entries) (length g.groups.entries) (behind_of g) (before_of g) (places g)
+  pub linked : AreLinked (length g.groups.entries) (length g.groups.entries) (after_of g) (before_of g) (places g)
   pub counted : length (places g) ≡ length g.groups.entries
   pub rise : RiseBelow 1 next (listed g)
 
@@ -86,5 +86,5 @@ pub record IsKept (next : ℕ) (g : OpenGroups) : Type 0 where
 pub record AreRelinked (old new : OpenGroups) (f g : ℕ → ℕ) : Type 0 where
   pub count : length new.groups.entries ≡ length old.groups.entries
   pub items : (at : ℕ) → item_at new at ≡ item_at old at
-  pub behind : (at : ℕ) → behind_of new at ≡ f at
+  pub after : (at : ℕ) → after_of new at ≡ f at
   pub before : (at : ℕ) → before_of new at ≡ g at

@@ -47,8 +47,8 @@ abbrev pub open_tokens : List Group → List Token
 open_tokens gs = Token.key (codes "groups") ∷ tokens_of (list (map group_tree gs))
 
 -- the members of the state before `groups`
-abbrev pub front_tokens : Bool → Counts → List Token
-front_tokens with_window c =
+abbrev pub prefix_tokens : Bool → Counts → List Token
+prefix_tokens with_window c =
     count_tokens (codes "bad") c.bad ++ count_tokens (codes "broken") c.broken
     ++ count_tokens (codes "format") (format_by with_window)
 

@@ -101,7 +101,7 @@ fn total_holds(number: u64, bytes: &[u8; 7]) -> bool
 }
 
 /// The type guarantees bytes.
-fn know_bytes(bytes: &[u8])
+fn lemma_bytes_valid(bytes: &[u8])
     ensures { AllByRecursion (λ byte. byte < 256) bytes.now }
 {}
 
@@ -112,7 +112,7 @@ fn piece_of_parts(number: u8, bytes: &[u8; 7]) -> StoredPiece
     ensures value { piece_of result ≡ record { number = number; bytes = bytes.now } }
     ensures parts { IsPiece (piece_of result) }
 {
-    know_bytes(bytes);
+    lemma_bytes_valid(bytes);
     StoredPiece {
         number,
         bytes: *bytes,

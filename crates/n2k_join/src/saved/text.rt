@@ -5,7 +5,7 @@ ghost use Rattle.json.specs.Token.{Token};
 ghost use Rattle.n2k_join.specs.Frames.{most_frames};
 ghost use Rattle.n2k_join.specs.Open.{piece_at, is_waiting};
 ghost use Rattle.n2k_join.specs.Saved.{piece_tree, group_tree, state_tree, state_text, IsId};
-ghost use Rattle.n2k_join.specs.Inner.SavedTokens.{AppendsTokens, tokens_of, count_tokens, piece_tokens, pieces_tokens, frames_tokens, key_tokens, groups_tokens, open_tokens, front_tokens, table_tokens, back_tokens, window_tokens};
+ghost use Rattle.n2k_join.specs.Inner.SavedTokens.{AppendsTokens, tokens_of, count_tokens, piece_tokens, pieces_tokens, frames_tokens, key_tokens, groups_tokens, open_tokens, prefix_tokens, table_tokens, back_tokens, window_tokens};
 ghost use Rattle.std.specs.List.{list_all};
 ghost use Rattle.n2k_join.specs.Inner.Stored.{key_of};
 ghost use Rattle.n2k_join.specs.Inner.Slots.{slot_of, pieces_in, group_in};
@@ -126,7 +126,7 @@ fn push_groups(groups: &OpenGroups, out: &mut Writer) -> Result<(), AllocError>
             return Ok(());
         };
         push_group(key, &linked.group, out)?;
-        at = linked.behind;
+        at = linked.after;
     }
     Ok(())
 }
@@ -142,8 +142,8 @@ fn push_open(groups: &OpenGroups, out: &mut Writer) -> Result<(), AllocError>
 }
 
 /// Writes the members before `groups`, of a state with its window or without.
-fn push_front(with_window: bool, counts: &Counts, out: &mut Writer) -> Result<(), AllocError>
-    ensures { AppendsTokens result out.old out.new (front_tokens with_window counts.now) }
+fn push_prefix(with_window: bool, counts: &Counts, out: &mut Writer) -> Result<(), AllocError>
+    ensures { AppendsTokens result out.old out.new (prefix_tokens with_window counts.now) }
 {
     let format = if with_window {
         SAVED_FORMAT
@@ -221,7 +221,7 @@ fn push_state(
 {
     let with_window = are_waiting(window, counts.lines, groups);
     out.begin_object()?;
-    push_front(with_window, counts, out)?;
+    push_prefix(with_window, counts, out)?;
     push_open(groups, out)?;
     push_back(with_window, id, window, counts, out)?;
     out.end_object()?;

@@ -31,7 +31,7 @@ fn number_in(text: &[u8]) -> Option<(u64, &[u8])>
 }
 
 /// The whole number after a label.
-fn number_behind<'a>(label: &[u8], text: &'a [u8]) -> Option<(u64, &'a [u8])>
+fn number_after<'a>(label: &[u8], text: &'a [u8]) -> Option<(u64, &'a [u8])>
     ensures { IfSome result (λ r. length r.1.now ≤ length text.now) }
 {
     number_in(text.strip_prefix(label)?)
@@ -51,7 +51,7 @@ fn bytes_in(text: &[u8]) -> Option<([u8; 7], &[u8])>
 fn piece_in(text: &[u8]) -> Option<(SpelledPiece, &[u8])>
     ensures { IfSome result (λ r. length r.1.now ≤ length text.now) }
 {
-    let (number, rest) = number_behind(b"[", text)?;
+    let (number, rest) = number_after(b"[", text)?;
     let (bytes, rest) = bytes_in(rest.strip_prefix(b",\"")?)?;
     let rest = rest.strip_prefix(b"\"]")?;
     Some((SpelledPiece { number, bytes }, rest))
@@ -63,22 +63,22 @@ fn pieces_in(alloc: Global, text: &[u8]) -> Result<Option<(Vec<SpelledPiece>, &[
 {
     let mut pieces = Vec::new(alloc);
     let mut rest = text;
-    while let Some((piece, behind)) = piece_in(rest) {
+    while let Some((piece, after)) = piece_in(rest) {
         pieces.push(piece)?;
-        match behind.strip_prefix(b",") {
+        match after.strip_prefix(b",") {
             Some(others) => rest = others,
-            None => return Ok(Some((pieces, behind))),
+            None => return Ok(Some((pieces, after))),
         }
     }
     Ok(None)
 }
 
 /// The destination and the first line of the group at the start of a text.
-fn group_front(text: &[u8]) -> Option<(u64, u64, &[u8])>
+fn group_prefix(text: &[u8]) -> Option<(u64, u64, &[u8])>
     ensures { IfSome result (λ r. length r.2.now ≤ length text.now) }
 {
-    let (dst, rest) = number_behind(b"{\"dst\":", text)?;
-    let (first, rest) = number_behind(b",\"first\":", rest)?;
+    let (dst, rest) = number_after(b"{\"dst\":", text)?;
+    let (first, rest) = number_after(b",\"first\":", rest)?;
     let rest = rest.strip_prefix(b",\"frames\":[")?;
     Some((dst, first, rest))
 }
@@ -87,9 +87,9 @@ fn group_front(text: &[u8]) -> Option<(u64, u64, &[u8])>
 fn group_key(dst: u64, text: &[u8]) -> Option<(SpelledKey, &[u8])>
     ensures { IfSome result (λ r. length r.1.now ≤ length text.now) }
 {
-    let (pgn, rest) = number_behind(b"],\"pgn\":", text)?;
-    let (sequence, rest) = number_behind(b",\"seq\":", rest)?;
-    let (src, rest) = number_behind(b",\"src\":", rest)?;
+    let (pgn, rest) = number_after(b"],\"pgn\":", text)?;
+    let (sequence, rest) = number_after(b",\"seq\":", rest)?;
+    let (src, rest) = number_after(b",\"src\":", rest)?;
     let rest = rest.strip_prefix(b"}")?;
     let key = SpelledKey {
         src,
@@ -104,7 +104,7 @@ fn group_key(dst: u64, text: &[u8]) -> Option<(SpelledKey, &[u8])>
 fn group_in(alloc: Global, text: &[u8]) -> Result<Option<(SpelledGroup, &[u8])>, AllocError>
     ensures { IfOk result (λ found. IfSome found (λ r. length r.1.now ≤ length text.now)) }
 {
-    let Some((dst, first, rest)) = group_front(text) else {
+    let Some((dst, first, rest)) = group_prefix(text) else {
         return Ok(None);
     };
     let Some((pieces, rest)) = pieces_in(alloc, rest)? else {
@@ -123,35 +123,35 @@ fn groups_in(alloc: Global, text: &[u8]) -> Result<Option<(Vec<SpelledGroup>, &[
         return Ok(Some((groups, text)));
     }
     let mut rest = text;
-    while let Some((group, behind)) = group_in(alloc, rest)? {
+    while let Some((group, after)) = group_in(alloc, rest)? {
         groups.push(group)?;
-        match behind.strip_prefix(b",") {
+        match after.strip_prefix(b",") {
             Some(others) => rest = others,
-            None => return Ok(Some((groups, behind))),
+            None => return Ok(Some((groups, after))),
         }
     }
     Ok(None)
 }
 
 /// The counts of bad lines and broken groups at the start of a text, up to its groups.
-fn counts_front(text: &[u8]) -> Option<(u64, u64, &[u8])> {
-    let (bad, rest) = number_behind(b"{\"bad\":", text)?;
-    let (broken, rest) = number_behind(b",\"broken\":", rest)?;
+fn counts_prefix(text: &[u8]) -> Option<(u64, u64, &[u8])> {
+    let (bad, rest) = number_after(b"{\"bad\":", text)?;
+    let (broken, rest) = number_after(b",\"broken\":", rest)?;
     let rest = rest.strip_prefix(b",\"format\":2,\"groups\":[")?;
     Some((bad, broken, rest))
 }
 
 /// The counts of lines, messages and unknown PGNs after the groups of a text, if the text has this table and window and
 /// ends there.
-fn counts_behind(id: &[u8; 32], window: Window, text: &[u8]) -> Option<(u64, u64, u64)> {
-    let (lines, rest) = number_behind(b"],\"lines\":", text)?;
-    let (messages, rest) = number_behind(b",\"messages\":", rest)?;
+fn counts_suffix(id: &[u8; 32], window: Window, text: &[u8]) -> Option<(u64, u64, u64)> {
+    let (lines, rest) = number_after(b"],\"lines\":", text)?;
+    let (messages, rest) = number_after(b",\"messages\":", rest)?;
     let rest = rest.strip_prefix(b",\"table\":\"")?;
     let (digits, rest) = rest.split_at_checked(64)?;
     let mut bytes = [0; 32];
     hex::decode_to_slice(digits, &mut bytes).ok()?;
-    let (unknown, rest) = number_behind(b"\",\"unknown\":", rest)?;
-    let (long, rest) = number_behind(b",\"window\":", rest)?;
+    let (unknown, rest) = number_after(b"\",\"unknown\":", rest)?;
+    let (long, rest) = number_after(b",\"window\":", rest)?;
     if bytes != *id || long != u64::from(window.get()) || rest != b"}".as_slice() {
         return None;
     }
@@ -174,13 +174,13 @@ pub(crate) fn written_parts(
     window: Window,
     text: &[u8],
 ) -> Result<Option<(Counts, Vec<SpelledGroup>)>, AllocError> {
-    let Some((bad, broken, rest)) = counts_front(text) else {
+    let Some((bad, broken, rest)) = counts_prefix(text) else {
         return Ok(None);
     };
     let Some((groups, rest)) = groups_in(alloc, rest)? else {
         return Ok(None);
     };
-    let Some((lines, messages, unknown)) = counts_behind(id, window, rest) else {
+    let Some((lines, messages, unknown)) = counts_suffix(id, window, rest) else {
         return Ok(None);
     };
     if !is_first_waiting(window, lines, &groups) {

@@ -88,13 +88,13 @@ fn lines_taken(rt: HostRuntime) -> Result<(), Fail> {
 
 // Join::lend, message_of
 #[test]
-fn messages_lent(rt: HostRuntime) -> Result<(), Fail> {
+fn messages_in_place(rt: HostRuntime) -> Result<(), Fail> {
     let alloc = rt.alloc();
     let table = sample_table(alloc)?;
     let mut join = Join::new(alloc, &table, Window::new(10_000).unwrap());
     assert_eq!(rt; join.expire(), None);
     let mut entry = read_line("(1.0) can0 09F8027F#0500".as_bytes(), Packing::Frames);
-    let step = join.lend(&table, &mut entry)?;
+    let step = join.accept_in_place(&table, &mut entry)?;
     assert_eq!(rt; step.line, 1);
     let message = message_of(step.message, &entry).ok_or("a message")?;
     assert_eq!(rt; message.packet.id().pgn, 129026);
@@ -108,8 +108,8 @@ fn states_saved(rt: HostRuntime) -> Result<(), Fail> {
     let table = sample_table(alloc)?;
     let join = Join::new(alloc, &table, Window::new(10_000).unwrap());
     let state = join.save(alloc)?;
-    let front = "{\"bad\":0,\"broken\":0,\"format\":2,\"groups\":[],\"lines\":0,\"messages\":0,";
-    assert!(rt; state.starts_with(front.as_bytes()));
+    let prefix = "{\"bad\":0,\"broken\":0,\"format\":2,\"groups\":[],\"lines\":0,\"messages\":0,";
+    assert!(rt; state.starts_with(prefix.as_bytes()));
     Ok(())
 }
 

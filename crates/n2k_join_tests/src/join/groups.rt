@@ -28,8 +28,8 @@ fn push_group(alloc: Global, group: &Broken, text: &mut Vec<u8>) -> Result<(), F
 
 // Appends the number of a line and the group that the line breaks.
 fn push_broken(alloc: Global, line: u64, group: &Broken, text: &mut Vec<u8>) -> Result<(), Fail> {
-    let front = format!(in alloc; "{line} broken ")?;
-    push_told(&front, text)?;
+    let prefix = format!(in alloc; "{line} broken ")?;
+    push_told(&prefix, text)?;
     push_group(alloc, group, text)
 }
 
@@ -97,14 +97,14 @@ fn push_counts(alloc: Global, counts: &Counts, text: &mut Vec<u8>) -> Result<(),
 fn told_apart(
     alloc: Global,
     window: Window,
-    front: &str,
+    prefix: &str,
     between: u8,
     back: &str,
 ) -> Result<Vec<u8>, Fail> {
     let table = sample(alloc)?;
     let mut join = Join::new(alloc, &table, window);
     let mut text = Vec::new(alloc);
-    tell_all(alloc, &mut join, &table, front, &mut text)?;
+    tell_all(alloc, &mut join, &table, prefix, &mut text)?;
     for _ in 0..between {
         tell(alloc, &mut join, &table, "", &mut text)?;
     }
@@ -232,12 +232,12 @@ fn groups_in_order(rt: HostRuntime) -> Result<(), Fail> {
 // Compares under the shortest window, with `between` empty lines between two lines.
 fn tells_apart<R: Abort + AllocGlobal>(
     rt: &R,
-    front: &str,
+    prefix: &str,
     between: u8,
     back: &str,
     wanted: &str,
 ) -> Result<(), Fail> {
-    let text = told_apart(rt.alloc(), shortest_window(), front, between, back)?;
+    let text = told_apart(rt.alloc(), shortest_window(), prefix, between, back)?;
     assert_eq!(rt; text.as_slice(), wanted.as_bytes());
     Ok(())
 }
@@ -252,9 +252,9 @@ const NOT_STALE: &str =
 // A window of 32 lines ends a group of line 1 at line 33, not at line 32.
 #[test]
 fn stale_group(rt: HostRuntime) -> Result<(), Fail> {
-    let (front, back) = MIXED_MESSAGE.split_once("\n").ok_or("two lines")?;
-    tells_apart(&rt, front, 31, back, STALE)?;
-    tells_apart(&rt, front, 30, back, NOT_STALE)
+    let (prefix, back) = MIXED_MESSAGE.split_once("\n").ok_or("two lines")?;
+    tells_apart(&rt, prefix, 31, back, STALE)?;
+    tells_apart(&rt, prefix, 30, back, NOT_STALE)
 }
 
 // At line 33 the window of the first group ends, and a second frame 0 breaks the second group.
@@ -317,29 +317,29 @@ fn seventy_under_way(rt: HostRuntime) -> Result<(), Fail> {
 }
 
 // Whether a line's message is returned in place. Groups whose window ends at the line are broken first.
-fn lends(join: &mut Join, table: &Table, line: &str) -> Result<bool, JoinFault> {
+fn accepts_in_place(join: &mut Join, table: &Table, line: &str) -> Result<bool, JoinFault> {
     while join.expire().is_some() {}
     let mut entry = read_line(line.as_bytes(), Packing::Frames);
-    let step = join.lend(table, &mut entry)?;
+    let step = join.accept_in_place(table, &mut entry)?;
     Ok(step.message.is_some())
 }
 
 // How many messages the lines of a log give in place.
-fn lent_by(join: &mut Join, table: &Table, log: &str) -> Result<u32, JoinFault> {
+fn taken_in_place_by(join: &mut Join, table: &Table, log: &str) -> Result<u32, JoinFault> {
     let mut lent = 0u32;
     for line in log.lines() {
-        let lends = lends(join, table, line)?;
-        lent = lent.saturating_add(u32::from(lends));
+        let accepts_in_place = accepts_in_place(join, table, line)?;
+        lent = lent.saturating_add(u32::from(accepts_in_place));
     }
     Ok(lent)
 }
 
 // Each of the last two lines completes a message, which is returned in place.
 #[test]
-fn messages_are_lent(rt: HostRuntime) -> Result<(), Fail> {
+fn messages_are_in_place(rt: HostRuntime) -> Result<(), Fail> {
     let table = sample(rt.alloc())?;
     let mut join = Join::new(rt.alloc(), &table, long_window());
-    let lent = lent_by(&mut join, &table, TWO_SOURCES)?;
+    let lent = taken_in_place_by(&mut join, &table, TWO_SOURCES)?;
     assert_eq!(rt; lent, 2);
     Ok(())
 }

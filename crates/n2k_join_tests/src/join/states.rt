@@ -100,8 +100,8 @@ fn answer(alloc: Global, table: &Table, window: Window, state: &str) -> Result<S
 
 fn replaced(alloc: Global, state: &str, change: &str) -> Result<String, Fail> {
     let (old, new) = change.split_once(" | ").ok_or("a replacement")?;
-    let (front, back) = state.split_once(old).ok_or("a part of the state")?;
-    Ok(format!(in alloc; "{front}{new}{back}")?)
+    let (prefix, back) = state.split_once(old).ok_or("a part of the state")?;
+    Ok(format!(in alloc; "{prefix}{new}{back}")?)
 }
 
 fn answers<R: Abort + AllocGlobal>(
@@ -231,8 +231,8 @@ fn states_cut_short(rt: HostRuntime) -> Result<(), Fail> {
     let table = sample(rt.alloc())?;
     let text = spelled(rt.alloc(), OLD_OPEN)?;
     for end in 0..text.len() {
-        let front = text.as_bytes().get(..end).ok_or("a front")?;
-        let cut = Join::resume(rt.alloc(), &table, long_window(), front);
+        let prefix = text.as_bytes().get(..end).ok_or("a front")?;
+        let cut = Join::resume(rt.alloc(), &table, long_window(), prefix);
         assert!(rt; matches!(cut, Err(StateFault::NotJson)), "{end}");
     }
     Ok(())

@@ -7,7 +7,7 @@ use Rattle.n2k_run.specs.declared.blocks.Blocks.TheInside.{Inside}
 use Rattle.n2k_run.specs.declared.blocks.Found.{Found}
 use Rattle.n2k_run.specs.declared.blocks.Found.TheVariants.{Line, Long, End}
 use Rattle.n2k_run.specs.declared.device.Failed.{Failed}
-use Rattle.n2k_run.specs.Blocks.{Held, Came, HasNoFeed, FirstLine, FirstLong, Stays, passed, unanswered}
+use Rattle.n2k_run.specs.Blocks.{BlocksView, Came, HasNoFeed, FirstLine, FirstLong, Stays, passed, unanswered}
 use Rattle.n2k_run.specs.Lines.{line_feed}
 use Rattle.n2k_run.specs.Reading.{idle_calls, most_reads}
 
@@ -33,7 +33,7 @@ pub record HasPlaces (block : Inside) : Type 0 where
   pub finds : FindsEnd (slice_range block.block block.start block.end) block.feed
   pub few_reads : block.reads ≤ most_reads
 
-abbrev pub block_view : Inside → Held
+abbrev pub block_view : Inside → BlocksView
 block_view block = record {
   kept = slice_range block.block block.start block.end;
   is_passing = block.is_passing;
@@ -54,22 +54,22 @@ abbrev pub MakesRoom : List ℕ → List ℕ → Type 0
 MakesRoom old new = (new ≡ old) ⊎ ((longest_line + 1 < length old) × (new ≡ passed))
 
 -- a result whose line is in `new.line`
-abbrev pub FindsLine : List ℕ → Held → Option (List ℕ) → Found → Type 0
+abbrev pub FindsLine : List ℕ → BlocksView → Option (List ℕ) → Found → Type 0
 FindsLine whole new left Line =
     FirstLine whole new.line (unanswered new) new.has_ended left × (length new.line ≤ longest_line)
 FindsLine whole new left Long = FirstLong whole (unanswered new) new.has_ended left
 FindsLine whole new left End = IsAtEnd left × (new.has_ended ≡ true) × (whole ≡ []) × (unanswered new ≡ [])
 
 -- a result of finding; the line is returned later
-abbrev pub GivesFound : List ℕ → Held → Option (List ℕ) → Result Found Failed → Type 0
+abbrev pub GivesFound : List ℕ → BlocksView → Option (List ℕ) → Result Found Failed → Type 0
 GivesFound whole new left (Ok found) = FindsLine whole new left found
 GivesFound whole new left (Err failed) = HasNoFeed whole × Stays whole (unanswered new)
 
-abbrev pub AnswersFound : Held → Held → Option (List ℕ) → Option (List ℕ) → ℕ → ℕ → Result Found Failed → Type 0
+abbrev pub AnswersFound : BlocksView → BlocksView → Option (List ℕ) → Option (List ℕ) → ℕ → ℕ → Result Found Failed → Type 0
 AnswersFound old new left₀ left calls₀ calls result =
     Came (idle_calls new.has_ended result) old new left₀ left calls₀ calls (λ whole. GivesFound whole new left result)
 
 -- the bytes that came while no line was found, by calls, so many of which gave none
-abbrev pub Reads : ℕ → Held → Held → Option (List ℕ) → Option (List ℕ) → ℕ → ℕ → Type 0
+abbrev pub Reads : ℕ → BlocksView → BlocksView → Option (List ℕ) → Option (List ℕ) → ℕ → ℕ → Type 0
 Reads idle old new left₀ left calls₀ calls =
     Came idle old new left₀ left calls₀ calls (λ whole. Stays whole (unanswered new))

@@ -9,14 +9,14 @@ use Rattle.n2k_wire.specs.Entry.{entry}
 use Rattle.n2k_join.specs.Counts.{most_lines}
 use Rattle.n2k_run.specs.declared.fault.RunFault.{RunFault}
 use Rattle.n2k_run.specs.declared.fault.RunFault.TheVariants.{Read, Write, Report, Memory, TooManyLines}
-use Rattle.n2k_run.specs.Blocks.{Held, CallsAre, FirstLine, HasNoFeed, unanswered}
+use Rattle.n2k_run.specs.Blocks.{BlocksView, CallsAre, FirstLine, HasNoFeed, unanswered}
 use Rattle.n2k_run.specs.Device.{HasFailed}
 use Rattle.n2k_run.specs.Entries.{entries}
 use Rattle.n2k_run.specs.Lines.{line_feed}
 use Rattle.n2k_run.specs.Fold.{Fold, after_all, texts_from, reports_from}
 use Rattle.n2k_run.specs.Reading.{ReadsBytes, most_reads}
 use Rattle.n2k_run.specs.Runs.{AreNumbered, Devices, NoneFailed}
-use Rattle.n2k_run.specs.Writing.{AppendsFront}
+use Rattle.n2k_run.specs.Writing.{AppendsPrefix}
 
 -- a handler took an entry: the state, the text and the report moved on
 pub record MovesOn {S : Type 0} (m : Fold S) (s s' : S) (x : Entry)
@@ -43,7 +43,7 @@ TakesEntry m s s' x text text' report report' (Err Memory) = Unit {0}
 TakesEntry m s s' x text text' report report' _ = ⊥
 
 -- the next line of the log, and its entry
-pub record NextEntry (packing : Packing) (old new : Held) (left₀ left : Option (List ℕ)) (x : Entry) : Type 0 where
+pub record NextEntry (packing : Packing) (old new : BlocksView) (left₀ left : Option (List ℕ)) (x : Entry) : Type 0 where
   pub came : List ℕ
   pub given : Consumes left₀ left came
   pub line : List ℕ
@@ -51,7 +51,7 @@ pub record NextEntry (packing : Packing) (old new : Held) (left₀ left : Option
   pub entry_is : x ≡ entry line packing
 
 -- the log has no next line
-pub record NoneNext (old new : Held) (left₀ left : Option (List ℕ)) : Type 0 where
+pub record NoneNext (old new : BlocksView) (left₀ left : Option (List ℕ)) : Type 0 where
   pub came : List ℕ
   pub given : Consumes left₀ left came
   pub none : unanswered old ++ came ≡ []
@@ -60,13 +60,13 @@ pub record NoneNext (old new : Held) (left₀ left : Option (List ℕ)) : Type 0
   pub at_end : IsAtEnd left
 
 -- the next line didn't come
-pub record FailsNext (old : Held) (left₀ left : Option (List ℕ)) : Type 0 where
+pub record FailsNext (old : BlocksView) (left₀ left : Option (List ℕ)) : Type 0 where
   pub came : List ℕ
   pub given : Consumes left₀ left came
   pub none : HasNoFeed (unanswered old ++ came)
 
 -- the step at the next line
-abbrev pub TakesNext : {S T : Type 0} → Fold S → Packing → S → S → Held → Held → Option (List ℕ) → Option (List ℕ)
+abbrev pub TakesNext : {S T : Type 0} → Fold S → Packing → S → S → BlocksView → BlocksView → Option (List ℕ) → Option (List ℕ)
     → List ℕ → List ℕ → List ℕ → List ℕ → Result T RunFault → Type 0
 TakesNext m packing s s' old new left₀ left text text' report report' (Ok y) =
     ((x : Entry) × NextEntry packing old new left₀ left x × MovesOn m s s' x text text' report report')
@@ -80,7 +80,7 @@ TakesNext m packing s s' old new left₀ left text text' report report' (Err Mem
 TakesNext m packing s s' old new left₀ left text text' report report' _ = ⊥
 
 -- the source's failures at the next line: none if a line or the end was found, even if the handler refuses the line
-abbrev pub ReadsNext : {T : Type 0} → Held → ℕ → ℕ → Result T RunFault → Type 0
+abbrev pub ReadsNext : {T : Type 0} → BlocksView → ℕ → ℕ → Result T RunFault → Type 0
 ReadsNext new failed₀ failed (Err Read) = HasFailed failed₀ failed ⊎ ((new.reads ≡ most_reads) × (failed ≡ failed₀))
 ReadsNext new failed₀ failed (Err Write) = Unit {0}
 ReadsNext new failed₀ failed (Err Report) = Unit {0}
@@ -90,8 +90,8 @@ ReadsNext new failed₀ failed _ = failed ≡ failed₀
 abbrev pub WritesPending : {T : Type 0} → List ℕ → List ℕ → Option (List ℕ) → Option (List ℕ) → Option (List ℕ)
     → Option (List ℕ) → Result T RunFault → Type 0
 WritesPending text report w w' e e' (Ok x) = Appends w w' text × Appends e e' report
-WritesPending text report w w' e e' (Err Report) = (w' ≡ w) × AppendsFront e e' report × (0 < length report)
-WritesPending text report w w' e e' (Err Write) = AppendsFront w w' text × Appends e e' report × (0 < length text)
+WritesPending text report w w' e e' (Err Report) = (w' ≡ w) × AppendsPrefix e e' report × (0 < length report)
+WritesPending text report w w' e e' (Err Write) = AppendsPrefix w w' text × Appends e e' report × (0 < length text)
 WritesPending text report w w' e e' _ = ⊥
 
 -- the sinks' failures when the pending texts are written
@@ -117,14 +117,14 @@ pub record Made {S : Type 0} (m : Fold S) (s₀ s : S) (es : List Entry) (text r
   pub numbered : AreNumbered (m.lines s₀) es
 
 -- The engine between two lines: the bytes that came of the log are the taken lines and the block's bytes.
-pub record BetweenLines {S : Type 0} (m : Fold S) (packing : Packing) (s₀ s : S) (held : Held) (text report : List ℕ)
+pub record BetweenLines {S : Type 0} (m : Fold S) (packing : Packing) (s₀ s : S) (held : BlocksView) (text report : List ℕ)
     (before now : Devices) : Type 0 where
-  pub front : List ℕ
-  pub came : Consumes before.left now.left (front ++ unanswered held)
+  pub prefix : List ℕ
+  pub came : Consumes before.left now.left (prefix ++ unanswered held)
   -- the taken bytes end with a line, unless the log has ended
-  pub whole : held.has_ended ≡ false → IsEmptyOrEndsWith front line_feed
+  pub whole : held.has_ended ≡ false → IsEmptyOrEndsWith prefix line_feed
   pub end : held.has_ended ≡ true → (unanswered held ≡ []) × IsAtEnd now.left
-  pub made : Made m s₀ s (entries packing front) text report before.written now.written before.reported now.reported
+  pub made : Made m s₀ s (entries packing prefix) text report before.written now.written before.reported now.reported
   pub called : CallsAre before.calls now.calls 0 held.reads
   -- each call but the one that found the end gave bytes
   pub reads : ReadsBytes (if held.has_ended then 1 else 0) before.left now.left before.calls now.calls

@@ -21,12 +21,12 @@ value_parts (code.Bytes b) = Some (bytes b.now)
 value_parts code.Seldom = None
 
 -- no string precedes the field, and it lies wholly inside the data
-abbrev pub inside_behind : List Step → FieldParts → List ℕ → Bool
-inside_behind [] f payload = lies_inside f payload
-inside_behind (s ∷ ss) f payload = false
+abbrev pub inside_after : List Step → FieldParts → List ℕ → Bool
+inside_after [] f payload = lies_inside f payload
+inside_after (s ∷ ss) f payload = false
 
 abbrev pub stands_inside : FieldParts → List ℕ → Bool
-stands_inside f payload = inside_behind f.behind f payload
+stands_inside f payload = inside_after f.after f payload
 
 -- a bit that is 1, as such a part
 abbrev pub named_bit : NamedBit → FlagParts

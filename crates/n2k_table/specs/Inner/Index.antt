@@ -8,7 +8,7 @@ use Rattle.std.specs.declared.alloc.Global.{Global}
 use Rattle.n2k_table.specs.Definition.{DefinitionParts}
 use Rattle.n2k_table.specs.Table.{is_of, are_mixed}
 use Rattle.n2k_table.specs.declared.index.Candidate.{Candidate}
-use Rattle.n2k_table.specs.Inner.Glance.{IsGlance}
+use Rattle.n2k_table.specs.Inner.MatchPrefilter.{IsMatchPrefilter}
 
 -- the PGNs of definitions
 abbrev pub pgns : List DefinitionParts → List ℕ
@@ -32,7 +32,7 @@ places_of cs = map (λ (c : Candidate). c.place) cs
 
 -- a candidate asks at a glance for what the definition at its place asks for
 abbrev pub IsOfPlace : List DefinitionParts → Candidate → Type 0
-IsOfPlace ds c = IfSome (slice_get ds c.place) (λ d. IsGlance c.glance d.fields)
+IsOfPlace ds c = IfSome (slice_get ds c.place) (λ d. IsMatchPrefilter c.match_prefilter d.fields)
 
 -- these are the candidates of a PGN
 pub record AreOfPgn (number : ℕ) (ds : List DefinitionParts) (cs : List Candidate) : Type 0 where

@@ -53,11 +53,11 @@ left_beside room None = None
 left_beside room (Some n) = if nat_le n room then Some (room - n) else None
 
 -- What the code keeps of each field: also the text before its value, and a place that a message can have.
-pub record IsKept (name before_value : List ℕ) (at bits needed : ℕ) (behind : List Step) (meaning : CodeMeaning)
+pub record IsKept (name before_value : List ℕ) (at bits needed : ℕ) (after : List Step) (meaning : CodeMeaning)
     (match_value : Option ℕ) : Type 0 where
   pub key : before_value ≡ key_json true name
   pub inside : at + bits ≤ message_bits
-  pub fixed : fixed_place behind at + bits ≤ message_bits
-  pub end : needed ≡ bytes_needed behind at bits
+  pub fixed : fixed_place after at + bits ≤ message_bits
+  pub end : needed ≡ bytes_needed after at bits
   pub room : HasRoom meaning bits
   pub room_match : IfSome match_value (λ _. (1 ≤ bits) × (bits ≤ most_number_bits))

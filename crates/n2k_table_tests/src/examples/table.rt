@@ -118,8 +118,8 @@ fn lines_in_two_parts(rt: HostRuntime) -> Result<(), Fail> {
     let alloc = rt.alloc();
     let mut lines = LineBuffer::new(alloc);
     lines.push_plain(&frame_in("(1.0) can0 18EAFF01#14F001")?)?;
-    let (front, rest) = lines.parts();
-    assert_eq!(rt; (front.len(), rest.len()), (0, 50));
+    let (prefix, rest) = lines.parts();
+    assert_eq!(rt; (prefix.len(), rest.len()), (0, 50));
     Ok(())
 }
 

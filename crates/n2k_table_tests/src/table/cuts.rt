@@ -7,16 +7,16 @@ use std::test::Fail;
 
 // Whether a prefix of the sample is a complete table. It is at the end of the first line, of the lookup's last key and
 // of each definition's last key, and at the empty lines after these.
-fn is_finished(front: &str) -> bool {
-    let text = front.trim_end_matches('\n');
+fn is_finished(prefix: &str) -> bool {
+    let text = prefix.trim_end_matches('\n');
     text.ends_with("format = 1") || text.ends_with("[2, \"Error\"]]") || text.ends_with("\n]")
 }
 
 // Any other prefix is not TOML, has no format yet, or lacks a key.
-fn cut_reads(alloc: Global, front: &str) -> bool {
-    match read(alloc, front) {
-        Ok(_) => is_finished(front),
-        Err(TableFault::NotToml | TableFault::Format | TableFault::Key) => !is_finished(front),
+fn cut_reads(alloc: Global, prefix: &str) -> bool {
+    match read(alloc, prefix) {
+        Ok(_) => is_finished(prefix),
+        Err(TableFault::NotToml | TableFault::Format | TableFault::Key) => !is_finished(prefix),
         Err(_) => false,
     }
 }
@@ -25,9 +25,9 @@ fn cut_reads(alloc: Global, front: &str) -> bool {
 fn cut_after_each_byte(rt: HostRuntime) -> Result<(), Fail> {
     let mut reading = 0u32;
     for end in 0..=SAMPLE.len() {
-        let front = SAMPLE.get(..end).ok_or("a front")?;
-        assert!(rt; cut_reads(rt.alloc(), front), "{end}");
-        if is_finished(front) {
+        let prefix = SAMPLE.get(..end).ok_or("a front")?;
+        assert!(rt; cut_reads(rt.alloc(), prefix), "{end}");
+        if is_finished(prefix) {
             reading = reading.saturating_add(1);
         }
     }

@@ -13,8 +13,8 @@ fn push_part(
 ) -> Result<(), AllocError> {
     match part.split_once("{}") {
         None => text.push_str(part),
-        Some((front, back)) => {
-            let one = format!(in alloc; "{front}{number}{back}")?;
+        Some((prefix, back)) => {
+            let one = format!(in alloc; "{prefix}{number}{back}")?;
             text.push_str(&one)
         }
     }
@@ -141,9 +141,9 @@ fn limit_answers<R: Abort + AllocGlobal>(
     format: u32,
     case: &(&str, usize, &str, &str, &str),
 ) -> Result<(), Fail> {
-    let (front, count, part, back, wanted) = *case;
+    let (prefix, count, part, back, wanted) = *case;
     let middle = many(rt.alloc(), count, part)?;
-    let text = format!(in rt.alloc(); "format = {format}\n{front}{middle}{back}\n")?;
+    let text = format!(in rt.alloc(); "format = {format}\n{prefix}{middle}{back}\n")?;
     answers(rt, &text, wanted, part)
 }
 

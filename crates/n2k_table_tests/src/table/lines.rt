@@ -248,9 +248,9 @@ fn has_lines<R: Abort + AllocGlobal>(
     for _ in 0..count {
         wanted.extend_from_slice(line.as_bytes())?;
     }
-    let (front, rest) = lines.parts();
-    assert!(rt; !front.is_empty());
-    assert_eq!(rt; wanted.strip_prefix(front), Some(rest));
+    let (prefix, rest) = lines.parts();
+    assert!(rt; !prefix.is_empty());
+    assert_eq!(rt; wanted.strip_prefix(prefix), Some(rest));
     Ok(())
 }
 

@@ -171,8 +171,8 @@ fn pairs_in_format_1_key(rt: HostRuntime) -> Result<(), Fail> {
 #[test]
 fn no_last_bracket(rt: HostRuntime) -> Result<(), Fail> {
     let end = SAMPLE.rfind(']').ok_or("a bracket")?;
-    let (front, _) = SAMPLE.split_at(end);
-    answers(&rt, front, "NotToml", "no last bracket")
+    let (prefix, _) = SAMPLE.split_at(end);
+    answers(&rt, prefix, "NotToml", "no last bracket")
 }
 
 // The byte FF precedes the sample.

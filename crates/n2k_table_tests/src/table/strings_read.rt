@@ -72,7 +72,7 @@ Lookup | { name = 'N', kind = 'number', at = 0, bits = 8, after = 'S' }, { name 
 Lookup | { name = 'N', kind = 'text', at = 0, bits = 8 }, { name = 'S', kind = 'string', at = 0, form = 'lz', after = 'N' }";
 
 // Result, keys of a field after S.
-const BEHIND: &str = "reads | at = 0, bits = 8, kind = 'number'
+const AFTER: &str = "reads | at = 0, bits = 8, kind = 'number'
 reads | at = 0, bits = 8, kind = 'number', signed = true, resolution = '0.1', unit = 'C'
 reads | at = 0, bits = 8, kind = 'lookup', lookup = 'L'
 reads | at = 0, bits = 8, kind = 'text', short = true
@@ -123,8 +123,8 @@ fn strings(rt: HostRuntime) -> Result<(), Fail> {
 const S: &str = "{ name = 'S', kind = 'string', at = 0, form = 'lz' }";
 
 #[test]
-fn each_kind_behind_a_string(rt: HostRuntime) -> Result<(), Fail> {
-    for case in BEHIND.lines() {
+fn each_kind_after_a_string(rt: HostRuntime) -> Result<(), Fail> {
+    for case in AFTER.lines() {
         let (wanted, keys) = case.split_once(" | ").ok_or("an answer")?;
         let fields = format!(in rt.alloc(); "{S}, {{ name = 'N', {keys}, after = 'S' }}")?;
         fields_answer(&rt, &fields, wanted)?;
@@ -183,7 +183,7 @@ Text | kind = 'string', at = 0, after = 'S', form = 'x', short = 1
 Key | kind = 'text', at = 0, bits = 8, after = 'S', short = 1";
 
 #[test]
-fn first_of_a_field_behind_a_string(rt: HostRuntime) -> Result<(), Fail> {
+fn first_of_a_field_after_a_string(rt: HostRuntime) -> Result<(), Fail> {
     for case in FIRST.lines() {
         let (wanted, keys) = case.split_once(" | ").ok_or("an answer")?;
         let fields = format!(in rt.alloc(); "{S}, {{ name = 'N', {keys} }}")?;
@@ -198,8 +198,8 @@ fn older_tables_have_no_strings(rt: HostRuntime) -> Result<(), Fail> {
     for format in 1..3u32 {
         let text = of_format(rt.alloc(), format, S)?;
         answers(&rt, &text, "Text", "string")?;
-        let behind = "{ name = 'N', kind = 'number', at = 0, bits = 8, after = 'S' }";
-        answers(&rt, &of_format(rt.alloc(), format, behind)?, "Key", "after")?;
+        let after = "{ name = 'N', kind = 'number', at = 0, bits = 8, after = 'S' }";
+        answers(&rt, &of_format(rt.alloc(), format, after)?, "Key", "after")?;
         let form = "{ name = 'N', kind = 'number', at = 0, bits = 8, form = 'lz' }";
         answers(&rt, &of_format(rt.alloc(), format, form)?, "Key", "form")?;
     }

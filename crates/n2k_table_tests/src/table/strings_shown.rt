@@ -183,8 +183,8 @@ fn string_shows<R: Abort + AllocGlobal>(
     values: &str,
 ) -> Result<(), Fail> {
     let table = with_string(rt.alloc(), string)?;
-    let (shown, behind) = values.rsplit_once(",").ok_or("two values")?;
-    let fields = format!(in rt.alloc(); "\"S\":{shown},\"N\":{behind}")?;
+    let (shown, after) = values.rsplit_once(",").ok_or("two values")?;
+    let fields = format!(in rt.alloc(); "\"S\":{shown},\"N\":{after}")?;
     prints(rt, &table, (65280, data), true, "D", &fields)
 }
 

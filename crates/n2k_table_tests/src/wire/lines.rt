@@ -7,7 +7,7 @@ use std::process::Abort;
 use std::test::Fail;
 
 // A word, and then a packet's plain text.
-fn text_behind(alloc: Global, word: &str, packet: &Packet) -> Result<Vec<u8>, AllocError> {
+fn text_after(alloc: Global, word: &str, packet: &Packet) -> Result<Vec<u8>, AllocError> {
     let mut text = word.as_bytes().to_vec(alloc)?;
     plain_text(alloc, packet, &mut text)?;
     Ok(text)
@@ -18,8 +18,8 @@ fn text_of(alloc: Global, entry: &Entry) -> Result<Vec<u8>, AllocError> {
     match entry {
         Entry::Skip => b"skipped".to_vec(alloc),
         Entry::Bad(cause) => Ok(format!(in alloc; "{cause:?}")?.into_bytes()),
-        Entry::Frame(packet) => text_behind(alloc, "", packet),
-        Entry::Whole(packet) => text_behind(alloc, "whole ", packet),
+        Entry::Frame(packet) => text_after(alloc, "", packet),
+        Entry::Whole(packet) => text_after(alloc, "whole ", packet),
     }
 }
 
@@ -416,10 +416,10 @@ fn whole_lines(rt: HostRuntime) -> Result<(), Fail> {
 #[test]
 fn the_longest_message(rt: HostRuntime) -> Result<(), Fail> {
     let packet = Packet::new(b"x", split_id(0), &[0xab; 223]).ok_or("refused")?;
-    let text = text_behind(rt.alloc(), "", &packet)?;
+    let text = text_after(rt.alloc(), "", &packet)?;
     let (last, line) = text.split_last().ok_or("no line")?;
     assert_eq!(rt; *last, b'\n');
-    let wanted = text_behind(rt.alloc(), "whole ", &packet)?;
+    let wanted = text_after(rt.alloc(), "whole ", &packet)?;
     let entry = read_line(line, Packing::Frames);
     tells(&rt, &entry, &wanted, "the longest")
 }

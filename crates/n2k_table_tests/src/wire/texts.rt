@@ -22,7 +22,7 @@ fn push_candump(
 }
 
 // A packet's line, appended by `CandumpLines` after the earlier packets.
-fn push_behind(
+fn push_after(
     alloc: Global,
     packet: &Packet,
     lines: &mut CandumpLines,
@@ -53,7 +53,7 @@ fn replays<R: Abort + AllocGlobal>(
     assert_eq!(rt; text.as_slice(), wanted.as_bytes(), "of {line}");
     for _ in 0..2 {
         text.clear();
-        push_behind(rt.alloc(), &packet, lines, &mut text)?;
+        push_after(rt.alloc(), &packet, lines, &mut text)?;
         assert_eq!(rt; text.as_slice(), wanted.as_bytes(), "of {line}, in a row");
     }
     Ok(())

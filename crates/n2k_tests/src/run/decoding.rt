@@ -227,10 +227,10 @@ line 33 broken pgn 130820 src 6 dst 255 seq 1 first 2
 
 // Inserts empty lines before the last line of a log.
 fn with_empty_lines(alloc: Global, log: &str, empty: usize) -> Result<Vec<u8>, Fail> {
-    let front = log.trim_end().rfind('\n').ok_or("one line")?;
-    let (front, last) = log.split_at(front);
+    let prefix = log.trim_end().rfind('\n').ok_or("one line")?;
+    let (prefix, last) = log.split_at(prefix);
     let mut text = Vec::new(alloc);
-    text.extend_from_slice(front.as_bytes())?;
+    text.extend_from_slice(prefix.as_bytes())?;
     for _ in 0..empty {
         text.push(b'\n')?;
     }

@@ -34,7 +34,7 @@ fn is_refused(fault: RunFault) -> bool {
     matches!(fault, RunFault::Memory | RunFault::Write | RunFault::Report)
 }
 
-fn run_leaves_a_front<R: Abort + AllocGlobal>(
+fn run_leaves_a_prefix<R: Abort + AllocGlobal>(
     rt: &R,
     table: &Table,
     log: &str,
@@ -55,8 +55,8 @@ fn refused_memory_in_a_run(rt: HostRuntime) {
     let Ok(table) = sample(rt.alloc()) else {
         return;
     };
-    run_leaves_a_front(&rt, &table, TWO_SOURCES, TWO_SOURCES_TEXT, "");
-    run_leaves_a_front(
+    run_leaves_a_prefix(&rt, &table, TWO_SOURCES, TWO_SOURCES_TEXT, "");
+    run_leaves_a_prefix(
         &rt,
         &table,
         REPEAT_BREAKS,
@@ -66,7 +66,7 @@ fn refused_memory_in_a_run(rt: HostRuntime) {
 }
 
 // If a part's input state is refused, nothing was written. If its own state cannot be saved, all may have been written.
-fn part_leaves_a_front<R: Abort + AllocGlobal>(
+fn part_leaves_a_prefix<R: Abort + AllocGlobal>(
     rt: &R,
     table: &Table,
     options: Options,
@@ -103,7 +103,7 @@ fn refused_memory_in_a_part(rt: HostRuntime) {
         return;
     };
     let options = frames(long_window());
-    part_leaves_a_front(
+    part_leaves_a_prefix(
         &rt,
         &table,
         options,
@@ -118,14 +118,14 @@ fn refused_memory_in_a_part(rt: HostRuntime) {
 const OLD_EMPTY: &str =
     "{'bad':0,'broken':0,'format':1,'groups':[],'lines':0,'messages':0,'table':'ID','unknown':0}";
 
-fn old_state_leaves_a_front<R: Abort + AllocGlobal>(
+fn old_state_leaves_a_prefix<R: Abort + AllocGlobal>(
     rt: &R,
     table: &Table,
     state: &str,
     reports: &str,
 ) -> Result<(), Fail> {
     let state = spelled(rt.alloc(), state)?;
-    part_leaves_a_front(
+    part_leaves_a_prefix(
         rt,
         table,
         frames(shortest_window()),
@@ -141,8 +141,8 @@ fn old_state_leaves_a_front<R: Abort + AllocGlobal>(
 #[test]
 fn an_old_state_goes_on_or_is_refused(rt: HostRuntime) -> Result<(), Fail> {
     let table = sample(rt.alloc())?;
-    old_state_leaves_a_front(&rt, &table, OVERDUE, OVERDUE_REPORTS)?;
-    old_state_leaves_a_front(&rt, &table, OLD_EMPTY, "")
+    old_state_leaves_a_prefix(&rt, &table, OVERDUE, OVERDUE_REPORTS)?;
+    old_state_leaves_a_prefix(&rt, &table, OLD_EMPTY, "")
 }
 
 // two-sources-cut, after each line
@@ -178,7 +178,7 @@ fn refused_memory_in_parts(rt: HostRuntime) {
     }
 }
 
-fn frames_leave_a_front<R: Abort + AllocGlobal>(
+fn frames_leave_a_prefix<R: Abort + AllocGlobal>(
     rt: &R,
     table: &Table,
     interface: Option<&str>,
@@ -198,6 +198,6 @@ fn refused_memory_in_frames(rt: HostRuntime) {
     let Ok(table) = sample(rt.alloc()) else {
         return;
     };
-    frames_leave_a_front(&rt, &table, None, SPLIT_AND_BACK_PLAIN);
-    frames_leave_a_front(&rt, &table, Some("can0"), SPLIT_AND_BACK_CANDUMP);
+    frames_leave_a_prefix(&rt, &table, None, SPLIT_AND_BACK_PLAIN);
+    frames_leave_a_prefix(&rt, &table, Some("can0"), SPLIT_AND_BACK_CANDUMP);
 }

@@ -132,9 +132,9 @@ fn gives_in_two<R: Abort + AllocGlobal>(
     let log = example.log.as_bytes();
     for (at, byte) in log.iter().enumerate() {
         if *byte == b'\n' {
-            let front = log.get(..=at).ok_or("no front")?;
-            let back = log.get(front.len()..).ok_or("no back")?;
-            gives(rt, table, &[front, back], example)?;
+            let prefix = log.get(..=at).ok_or("no front")?;
+            let back = log.get(prefix.len()..).ok_or("no back")?;
+            gives(rt, table, &[prefix, back], example)?;
         }
     }
     Ok(())
@@ -333,8 +333,8 @@ fn a_part_without_the_order_is_completed_in_order(rt: HostRuntime) -> Result<(),
     let table = sample(rt.alloc())?;
     let mut outputs = empty_outputs(rt.alloc(), 7);
     let (options, log) = (frames(long_window()), ONE_THEN_ZERO.as_bytes());
-    let front = part_of_log(rt.alloc(), &table, options, None, log, &mut outputs)?;
-    let (options, state) = (frames(long_window().in_order()), front.state.as_slice());
+    let prefix = part_of_log(rt.alloc(), &table, options, None, log, &mut outputs)?;
+    let (options, state) = (frames(long_window().in_order()), prefix.state.as_slice());
     let log = TWO.as_bytes();
     part_of_log(rt.alloc(), &table, options, Some(state), log, &mut outputs)?;
     has_printed(&rt, &outputs, OUT_OF_ORDER, "");
@@ -472,7 +472,7 @@ fn failed(
 
 // write-fails: a prefix is written.
 #[test]
-fn a_failed_write_leaves_a_front(rt: HostRuntime) -> Result<(), Fail> {
+fn a_failed_write_leaves_a_prefix(rt: HostRuntime) -> Result<(), Fail> {
     let table = sample(rt.alloc())?;
     let (fault, outputs) = failed(rt.alloc(), &table, TWO_SOURCES, 3, 0);
     assert_eq!(rt; fault, Some(RunFault::Write));
@@ -482,7 +482,7 @@ fn a_failed_write_leaves_a_front(rt: HostRuntime) -> Result<(), Fail> {
 
 // The report of repeat-breaks cannot be written.
 #[test]
-fn a_failed_report_leaves_a_front(rt: HostRuntime) -> Result<(), Fail> {
+fn a_failed_report_leaves_a_prefix(rt: HostRuntime) -> Result<(), Fail> {
     let table = sample(rt.alloc())?;
     let (fault, outputs) = failed(rt.alloc(), &table, REPEAT_BREAKS, 0, 3);
     assert_eq!(rt; fault, Some(RunFault::Report));

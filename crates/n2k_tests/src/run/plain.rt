@@ -253,7 +253,7 @@ fn counts_of_a_log_that_fails(rt: HostRuntime) {
 // `tests/faults/refused-growth` refuses each growth of the run in turn: the result is the same as with ample memory or
 // a refusal, and the written bytes are a prefix.
 #[test]
-fn refused_memory_leaves_a_front(rt: HostRuntime) {
+fn refused_memory_leaves_a_prefix(rt: HostRuntime) {
     let mut outputs = empty_outputs(rt.alloc(), 10);
     match write_plain(rt.alloc(), TWO_SOURCES.as_bytes(), 60, &mut outputs) {
         Ok(counts) => {

@@ -13,16 +13,16 @@ candump_entry None = entries.Skip
 candump_entry (Some frame) = entries.Frame (record { stamp = frame.stamp; id = frame.id; payload = frame.«data».items })
 
 -- the UTC text of a candump line's stamp, and the text after the stamp
-unfoldable pub stamp_behind : List ℕ → Option (List ℕ × List ℕ)
-stamp_behind line =
+unfoldable pub stamp_after : List ℕ → Option (List ℕ × List ℕ)
+stamp_after line =
     option_and_then (λ outer. option_and_then (λ seen. Some (utc_text seen, outer.1)) (moment outer.0)) (stamped line)
 
--- a line that begins with `front`, a fraction and the closing parenthesis is of this second
-abbrev pub IsSecondFront : List ℕ → ℕ → Type 0
-IsSecondFront front seconds =
+-- a line that begins with `prefix`, a fraction and the closing parenthesis is of this second
+abbrev pub IsSecondPrefix : List ℕ → ℕ → Type 0
+IsSecondPrefix prefix seconds =
     (fraction rest : List ℕ) (f m : ℕ) → decimal_number most_fraction_digits fraction ≡ Some f
     → decimal_number 3 (three_digits fraction) ≡ Some m
-    → stamp_behind (front ++ (fraction ++ (41 ∷ rest)))
+    → stamp_after (prefix ++ (fraction ++ (41 ∷ rest)))
     ≡ Some (utc_text (record { seconds = seconds; millis = m }), rest)
 
 -- the digits of this identifier come after an interface, and the rest after the `#`

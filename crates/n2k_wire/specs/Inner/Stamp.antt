@@ -21,24 +21,24 @@ abbrev pub plain_moment : moments_of_code.Moment → Moment
 plain_moment m = record { seconds = m.seconds; millis = m.millis }
 
 -- how the candump lines of a second begin
-abbrev pub second_front : ℕ → List ℕ
-second_front seconds = codes "(" ++ second_digits seconds ++ codes "."
+abbrev pub second_prefix : ℕ → List ℕ
+second_prefix seconds = codes "(" ++ second_digits seconds ++ codes "."
 
 -- the text of a candump line between the milliseconds and the identifier
-abbrev pub behind_millis : List ℕ → List ℕ
-behind_millis interface = codes "000) " ++ interface ++ codes " "
+abbrev pub after_millis : List ℕ → List ℕ
+after_millis interface = codes "000) " ++ interface ++ codes " "
 
 -- whether the last four bytes of a stamp are its milliseconds and `Z`
 abbrev pub are_millis : List ℕ → Bool
-are_millis behind = list_all is_ascii_digit (take 3 behind) && (slice_index behind 3 == 90)
+are_millis after = list_all is_ascii_digit (take 3 after) && (slice_index after 3 == 90)
 
 -- a text is how the candump line of a moment that was found begins, up to its milliseconds
 abbrev pub IsStampText : Option Moment → List ℕ → Type 0
 IsStampText found text =
-    (seen : Moment) × (found ≡ Some seen) × (text ≡ second_front seen.seconds ++ millis_digits seen.millis)
+    (seen : Moment) × (found ≡ Some seen) × (text ≡ second_prefix seen.seconds ++ millis_digits seen.millis)
 
 -- All stamps that begin with `stamp` are of one second, whose candump lines begin with `line`.
 pub record IsSecond (stamp line : List ℕ) : Type 0 where
-  pub shared : (behind : List ℕ) → length behind ≡ 4 → are_millis behind ≡ true
-      → IsStampText (utc_moment (stamp ++ behind)) (line ++ take 3 behind)
+  pub shared : (after : List ℕ) → length after ≡ 4 → are_millis after ≡ true
+      → IsStampText (utc_moment (stamp ++ after)) (line ++ take 3 after)
   pub short : length line ≤ 14

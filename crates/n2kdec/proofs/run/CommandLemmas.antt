@@ -22,7 +22,7 @@ use Rattle.n2k_run.specs.declared.options.Options.{Options}
 use Rattle.n2k_run.specs.declared.part.Part.{Part}
 use Rattle.n2k_run.specs.declared.part.PartFault.{PartFault}
 use Rattle.n2k_run.specs.declared.part.PartFault.TheVariants as part_faults
-use Rattle.n2k_run.proofs.Parting.{line_fronts, told_ok, told_stopped}
+use Rattle.n2k_run.proofs.Parting.{line_prefixes, told_ok, told_stopped}
 use Rattle.n2k_run.proofs.Running.{known_more}
 use Rattle.n2kdec.specs.CommandLine.Asked.{save_name}
 use Rattle.n2kdec.specs.Run.Commands.{ClosesWhole, Decodes, Effect, Ends, EndsByTable, EndsUnlessRefused, IsSaved, IsStopped, IsUntouched, IsWrittenUnlessFailed, SaveAttempt, Performs, Place, PrintsRest, Replaces, StoreView, SumsUpPart, decode_from, decode_to, entries_for, frames_effect, no_saving, place, shelf}
@@ -82,7 +82,7 @@ module _ (before after : Devices) (errors : Place) where
     stopped_by_run unkept f lines ran follows then = grind (arith, still_first)
 
     left_at_line : (ran : Result (Unit {0}) RunFault) → EndsAtLine ran → c.sums_up_a_part ≡ true → Runs c.output stands before mid ran → IsLeft → IsStopped c before after (Memory (Some reading.Log))
-    left_at_line ran line part runs left = grind (arith, line_fronts)
+    left_at_line ran line part runs left = grind (arith, line_prefixes)
 
     -- a run came to its end, and what is saved and summed up is what the command saves and counts
     module _ {T : Type 0} (x : T) (text : List ℕ) (counts : Counts) (ran : Runs {T = T} c.output stands before mid (Ok x))
@@ -141,17 +141,17 @@ module _ (before after : Devices) (errors : Place) where
     abbrev t : TableParts
     t = table_of bytes
 
-    rest_of : (front : List ℕ) (of : Told) (ended : Result Part PartFault) (r : Result CommandOutcome Fault) → Continues t o front before mid ended → ClosesPart of keeper kept errors summed ended r
-        → IfOk r (λ ending. IfSome before.left (λ log. PrintsRest t o front log before after keeper kept ending.status))
-    rest_of front of ended r goes closes = grind (arith, known_more, Appends-trans)
+    rest_of : (prefix : List ℕ) (of : Told) (ended : Result Part PartFault) (r : Result CommandOutcome Fault) → Continues t o prefix before mid ended → ClosesPart of keeper kept errors summed ended r
+        → IfOk r (λ ending. IfSome before.left (λ log. PrintsRest t o prefix log before after keeper kept ending.status))
+    rest_of prefix of ended r goes closes = grind (arith, known_more, Appends-trans)
 
     decoded : (of : Told) (ended : Result Part PartFault) (r : Result CommandOutcome Fault) → faults bytes ≡ [] → RunsFrom t o handed before mid ended → ClosesPart of keeper kept errors summed ended r
         → Decodes bytes o handed before after keeper kept r
     decoded of ended r none runs closes = record {
       judged = grind arith;
       steps = λ s is. grind (arith, closed (output_from (join_fold t o.empty) o.packing s) (after_all (join_fold t o.empty) s) t o keeper kept);
-      log = λ front is. grind (arith, closed (output_after t o front) (λ es. state t.id o.window (kind t) (front ++ es)) t o keeper kept);
-      headline = λ front is. rest_of front of ended r (runs.headline front is) closes;
+      log = λ prefix is. grind (arith, closed (output_after t o prefix) (λ es. state t.id o.window (kind t) (prefix ++ es)) t o keeper kept);
+      headline = λ prefix is. rest_of prefix of ended r (runs.headline prefix is) closes;
     }
 
 -- the lines that are counted after a failed read are those of what came
@@ -237,7 +237,7 @@ module _ (task : Subcommand) (bytes : List ℕ) (handed : Option (List ℕ)) (at
   refuses k = Performs k bytes handed at at (shelf (save_name k) had) (shelf (save_name k) had) (Err (Table fault))
 
   pub decode_refused : (o : Options) (save : Option Text) → task ≡ Decode o save → refuses task
-  decode_refused o save is = subst refuses (sym is) (record { judged = stands; steps = λ s begun. tt; log = λ front begun. tt; headline = λ front begun. tt })
+  decode_refused o save is = subst refuses (sym is) (record { judged = stands; steps = λ s begun. tt; log = λ prefix begun. tt; headline = λ prefix begun. tt })
 
   pub frames_refused : (interface : Option Text) → task ≡ Frames interface → refuses task
   frames_refused interface is = subst refuses (sym is) (refl, (stands, refl))

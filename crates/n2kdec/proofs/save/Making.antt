@@ -5,7 +5,7 @@ use Rattle.std.specs.declared.io.Error.{Error}
 use Rattle.clap.specs.Words.{Text}
 use Rattle.n2kdec.specs.Save.Destination.{folder_of}
 use Rattle.n2kdec.specs.System.Disk.{Act, Acts, Answers, Call, acted, closed, failure, kind_of, noted, open_at, remove, rename, set_mode, sync_folder}
-use Rattle.n2kdec.specs.Save.Folder.{Name, Target, Temp, act_at, behind, is_taken, path_of}
+use Rattle.n2kdec.specs.Save.Folder.{Name, Target, Temp, act_at, after_acts, is_taken, path_of}
 use Rattle.n2kdec.specs.Save.Replacement.{By, Closes, Doing, IsAppended, IsFoundFor, IsKept, IsKeptAs, IsMade, SetsMode, IsNamed, IsOne, Overwrites, RenamesIntoPlace, IsWritten, KeepsText, Makes, Then, failed, judged, make}
 use Rattle.n2kdec.specs.declared.save.destination.Destination.{Destination}
 use Rattle.n2kdec.specs.declared.save.destination.Kind.{Kind}
@@ -15,7 +15,7 @@ use Rattle.n2kdec.specs.declared.save.replacement.ReplaceError.TheVariants.{Refu
 use Rattle.n2kdec.proofs.save.Replacing.{leaves_one, leaves_written}
 
 module _ (d : Destination) where
-  both : (later made : List (Act Name)) (a : Acts) → behind d (later ++ made) a ≡ behind d later (behind d made a)
+  both : (later made : List (Act Name)) (a : Acts) → after_acts d (later ++ made) a ≡ after_acts d later (after_acts d made a)
   both [] made a = refl
   both (act ∷ later) made a = ap (noted (act_at d act)) (both later made a)
 
@@ -82,17 +82,17 @@ module _ (d : Destination) where
     pub synced : (a b c : Acts) (value : Unit {0}) (result : Result (Unit {0}) Error) → Makes d a b (RenamesIntoPlace d text) (Ok value) → Makes d b c (IsOne (sync_folder Target)) result → Makes d a c (IsKept d text) result
     synced a b c value result (placed, from, is) (last, to, last_is) =
         let so = inl (placed, is, ap (λ acts. acts ++ placed) last_is) in
-        (last ++ placed, to ∙ ap (behind d last) from ∙ sym (both last placed a), inl (so, λ first before. leaves_one first before d text result (last ++ placed) so))
+        (last ++ placed, to ∙ ap (after_acts d last) from ∙ sym (both last placed a), inl (so, λ first before. leaves_one first before d text result (last ++ placed) so))
 
     pub given_up : (a b c : Acts) (error : Error) (removed : Result (Unit {0}) Error) → Makes d a b (RenamesIntoPlace d text) (Err (Failed error)) → Makes d b c (IsOne (remove Temp)) removed → Makes d a c (IsKept d text) (Err error)
     given_up a b c error removed (tried, from, is) (gone, to, gone_is) =
         let so = inr (error, tried, failure removed, refl, is, ap (λ acts. acts ++ tried) gone_is) in
-        (gone ++ tried, to ∙ ap (behind d gone) from ∙ sym (both gone tried a), inl (so, λ first before. leaves_one first before d text (Err error) (gone ++ tried) so))
+        (gone ++ tried, to ∙ ap (after_acts d gone) from ∙ sym (both gone tried a), inl (so, λ first before. leaves_one first before d text (Err error) (gone ++ tried) so))
 
     pub written_over : (a b c : Acts) (result : Result (Unit {0}) Error) → Makes d a b (RenamesIntoPlace d text) (Err Refused) → Makes d b c (Overwrites d text) result → Makes d a c (IsKept d text) result
     written_over a b c result (tried, from, is) (over, to, (written, written_is, ends)) = (
       over ++ tried,
-      to ∙ ap (behind d over) from ∙ sym (both over tried a),
+      to ∙ ap (after_acts d over) from ∙ sym (both over tried a),
       inr (tried, written, over, is, written_is, ends, refl, λ first before. leaves_written first before d text result tried written over is written_is ends),
     )
 

@@ -34,11 +34,11 @@ abbrev pub shown_end : ℕ → List ℕ
 shown_end last = if last == 0xC2 then 0xC2 ∷ [] else []
 
 -- a text after this byte, with its control characters escaped
-abbrev pub escaped_behind : Bool → ℕ → List ℕ → List ℕ
-escaped_behind keeps_lines last [] = shown_end last
-escaped_behind keeps_lines last (byte ∷ text) =
-    shown_lead last byte ++ shown_byte keeps_lines last byte ++ escaped_behind keeps_lines byte text
+abbrev pub escaped_after : Bool → ℕ → List ℕ → List ℕ
+escaped_after keeps_lines last [] = shown_end last
+escaped_after keeps_lines last (byte ∷ text) =
+    shown_lead last byte ++ shown_byte keeps_lines last byte ++ escaped_after keeps_lines byte text
 
 -- all control characters are; or all but line feeds
 abbrev pub escaped : Bool → List ℕ → List ℕ
-escaped keeps_lines text = escaped_behind keeps_lines 0 text
+escaped keeps_lines text = escaped_after keeps_lines 0 text

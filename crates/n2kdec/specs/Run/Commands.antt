@@ -20,13 +20,13 @@ use Rattle.n2k_run.specs.FramesOut.{frame_counts_of, frames_output}
 use Rattle.n2k_run.specs.Lines.{whole_lines}
 use Rattle.n2k_run.specs.Fold.{after_all}
 use Rattle.n2k_run.specs.Headline.{save, state_after}
-use Rattle.n2k_run.specs.Parts.{IsFront, begun}
+use Rattle.n2k_run.specs.Parts.{IsPrefix, begun}
 use Rattle.n2k_run.specs.Plain.{plain_counts_of, plain_output}
 use Rattle.n2k_run.specs.Reading.{OutlastsReads}
 use Rattle.n2k_run.specs.Reports.{summary_text}
-use Rattle.n2k_run.specs.Runs.{AreNumbered, Devices, HasFronts, NoneFailed, Output, ReadFails, ReportFails}
+use Rattle.n2k_run.specs.Runs.{AreNumbered, Devices, HasPrefixes, NoneFailed, Output, ReadFails, ReportFails}
 use Rattle.n2k_run.specs.Runs.{ReportsFirst, WriteFails, output_from}
-use Rattle.n2k_run.specs.Writing.{AppendsFront}
+use Rattle.n2k_run.specs.Writing.{AppendsPrefix}
 use Rattle.n2k_run.specs.declared.options.Options.{Options}
 use Rattle.n2k_run.specs.declared.fault.RunFault.{RunFault}
 use Rattle.n2k_encode_run.specs.Encodes.{Encodes}
@@ -58,7 +58,7 @@ pub record IsWritten (before after : Place) (text : List ℕ) : Type 0 where
 -- the place failed, and a prefix of the text is written
 pub record IsCutOff (before after : Place) (text : List ℕ) : Type 0 where
   pub failed : HasFailed before.failed after.failed
-  pub front : AppendsFront before.text after.text text
+  pub prefix : AppendsPrefix before.text after.text text
 
 -- the one or the other
 abbrev pub IsWrittenUnlessFailed : Place → Place → List ℕ → Type 0
@@ -107,8 +107,8 @@ abbrev pub Replaces : StoreView → StoreView → List ℕ → Option (List ℕ)
 Replaces before after text held unkept = Keeps before.name before.kept after.kept text held unkept
 
 -- when the errors have gained this report, and no more: the summary comes after it
-abbrev pub ReplacesBehind : StoreView → StoreView → List ℕ → Option (List ℕ) → List ℕ → Option SaveError → Type 0
-ReplacesBehind before after text had report unkept =
+abbrev pub ReplacesAfter : StoreView → StoreView → List ℕ → Option (List ℕ) → List ℕ → Option SaveError → Type 0
+ReplacesAfter before after text had report unkept =
     (held : Option (List ℕ)) × Appends had held report × Replaces before after text held unkept
 
 -- the place is as it was
@@ -145,8 +145,8 @@ decode_to output stands_at before after = record {
 
 -- after the entries of a log's prefix, of which the state was handed in: from a log's beginning there are none
 abbrev pub decode_effect : TableParts → Options → List Entry → StoreView → StoreView → Effect
-decode_effect t options front before after =
-    decode_to (output_after t options front) (λ es. state t.id options.window (kind t) (front ++ es)) before after
+decode_effect t options prefix before after =
+    decode_to (output_after t options prefix) (λ es. state t.id options.window (kind t) (prefix ++ es)) before after
 
 -- from a state on, whether or not a log leads to it
 abbrev pub decode_from : TableParts → Options → StateOf → StoreView → StoreView → Effect
@@ -161,7 +161,7 @@ entries_for c log = entries c.output.packing log
 -- the state after these entries is kept, after their reports and before their summary; or can't be for this
 abbrev pub IsSaved : Effect → Devices → Option SaveError → List Entry → Type 0
 IsSaved c before unkept es =
-    ReplacesBehind c.saving.before c.saving.after (c.saving.state es) before.reported (c.output.reports es) unkept
+    ReplacesAfter c.saving.before c.saving.after (c.saving.state es) before.reported (c.output.reports es) unkept
 
 -- the reports of entries, and then their summary
 abbrev pub summed_up : Effect → List Entry → List ℕ
@@ -229,7 +229,7 @@ pub record IsFull (c : Effect) (before after : Devices) : Type 0 where
 
 -- Nothing is saved and nothing is summed up, and fronts are written of what is printed and reported.
 abbrev pub BreaksOff : Effect → Devices → Devices → Type 0
-BreaksOff c before after = IsUntouched c.saving × IfSome before.left (HasFronts c.output before after)
+BreaksOff c before after = IsUntouched c.saving × IfSome before.left (HasPrefixes c.output before after)
 
 -- the log is printed and reported and the state after it saved, and only its summary is cut off
 abbrev pub LacksSummary : Effect → Devices → Devices → Type 0
@@ -317,18 +317,18 @@ EndsUnlessRefused c before after (Ok ending) = IsDone c before after ending
 -- After this prefix of a log and `more`, the whole is there: what is printed is exactly what the output and the reports of
 -- both have after those of the prefix, then the summary of both; the status is that of both, and their state is saved,
 -- from which the log can go on.
-pub record PrintsRest (t : TableParts) (o : Options) (front more : List ℕ) (before after : Devices)
+pub record PrintsRest (t : TableParts) (o : Options) (prefix more : List ℕ) (before after : Devices)
     (keeper kept : StoreView) (status : ℕ) : Type 0 where
   pub text : List ℕ
   pub printed : Appends before.written after.written text
-  pub output : out t o (front ++ more) ≡ out t o front ++ text
+  pub output : out t o (prefix ++ more) ≡ out t o prefix ++ text
   pub report : List ℕ
   pub reported : Appends before.reported after.reported
-      (report ++ summary_text (counts o.window (kind t) (entries o.packing (front ++ more))))
-  pub told : reports t o (front ++ more) ≡ reports t o front ++ report
-  pub answered : status ≡ exit_status (counts o.window (kind t) (entries o.packing (front ++ more)))
-  pub saved : ReplacesBehind keeper kept (save t o (front ++ more)) before.reported report None
-  pub reads_back : begun t o (Some (save t o (front ++ more))) ≡ Ok (state_after t o (front ++ more))
+      (report ++ summary_text (counts o.window (kind t) (entries o.packing (prefix ++ more))))
+  pub told : reports t o (prefix ++ more) ≡ reports t o prefix ++ report
+  pub answered : status ≡ exit_status (counts o.window (kind t) (entries o.packing (prefix ++ more)))
+  pub saved : ReplacesAfter keeper kept (save t o (prefix ++ more)) before.reported report None
+  pub reads_back : begun t o (Some (save t o (prefix ++ more))) ≡ Ok (state_after t o (prefix ++ more))
 
 -- ---- the run of `encode`
 
@@ -381,14 +381,14 @@ pub record Decodes (bytes : List ℕ) (o : Options) (handed : Option (List ℕ))
       → EndsUnlessRefused (decode_from (table_of bytes) o s keeper kept) before after result
   -- From the state after these entries (from the beginning of a log, if there are none): what the whole log says of the
   -- lines after them.
-  pub log : (front : List Entry)
-      → begun (table_of bytes) o handed ≡ Ok (state (table_of bytes).id o.window (kind (table_of bytes)) front)
-      → EndsUnlessRefused (decode_effect (table_of bytes) o front keeper kept) before after result
+  pub log : (prefix : List Entry)
+      → begun (table_of bytes) o handed ≡ Ok (state (table_of bytes).id o.window (kind (table_of bytes)) prefix)
+      → EndsUnlessRefused (decode_effect (table_of bytes) o prefix keeper kept) before after result
   -- The headline: if the state of this prefix of a log is resumed, exactly the rest of the whole log's output is printed,
   -- and the state of the whole is saved.
-  pub headline : (front : List ℕ) → IsFront (table_of bytes) o front handed
+  pub headline : (prefix : List ℕ) → IsPrefix (table_of bytes) o prefix handed
       → IfOk result (λ ending. IfSome before.left
-      (λ more. PrintsRest (table_of bytes) o front more before after keeper kept ending.status))
+      (λ more. PrintsRest (table_of bytes) o prefix more before after keeper kept ending.status))
 
 -- How a command ends, and what it saves. A command without a state leaves the saved one unchanged.
 abbrev pub Performs : Subcommand → List ℕ → Option (List ℕ) → Devices → Devices → StoreView → StoreView → Result CommandOutcome Fault → Type 0

@@ -83,11 +83,11 @@ abbrev pub onward : (Text → Result (Option Text) Why) → Text → Option Text
 onward more path None = Ok (Some path)
 onward more path (Some next) = more next
 
-unfoldable pub behind : ℕ → Answers → Text → Result (Option Text) Why
-behind zero a path = Err (OfKind FilesystemLoop)
-behind (suc looks) a path = do
+unfoldable pub link_target : ℕ → Answers → Text → Result (Option Text) Why
+link_target zero a path = Err (OfKind FilesystemLoop)
+link_target (suc looks) a path = do
   is_open ← is_open_file a path
-  if is_open then Ok None else (linked path (a.link path) >>= onward (behind looks a) path)
+  if is_open then Ok None else (linked path (a.link path) >>= onward (link_target looks a) path)
 
 -- as many links are followed as the system follows, and the path after them is looked at too
 abbrev pub most_links : ℕ
@@ -118,7 +118,7 @@ placed_at name was (Some path) = (path, if is_shared was then Shared else Alone)
 unfoldable pub target_of : Answers → Text → Option Found → Result (Text × Kind) Why
 target_of a name was =
     if is_folder was then Err (OfKind IsADirectory)
-    else if is_file was then (behind (suc most_links) a name >>= λ path. Ok (placed_at name was path))
+    else if is_file was then (link_target (suc most_links) a name >>= λ path. Ok (placed_at name was path))
     else Ok (name, Special)
 
 -- those bits of a mode that say who may read, write and run a file

@@ -44,9 +44,9 @@ abbrev pub act_at : Destination → Act Name → Act Text
 act_at d act = record { call = call_at d act.call; failed = act.failed }
 
 -- The disk's acts after these of the folder of this destination, the last one first, and no other.
-abbrev pub behind : Destination → List (Act Name) → Acts → Acts
-behind d [] before = before
-behind d (act ∷ made) before = noted (act_at d act) (behind d made before)
+abbrev pub after_acts : Destination → List (Act Name) → Acts → Acts
+after_acts d [] before = before
+after_acts d (act ∷ made) before = noted (act_at d act) (after_acts d made before)
 
 -- a new file is made, which follows no link
 abbrev pub makes_new : OpenOptions
@@ -57,8 +57,8 @@ abbrev pub writes_over : Bool → OpenOptions
 writes_over is_new = with_create (with_truncate (with_write new_options true) true) is_new
 
 -- a file is opened for appending
-abbrev pub writes_behind : OpenOptions
-writes_behind = with_append new_options true
+abbrev pub appends : OpenOptions
+appends = with_append new_options true
 
 -- something has the path of the new file
 abbrev pub is_taken : Option ErrorKind → Bool
@@ -137,7 +137,7 @@ abbrev pub HasDone : Call Name → Option Name → (Name → Content → Type 0)
 HasDone (open_at of how) current had name c =
     Where name (changed_by (open_at of how) current) (c ≡ Some []) (had name c)
 HasDone (write text) current had name c =
-    Where name current ((front : List ℕ) × had name (Some front) × (c ≡ Some (front ++ text))) (had name c)
+    Where name current ((prefix : List ℕ) × had name (Some prefix) × (c ≡ Some (prefix ++ text))) (had name c)
 HasDone (rename from to) current had name c =
     Where name (Some to) (had from c) (Where name (Some from) (c ≡ None) (had name c))
 HasDone (remove old) current had name c = Where name (Some old) (c ≡ None) (had name c)

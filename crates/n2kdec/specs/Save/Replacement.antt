@@ -9,8 +9,8 @@ use Rattle.clap.specs.Words.{Text}
 use Rattle.n2kdec.specs.Save.Destination.{destination, is_missing}
 use Rattle.n2kdec.specs.System.Disk.{Act, Acts, Answers, Call, IsAnswerUnlessMemory, Why, acted, closed, failure, kind_of, open_at}
 use Rattle.n2kdec.specs.System.Disk.{set_mode, write, sync, rename, remove, sync_folder}
-use Rattle.n2kdec.specs.Save.Folder.{Content, FileMayBeLeft, MayBeLeft, MayHave, Name, Target, Temp, behind, cut_short}
-use Rattle.n2kdec.specs.Save.Folder.{is_refusal, is_taken, makes_new, writes_behind, writes_over}
+use Rattle.n2kdec.specs.Save.Folder.{Content, FileMayBeLeft, MayBeLeft, MayHave, Name, Target, Temp, after_acts, cut_short}
+use Rattle.n2kdec.specs.Save.Folder.{is_refusal, is_taken, makes_new, appends, writes_over}
 use Rattle.n2kdec.specs.declared.save.destination.Destination.{Destination}
 use Rattle.n2kdec.specs.declared.save.destination.Kind.{Kind}
 use Rattle.n2kdec.specs.declared.save.destination.Kind.TheVariants.{Alone, Special}
@@ -25,7 +25,7 @@ Doing E = Result (Unit {0}) E → List (Act Name) → Type 0
 
 -- that was done, and no other call made
 abbrev pub Makes : {E : Type 0} → Destination → Acts → Acts → Doing E → Result (Unit {0}) E → Type 0
-Makes d before after Does result = (made : List (Act Name)) × (after ≡ behind d made before) × Does result made
+Makes d before after Does result = (made : List (Act Name)) × (after ≡ after_acts d made before) × Does result made
 
 -- one call
 abbrev pub IsOne : Call Name → Doing Error
@@ -114,7 +114,7 @@ Overwrites d text result made = (written : List (Act Name)) × IsWritten d text 
 
 -- to a special file the text is appended, and it is closed
 abbrev pub IsAppended : List ℕ → Doing Error
-IsAppended text result made = Then (IsOne (open_at Target writes_behind)) (Closes (IsOne (write text))) result made
+IsAppended text result made = Then (IsOne (open_at Target appends)) (Closes (IsOne (write text))) result made
 
 -- ---- what they leave
 

@@ -2,7 +2,7 @@
 ghost use Rattle.std.specs.Prelude.{◌≡◌, suc, IfSome, IfOk, string_bytes};
 ghost use Rattle.std.specs.declared.io.ErrorKind.TheVariants.{InvalidFilename as Nameless};
 ghost use Rattle.n2k_wire.specs.Steps.{or_cause};
-ghost use Rattle.n2kdec.specs.Save.Destination.{are_one, are_one_file, are_one_input, behind, destination, feeds, folder_of};
+ghost use Rattle.n2kdec.specs.Save.Destination.{are_one, are_one_file, are_one_input, link_target, destination, feeds, folder_of};
 ghost use Rattle.n2kdec.specs.Save.Destination.{is_file, is_folder, is_missing, is_no_link};
 ghost use Rattle.n2kdec.specs.Save.Destination.{is_of_proc, is_open_file, is_shared, leads, linked, linked_path, new_path};
 ghost use Rattle.n2kdec.specs.Save.Destination.{if_there, target_of};
@@ -124,8 +124,13 @@ fn follow<D: Disk>(alloc: Global, disk: &D, path: &str) -> io::Result<Option<Wor
 /// The path after all links, of which so many are looked at, one after the other; none if one on the way leads to
 /// an open file.
 #[tactic(auto, using(crate::proofs::save::Finding::links))]
-fn behind<D: Disk>(alloc: Global, disk: &D, path: &str, looks: usize) -> io::Result<Option<Word>>
-    ensures { IfSome (D.answers disk.now) (λ a. IsAnswerUnlessMemory (λ path. path) (behind looks a path.now) result) }
+fn link_target<D: Disk>(
+    alloc: Global,
+    disk: &D,
+    path: &str,
+    looks: usize,
+) -> io::Result<Option<Word>>
+    ensures { IfSome (D.answers disk.now) (λ a. IsAnswerUnlessMemory (λ path. path) (link_target looks a path.now) result) }
 {
     if looks == 0 {
         return Err(Error::from(ErrorKind::FilesystemLoop));
@@ -134,7 +139,7 @@ fn behind<D: Disk>(alloc: Global, disk: &D, path: &str, looks: usize) -> io::Res
         return Ok(None);
     }
     match follow(alloc, disk, path)? {
-        Some(next) => behind(alloc, disk, next.as_str(), looks - 1),
+        Some(next) => link_target(alloc, disk, next.as_str(), looks - 1),
         None => Ok(Some(Word::new(alloc, path)?)),
     }
 }
@@ -194,7 +199,7 @@ fn target_of<D: Disk>(
         return Err(Error::from(ErrorKind::IsADirectory));
     }
     if is_file(was)
-        && let Some(target) = behind(alloc, disk, name, MOST_LINKS + 1)?
+        && let Some(target) = link_target(alloc, disk, name, MOST_LINKS + 1)?
     {
         return Ok((
             target,

@@ -3,7 +3,7 @@
 
 ghost use Rattle.std.specs.Prelude.{◌≡◌, option_map};
 ghost use Rattle.n2kdec.specs.System.Disk.{closed, failure, kind_of, noted, open_at, remove, rename, sync_folder, write};
-ghost use Rattle.n2kdec.specs.Save.Folder.{Target, Temp, is_refusal, is_taken, writes_behind};
+ghost use Rattle.n2kdec.specs.Save.Folder.{Target, Temp, is_refusal, is_taken, appends};
 ghost use Rattle.n2kdec.specs.Save.Replacement.{Closes, IsAppended, IsFilled, IsKept, IsKeptAs, IsMade, SetsMode, IsNamed, IsOne};
 ghost use Rattle.n2kdec.specs.Save.Replacement.{Overwrites, RenamesIntoPlace, WritesContent, IsWritten, KeepsText, Makes, empty, failed, judged, make};
 

@@ -107,7 +107,7 @@ pub struct MemoryDisk<'a> {
 }
 
 /// The text of the first of these names.
-fn behind<'a>(all: &[(&'a str, &'a str)], name: &str) -> Option<&'a str> {
+fn after<'a>(all: &[(&'a str, &'a str)], name: &str) -> Option<&'a str> {
     for (own, text) in all {
         if *own == name {
             return Some(text);
@@ -248,7 +248,7 @@ impl<'a> Disk for MemoryDisk<'a> {
     ghost acts = { λ _. None };
 
     fn metadata(&self, path: &str) -> io::Result<Found> {
-        let path = behind(self.links, path).unwrap_or(path);
+        let path = after(self.links, path).unwrap_or(path);
         for standing in &self.all {
             if standing.path == path && standing.text.is_some() {
                 return Ok(standing.found);
@@ -258,14 +258,14 @@ impl<'a> Disk for MemoryDisk<'a> {
     }
 
     fn read_link(&self, path: &str) -> io::Result<String> {
-        match behind(self.links, path) {
+        match after(self.links, path) {
             Some(text) => Ok(String::from_str(self.alloc, text)?),
             None => Err(Error::from(ErrorKind::InvalidInput)),
         }
     }
 
     fn canonicalize(&self, path: &str) -> io::Result<String> {
-        let path = behind(self.folders, path).unwrap_or(path);
+        let path = after(self.folders, path).unwrap_or(path);
         Ok(String::from_str(self.alloc, path)?)
     }
 

@@ -16,7 +16,7 @@ use std::io;
 use std::io::{Error, ErrorKind};
 
 /// How many bytes a call of a device moves at most.
-const PIECE: usize = 100;
+const CHUNK: usize = 100;
 
 /// The text of the first file of this name.
 fn text_under<'a>(files: &[(&'a str, &'a str)], name: &str) -> Option<&'a str>
@@ -140,8 +140,8 @@ impl<D: Sink> Sink for Telling<D> {
 
     ghost contents = { λ t. D.contents t.device };
 
-    fn write(&mut self, piece: &[u8]) -> Result<usize, Failed> {
-        let answer = self.device.write(piece);
+    fn write(&mut self, chunk: &[u8]) -> Result<usize, Failed> {
+        let answer = self.device.write(chunk);
         if answer.is_err() {
             self.failed_calls = self.failed_calls.saturating_add(1);
         }
@@ -219,7 +219,7 @@ impl<'a> Machine for MemoryMachine<'a> {
         match text_under(self.files, name.as_str()) {
             Some(text) => {
                 note_opened(self.alloc, &mut self.calls, name, None);
-                Ok(Telling::new(MemorySource::new(text.as_bytes(), PIECE, self.fails_at)))
+                Ok(Telling::new(MemorySource::new(text.as_bytes(), CHUNK, self.fails_at)))
             }
             None => {
                 let error = Error::from(ErrorKind::NotFound);
@@ -231,7 +231,7 @@ impl<'a> Machine for MemoryMachine<'a> {
 
     fn input(&mut self) -> io::Result<Self::File> {
         note(&mut self.calls, FileCall::Opened(None, None));
-        Ok(Telling::new(MemorySource::new(self.input.as_bytes(), PIECE, self.fails_at)))
+        Ok(Telling::new(MemorySource::new(self.input.as_bytes(), CHUNK, self.fails_at)))
     }
 
     fn close(&mut self, file: Self::File) -> Option<Error> {

@@ -47,7 +47,7 @@ returns-then-is_complete c =
     record {
       same = c.write_message.ensures.same;
       message = ap Some (c.write_message.ensures.message (key_of frame.key)) ∙ joins-message order line packet frame g c.args.at l h c.requires.apart c.requires.«open» c.take.new.self free (c.take.ensures.taken (key_of frame.key)) true done;
-      groups = c.remove_at.ensures.gone h.xs h.ys (wrote.places ∙ h.is) ∙ (λ i. wrote.front i ++ wrote.rear i)
+      groups = c.remove_at.ensures.gone h.xs h.ys (wrote.places ∙ h.is) ∙ (λ i. wrote.prefix i ++ wrote.rear i)
           ∙ joins-groups order line packet frame g c.args.at l h c.requires.apart c.requires.«open» c.take.new.self free (c.take.ensures.taken (key_of frame.key)) true done;
       kept = kept_next line c.remove_at.new.self (c.remove_at.ensures.kept line wrote.kept);
     }

@@ -1,6 +1,6 @@
 use Rattle.std.proofs.Common.{◌≡◌, Some, arith, ap, sym, ◌∙◌}
 use Rattle.std.proofs.lemmas.Grind.{common_steps}
-use Rattle.n2k_join.proofs.LentFrames.{pushed}
+use Rattle.n2k_join.proofs.InPlaceFrames.{pushed}
 use Rattle.n2k_join.proofs.splitter.append_frames.Goals as goal
 
 pub loop-number-preserved : goal.loop-number-preserved

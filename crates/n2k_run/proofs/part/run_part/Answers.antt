@@ -32,17 +32,17 @@ returns-clause-runs g c =
       same_window = c.groups_stay_fast.ensures.same_window;
       step = c.groups_stay_fast.ensures.step;
     } in
-    let window = c.know_window.ensures in
-    let steps = steps_of laws t o window handed c.in_ok-join.join c.run-ran.new.join before after c.run-ran.result result c.know_id.ensures c.in_ok-join.ensures.state c.run-ran.ensures.steps c.finish.ensures.part finishes in
+    let window = c.lemma_window_valid.ensures in
+    let steps = steps_of laws t o window handed c.in_ok-join.join c.run-ran.new.join before after c.run-ran.result result c.lemma_id_valid.ensures c.in_ok-join.ensures.state c.run-ran.ensures.steps c.finish.ensures.part finishes in
     let logs = log_laws o.window window c.steps_agree.ensures c.lines_stay.ensures in
-    let log : (front : List Entry) → begun t o handed ≡ Ok (state t.id o.window (kind t) front) → TellsRun (output_after t o front) (λ es. HasPart t o result (state t.id o.window (kind t) (front ++ es))) before after result = λ front is.
-    log_of t o logs before after result front (steps (state t.id o.window (kind t) front) is) in
+    let log : (prefix : List Entry) → begun t o handed ≡ Ok (state t.id o.window (kind t) prefix) → TellsRun (output_after t o prefix) (λ es. HasPart t o result (state t.id o.window (kind t) (prefix ++ es))) before after result = λ prefix is.
+    log_of t o logs before after result prefix (steps (state t.id o.window (kind t) prefix) is) in
     record {
       fault_kinds = c.finish.ensures.fault_kinds;
       begins = begins_by t o handed c.in_ok-join.join result c.run-ran.result c.in_ok-join.ensures.state finishes;
       untouched = not_refused result c.run-ran.result (after ≡ before) finishes;
       steps = steps;
       log = log;
-      headline = λ front is. continues_of t o logs front is.whole_lines before after result (log (entries o.packing front) is.leads_to) c.finish.ensures.fault_kinds
+      headline = λ prefix is. continues_of t o logs prefix is.whole_lines before after result (log (entries o.packing prefix) is.leads_to) c.finish.ensures.fault_kinds
           (λ fault at. absurd (subst (λ r. Finishes r c.run-ran.result) at finishes));
     }

@@ -36,7 +36,7 @@ loop-part-preserved g c =
     let i = c.loop-part.part-index in
     let before = sinks_seen g.W.Sink g.E.Sink c.args.writer.now c.args.reporter.now in
     let after = sinks_seen g.W.Sink g.E.Sink c.next_part.new.writer c.next_part.new.reporter in
-    let laws = log_laws c.args.options.window c.know_window.ensures c.steps_agree.ensures c.lines_stay.ensures in
+    let laws = log_laws c.args.options.window c.lemma_window_valid.ensures c.steps_agree.ensures c.lines_stay.ensures in
     let run = c.in_ok-last-2.ensures.log (entries_of_parts c.args.options (map now (take i parts))) c.loop-part.invariant.leads_to in
     subst (λ ps. TakesAll c.args.table.now c.args.options ps before after c.in_ok-last-2.last) (sym (map_more now parts i none c.loop-part-test.true)) (next_taken _ _ laws (map now (take i parts)) _ _ _ _ _ _ c.loop-part.invariant run)
 

@@ -7,13 +7,13 @@ use Rattle.n2k_table.proofs.bits.short_word.Goals as goal
 pub returns-in-Some-Some : goal.returns-in-Some-Some
 returns-in-Some-Some c =
     let payload = c.args.«data».now in
-    let behind = length payload - 4 in
+    let after = length payload - 4 in
     let small : (k : ℕ) → slice_index payload k < 256 = λ k. (c.type_inv.«data» k).fits in
     let last = c.in-Some-Some.ensures'.cases.1 in
-    let four : c.in-Some-Some.high.now ≡ take 4 (drop behind payload) = last.same ∙ sym (take_all 4 (drop behind payload) (omega (arith, last.long))) in
+    let four : c.in-Some-Some.high.now ≡ take 4 (drop after payload) = last.same ∙ sym (take_all 4 (drop after payload) (omega (arith, last.long))) in
     raw_short payload _ _ c.in-Some-Some.ensures'.cases.0 c.requires
     (c.from-in-Some-Some.ensures ∙ c.from_le_bytes-in-Some-Some.ensures ∙ raw_four_bytes payload c.in-Some-Some.low.now 0 small c.in-Some-Some.ensures.cases.same)
-    (c.from.ensures ∙ c.from_le_bytes.ensures ∙ raw_four_bytes payload c.in-Some-Some.high.now behind small four)
+    (c.from.ensures ∙ c.from_le_bytes.ensures ∙ raw_four_bytes payload c.in-Some-Some.high.now after small four)
 
 pub returns-in-len1 : goal.returns-in-len1
 returns-in-len1 c =

@@ -38,16 +38,16 @@ returns-then-decimals-gt0 g c =
     let zeros : take first digits ≡ replicate first 48 = c.write_digits-first.ensures.before ∙ take-replicate first 64 48 (omega (arith, c.write_digits-first.ensures.start)) in
     let is = placed digits (decimal n) (drop 40 (replicate 64 48)) first from zeros c.write_digits-first.ensures.written (omega (arith, c.min-from.ensures)) in
     let fill : first - from ≡ e + 1 - length (decimal n) = omega (arith, c.write_digits-first.ensures.start, c.min-from.ensures, c.requires, short) in
-    let front : drop from digits ≡ padded_digits n e ++ drop 40 (replicate 64 48) = is ∙ ap (λ k. (replicate k 48 ++ decimal n) ++ drop 40 (replicate 64 48)) fill in
+    let prefix : drop from digits ≡ padded_digits n e ++ drop 40 (replicate 64 48) = is ∙ ap (λ k. (replicate k 48 ++ decimal n) ++ drop 40 (replicate 64 48)) fill in
     let rest : drop (40 - e) digits ≡ drop (40 - e - from) (drop from digits) =
     ap (λ k. drop k digits) (omega (arith, c.min-from.ensures, c.requires)) ∙ sym (drop-drop (40 - e - from) from digits) in
     let count : 40 - (40 - e - 1) ≡ e + 1 = omega (arith, c.requires) in
     let inside : 40 - e - 1 < length digits =
-    omega (arith, ap length front, length-drop from digits, length-append (padded_digits n e) (drop 40 (replicate 64 48)), length_padded n e, c.write_digits-first.ensures.start, c.min-from.ensures, c.requires, short) in
+    omega (arith, ap length prefix, length-drop from digits, length-append (padded_digits n e) (drop 40 (replicate 64 48)), length_padded n e, c.write_digits-first.ensures.start, c.min-from.ensures, c.requires, short) in
     let next : 40 - e - 1 + 1 ≡ 40 - e = omega (arith, c.requires) in
     let here : drop (40 - e - 1) (set digits (40 - e - 1) 46) ≡ 46 ∷ drop (40 - e - from) (drop from digits) =
     drop-set digits (40 - e - 1) 46 inside ∙ ap (λ k. 46 ∷ drop k digits) next ∙ ap (λ (ds : List ℕ). 46 ∷ ds) rest in
-    onto_parts (padded_digits n e) (drop 40 (replicate 64 48)) (drop from digits) (drop (40 - e - 1) (set digits (40 - e - 1) 46)) c.args.line.now.items _ _ (40 - e - from) e front
+    onto_parts (padded_digits n e) (drop 40 (replicate 64 48)) (drop from digits) (drop (40 - e - 1) (set digits (40 - e - 1) 46)) c.args.line.now.items _ _ (40 - e - from) e prefix
     (omega (arith, length_padded n e, c.write_digits-first.ensures.start, c.min-from.ensures, c.requires, short))
     (omega (arith, short, c.write_digits-first.ensures.start, c.min-from.ensures, c.requires)) (omega (arith, c.if-decimals-gt0.true)) (omega (arith, c.requires))
     c.write_digits_of.ensures.items here (rw count at c.write_digits_of-then-decimals-gt0.ensures.items)
@@ -64,7 +64,7 @@ returns-else-decimals-gt0 g c =
     let zeros : take first digits ≡ replicate first 48 = c.write_digits-first.ensures.before ∙ take-replicate first 64 48 (omega (arith, c.write_digits-first.ensures.start)) in
     let is = placed digits (decimal n) (drop 40 (replicate 64 48)) first from zeros c.write_digits-first.ensures.written (omega (arith, c.min-from.ensures)) in
     let fill : first - from ≡ e + 1 - length (decimal n) = omega (arith, c.write_digits-first.ensures.start, c.min-from.ensures, c.requires, short) in
-    let front : drop from digits ≡ padded_digits n e ++ drop 40 (replicate 64 48) = is ∙ ap (λ k. (replicate k 48 ++ decimal n) ++ drop 40 (replicate 64 48)) fill in
-    onto_whole (padded_digits n e) (drop 40 (replicate 64 48)) (drop from digits) c.args.line.now.items _ (40 - e - from) e none front
+    let prefix : drop from digits ≡ padded_digits n e ++ drop 40 (replicate 64 48) = is ∙ ap (λ k. (replicate k 48 ++ decimal n) ++ drop 40 (replicate 64 48)) fill in
+    onto_whole (padded_digits n e) (drop 40 (replicate 64 48)) (drop from digits) c.args.line.now.items _ (40 - e - from) e none prefix
     (omega (arith, none, length_padded n e, c.write_digits-first.ensures.start, c.min-from.ensures, short))
     (omega (arith, short, c.write_digits-first.ensures.start, c.min-from.ensures, c.requires)) c.write_digits_of.ensures.items

@@ -15,9 +15,9 @@ returns-then-size-lt256 g c =
 
 pub returns-then-decimals-lt-DIGITS : goal.returns-then-decimals-lt-DIGITS
 returns-then-decimals-lt-DIGITS g c =
-    let front = c.to_le_bytes.result in
+    let prefix = c.to_le_bytes.result in
     let back = c.to_le_bytes-then-decimals-lt-DIGITS.result in
     let is =
-    short_is c.args.size c.args.decimals c.min-skipped.result c.eight_values-values.result front back c.if-size-lt-LEAST_LONG.true c.if-decimals-lt-DIGITS.true
+    short_is c.args.size c.args.decimals c.min-skipped.result c.eight_values-values.result prefix back c.if-size-lt-LEAST_LONG.true c.if-decimals-lt-DIGITS.true
     c.eight_values-values.ensures c.min-skipped.ensures c.to_le_bytes.ensures c.to_le_bytes-then-decimals-lt-DIGITS.ensures in
     c.write_parts.ensures ∙ ap (λ (t : List ℕ). c.args.line.now.items ++ t) is

@@ -8,7 +8,7 @@ use Rattle.n2k_table.proofs.field_reader.fixed_place.Goals as goal
 
 pub overflow_add-place : goal.overflow_add-place
 overflow_add-place c =
-    let all = c.args.behind.now in
+    let all = c.args.after.now in
     let i = c.loop-step.step-index in
     let place = c.loop-step.place in
     let step : Step = get_or all i (record { at = 0; form = Lau }) in
@@ -19,7 +19,7 @@ overflow_add-place c =
 
 pub returns-clause-later : goal.returns-clause-later
 returns-clause-later c =
-    let all = c.args.behind.now in
+    let all = c.args.after.now in
     let i = c.loop-step.step-index in
     let none : drop i all ≡ [] = drop_all i all c.loop-step-test.false in
     sym (ap (λ (ss : List Step). fixed_place ss c.loop-step.place) none) ∙ c.loop-step.invariant ∙ from_beginning all c.args.at

@@ -4,4 +4,4 @@ use Rattle.n2k_table.specs.Field.{fixed_place}
 use Rattle.n2k_table.proofs.field_reader.fixed_place.Given as goal
 
 abbrev pub invariant-loop-step : goal.invariant-loop-step
-invariant-loop-step l = fixed_place (drop l.step-index l.behind) l.place ≡ fixed_place l.behind l.at
+invariant-loop-step l = fixed_place (drop l.step-index l.after) l.place ≡ fixed_place l.after l.at

@@ -1,5 +1,5 @@
 use Rattle.std.proofs.Common.{rules}
-use Rattle.n2k_table.proofs.Heads.{choice_number}
+use Rattle.n2k_table.proofs.Headers.{choice_number}
 use Rattle.n2k_table.proofs.line.json_line_in.Goals as goal
 
 pub push_line-requires : goal.push_line-requires

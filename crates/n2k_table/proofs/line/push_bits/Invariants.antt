@@ -11,7 +11,7 @@ abbrev pub invariant-loop-bit : goal.invariant-loop-bit
 invariant-loop-bit g l = record {
   items : l.line.items ++ members_from l.later (map flag_json (flags_left l.rest))
       ≡ l.fn.line.items ++ join_with_byte 44 (map flag_json (flags_left l.flags));
-  front : begins l.fn.line.items l.line.items ≡ true;
+  prefix : begins l.fn.line.items l.line.items ≡ true;
 }
 
 abbrev pub decreases-loop-bit : goal.decreases-loop-bit

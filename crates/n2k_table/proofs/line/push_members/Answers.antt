@@ -19,8 +19,8 @@ pub loop-field-preserved : goal.loop-field-preserved
 loop-field-preserved g c = record {
   items = rw c.in_ok-push_member.ensures.later (rw c.in_ok-push_member.ensures.items (goes_on (are_null c.args.absent) c.loop-field.later c.loop-field.rest.now c.in-Some.others.now c.args.«data».now c.in-Some.field.now c.loop-field.line.items _ c.in-Some.ensures.cases.0 c.loop-field.invariant.items));
   later = rw c.in_ok-push_member.ensures.later (flag_goes_on (are_null c.args.absent) c.loop-field.later _ c.loop-field.rest.now c.in-Some.others.now c.args.«data».now c.in-Some.field.now c.in-Some.ensures.cases.0 c.loop-field.invariant.later);
-  front = begins_more _ _ _ _ c.loop-field.invariant.front c.in_ok-push_member.ensures.items;
+  prefix = begins_more _ _ _ _ c.loop-field.invariant.prefix c.in_ok-push_member.ensures.items;
 }
 
-pub returns-in_err-push_member-clause-front : goal.returns-in_err-push_member-clause-front
-returns-in_err-push_member-clause-front g c = refused_begins c.from_residual.result _ _ _ c.loop-field.invariant.front c.in_err-push_member.ensures.items
+pub returns-in_err-push_member-clause-prefix : goal.returns-in_err-push_member-clause-prefix
+returns-in_err-push_member-clause-prefix g c = refused_begins c.from_residual.result _ _ _ c.loop-field.invariant.prefix c.in_err-push_member.ensures.items

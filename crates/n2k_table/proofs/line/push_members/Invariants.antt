@@ -13,7 +13,7 @@ invariant-loop-field g l = record {
   items : l.line.items ++ members_from l.later (filter_map (member_json (are_null l.absent)) (all_shown l.rest l.«data»))
       ≡ l.fn.line.items ++ members_from false (filter_map (member_json (are_null l.absent)) (all_shown l.fields l.«data»));
   later : (l.later || has_members (filter_map (member_json (are_null l.absent)) (all_shown l.rest l.«data»))) ≡ has_members (filter_map (member_json (are_null l.absent)) (all_shown l.fields l.«data»));
-  front : begins l.fn.line.items l.line.items ≡ true;
+  prefix : begins l.fn.line.items l.line.items ≡ true;
 }
 
 abbrev pub decreases-loop-field : goal.decreases-loop-field

@@ -18,16 +18,16 @@ loop-set-init g c =
     record {
       items = ap (λ (t : List ℕ). line ++ t) (members_from-joined (objects (map (all_shown r.fields) (sets_in r c.from_first-rest.result.now))))
           ∙ ap (λ (first : List ℕ). line ++ join_with_byte 44 (objects (map (all_shown r.fields) (sets_in r first)))) c.from_first-rest.ensures;
-      front = begins_self _;
+      prefix = begins_self _;
     }
 
 pub returns-in_err-push_set : goal.returns-in_err-push_set
 returns-in_err-push_set g c =
     let p = err_from_is_err_and c.from_residual.result c.from_residual.ensures.1 in
-    rw p.1 (begins_through _ _ _ c.loop-set.invariant.front c.in_err-push_set.ensures)
+    rw p.1 (begins_through _ _ _ c.loop-set.invariant.prefix c.in_err-push_set.ensures)
 
 pub loop-set-preserved : goal.loop-set-preserved
 loop-set-preserved g c = record {
   items = grind (arith, common_steps, append_assoc);
-  front = begins_more _ _ _ _ c.loop-set.invariant.front c.in_ok-push_set.ensures;
+  prefix = begins_more _ _ _ _ c.loop-set.invariant.prefix c.in_ok-push_set.ensures;
 }

@@ -13,7 +13,7 @@ abbrev pub invariant-loop-set : goal.invariant-loop-set
 invariant-loop-set g l = record {
   items : l.line.items ++ members_from l.later (map (set_json (are_null l.absent)) (map (all_shown l.repeat.fields) (sets_in l.repeat l.rest)))
       ≡ l.fn.line.items ++ join_with_byte 44 (map (set_json (are_null l.absent)) (all_sets l.repeat l.«data»));
-  front : begins l.fn.line.items l.line.items ≡ true;
+  prefix : begins l.fn.line.items l.line.items ≡ true;
 }
 
 abbrev pub decreases-loop-set : goal.decreases-loop-set

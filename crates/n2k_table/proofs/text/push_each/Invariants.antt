@@ -8,5 +8,5 @@ use Rattle.n2k_table.proofs.text.push_each.Given as goal
 abbrev pub invariant-loop-byte : goal.invariant-loop-byte
 invariant-loop-byte g l = record {
   items : l.line.items ++ flat_map escape_byte (drop l.byte-index l.text) ≡ l.fn.line.items ++ flat_map escape_byte l.text;
-  front : begins l.fn.line.items l.line.items ≡ true;
+  prefix : begins l.fn.line.items l.line.items ≡ true;
 }

@@ -7,10 +7,10 @@ use Rattle.n2k_table.proofs.text.push_each_character.Goals as goal
 pub returns-in_err-push_character : goal.returns-in_err-push_character
 returns-in_err-push_character g c =
     let p = err_from_is_err_and c.from_residual.result c.from_residual.ensures.1 in
-    rw p.1 (begins_through _ _ _ c.loop-number.invariant.front c.in_err-push_character.ensures)
+    rw p.1 (begins_through _ _ _ c.loop-number.invariant.prefix c.in_err-push_character.ensures)
 
 pub loop-number-preserved : goal.loop-number-preserved
 loop-number-preserved g c = record {
   items = grind (arith, common_steps, append_assoc);
-  front = begins_more _ _ _ _ c.loop-number.invariant.front c.in_ok-push_character.ensures;
+  prefix = begins_more _ _ _ _ c.loop-number.invariant.prefix c.in_ok-push_character.ensures;
 }

@@ -9,5 +9,5 @@ use Rattle.n2k_table.proofs.text.push_each_character.Given as goal
 abbrev pub invariant-loop-number : goal.invariant-loop-number
 invariant-loop-number g l = record {
   items : l.line.items ++ flat_map escape_byte (flat_map character (drop l.number-index l.numbers)) ≡ l.fn.line.items ++ flat_map escape_byte (flat_map character l.numbers);
-  front : begins l.fn.line.items l.line.items ≡ true;
+  prefix : begins l.fn.line.items l.line.items ≡ true;
 }

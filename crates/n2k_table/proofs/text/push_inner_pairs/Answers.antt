@@ -14,16 +14,16 @@ loop-byte-init g c =
     record {
       items = ap (λ (l : List ℕ). l ++ rest) first ∙ append_assoc line (hex_pair c.in-Some.first.now) rest
           ∙ ap (λ (t : List ℕ). line ++ t) (sym (hex_pairs-first c.in-Some.first.now c.in-Some.rest.now) ∙ ap hex_pairs (sym c.in-Some.ensures.cases.0));
-      front = begins_more _ _ _ _ (begins_self _) c.in_ok-put.ensures;
+      prefix = begins_more _ _ _ _ (begins_self _) c.in_ok-put.ensures;
     }
 
 pub returns-in_err-put-2 : goal.returns-in_err-put-2
 returns-in_err-put-2 g c =
     let p = err_from_is_err_and c.from_residual-in_err-put-2.result c.from_residual-in_err-put-2.ensures.1 in
-    rw p.1 (begins_through _ _ _ c.loop-byte.invariant.front c.in_err-put-2.ensures)
+    rw p.1 (begins_through _ _ _ c.loop-byte.invariant.prefix c.in_err-put-2.ensures)
 
 pub loop-byte-preserved : goal.loop-byte-preserved
 loop-byte-preserved g c = record {
   items = grind (arith, common_steps);
-  front = begins_more _ _ _ _ c.loop-byte.invariant.front c.in_ok-put-2.ensures;
+  prefix = begins_more _ _ _ _ c.loop-byte.invariant.prefix c.in_ok-put-2.ensures;
 }

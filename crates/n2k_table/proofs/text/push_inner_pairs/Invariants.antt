@@ -8,5 +8,5 @@ use Rattle.n2k_table.proofs.text.push_inner_pairs.Given as goal
 abbrev pub invariant-loop-byte : goal.invariant-loop-byte
 invariant-loop-byte g l = record {
   items : l.line.items ++ later_pairs (drop l.byte-index l.rest) ≡ l.fn.line.items ++ hex_pairs l.bytes;
-  front : begins l.fn.line.items l.line.items ≡ true;
+  prefix : begins l.fn.line.items l.line.items ≡ true;
 }

@@ -15,10 +15,10 @@ returns g c =
 pub returns-in_err-push_char : goal.returns-in_err-push_char
 returns-in_err-push_char g c =
     let p = err_from_is_err_and c.from_residual.result c.from_residual.ensures.1 in
-    rw p.1 (begins_through _ _ _ c.loop-letter.invariant.front c.in_err-push_char.ensures)
+    rw p.1 (begins_through _ _ _ c.loop-letter.invariant.prefix c.in_err-push_char.ensures)
 
 pub loop-letter-preserved : goal.loop-letter-preserved
 loop-letter-preserved g c = record {
   items = grind (arith, common_steps, append_assoc);
-  front = begins_more _ _ _ _ c.loop-letter.invariant.front c.in_ok-push_char.ensures;
+  prefix = begins_more _ _ _ _ c.loop-letter.invariant.prefix c.in_ok-push_char.ensures;
 }

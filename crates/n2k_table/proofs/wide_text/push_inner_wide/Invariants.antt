@@ -9,7 +9,7 @@ use Rattle.n2k_table.proofs.wide_text.push_inner_wide.Given as goal
 abbrev pub invariant-loop-letter : goal.invariant-loop-letter
 invariant-loop-letter g l = record {
   items : l.line.items ++ flat_map escape_byte (wide_text l.rest) ≡ l.fn.line.items ++ flat_map escape_byte (wide_text l.bytes);
-  front : begins l.fn.line.items l.line.items ≡ true;
+  prefix : begins l.fn.line.items l.line.items ≡ true;
 }
 
 abbrev pub decreases-loop-letter : goal.decreases-loop-letter

@@ -20,7 +20,7 @@ pub returns : goal.returns
 returns c =
     let u = c.in_ok-unit.unit in
     let first = c.in_ok-unit.ensures in
-    let rest = c.in_ok-unit.behind.now in
+    let rest = c.in_ok-unit.after.now in
     let lone : utf16_lossy_chars (u ∷ units rest) ≡ unwrap_or (lone_unit_char u) 0xFFFD ∷ utf16_lossy_chars (units rest) =
     elim c.match-split_unit.branch [
       | in-Some+in_default-pair_character w ↦

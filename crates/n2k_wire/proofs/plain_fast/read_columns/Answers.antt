@@ -10,12 +10,12 @@ loop-i-preserved c =
     let all = columns c.args.text.now in
     let text = c.loop-i.rest.now in
     let chunk = c.in_ok-chunk.chunk.now in
-    let behind = c.in_ok-chunk.more.now in
+    let after = c.in_ok-chunk.more.now in
     let eight = c.in_ok-eight_columns.field-0 in
     let rest = c.in_ok-rest.rest.now in
     let cases = c.in_ok-chunk.ensures.cases in
-    let parts = first_chunk 23 text chunk behind cases.0 cases.1 cases.2 in
-    let next = read_before text chunk eight behind rest c.in_ok-eight_columns.ensures parts.1 c.in_ok-rest.ensures in
+    let parts = first_chunk 23 text chunk after cases.0 cases.1 cases.2 in
+    let next = read_before text chunk eight after rest c.in_ok-eight_columns.ensures parts.1 c.in_ok-rest.ensures in
     let at : 8 * c.loop-i.i + 8 ≡ 8 * (c.loop-i.i + 1) = omega arith in
     let bytes : take (8 * (c.loop-i.i + 1)) c.put_eight.new.bytes ≡ take (8 * c.loop-i.i) c.loop-i.bytes ++ eight = rw at at c.put_eight.ensures in
     subst (λ bs. AreRead all bs (columns rest)) (sym bytes) (read_more all (columns text) (columns rest) (take (8 * c.loop-i.i) c.loop-i.bytes) eight c.loop-i.invariant next)

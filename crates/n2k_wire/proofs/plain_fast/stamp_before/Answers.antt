@@ -8,4 +8,4 @@ returns-clause-line c =
 
 pub returns-clause-stamp : goal.returns-clause-stamp
 returns-clause-stamp c =
-    is_found c.stamp_len-len.result c.args.line.now c.in_ok-first_chunk.field-0.now c.split_at.result.0.now c.in_ok-first_chunk.ensures.cases.same c.split_at.ensures.front c.stamp_len-len.ensures.within c.split_at.ensures.front_len c.stamp_len-len.ensures.front (sym c.if-not-starts_stamp.ensures)
+    is_found c.stamp_len-len.result c.args.line.now c.in_ok-first_chunk.field-0.now c.split_at.result.0.now c.in_ok-first_chunk.ensures.cases.same c.split_at.ensures.front c.stamp_len-len.ensures.within c.split_at.ensures.front_len c.stamp_len-len.ensures.prefix (sym c.if-not-starts_stamp.ensures)

@@ -7,5 +7,5 @@ pub returns-clause-bytes : goal.returns-clause-bytes
 returns-clause-bytes g c =
     let at = c.args.at in
     let text = c.args.text.now in
-    let piece = c.args.piece.now in
-    partly _ text piece at c.args.count g.row.N (take_more_put_chunk at text piece (at + g.row.N) (omega (arith, c.told-piece)) c.requires.room) c.requires.few (omega (arith, c.requires.room))
+    let column = c.args.column.now in
+    partly _ text column at c.args.count g.row.N (take_more_put_chunk at text column (at + g.row.N) (omega (arith, c.told-column)) c.requires.room) c.requires.few (omega (arith, c.requires.room))

@@ -1,6 +1,6 @@
 use Rattle.std.proofs.Common.{◌≡◌, ◌+◌, ◌%◌, ◌∷◌, [], ap, sym, ◌∙◌, arith}
-use Rattle.n2k_wire.specs.Texts.{number_piece}
-use Rattle.n2k_wire.proofs.TextLemmas.{piece_of_one}
+use Rattle.n2k_wire.specs.Texts.{number_column}
+use Rattle.n2k_wire.proofs.TextLemmas.{column_of_one}
 use Rattle.n2k_wire.proofs.PlainTexts.{line_is}
 use Rattle.n2k_wire.proofs.plain_writer.write_line.Goals as goal
 
@@ -11,7 +11,7 @@ returns-clause-bytes c =
     let id_is = c.id-id.ensures.value in
     let small = c.id-id.ensures.valid.prio_ok in
     let one : prio % 10 ≡ prio = omega (arith, small) in
-    let prio_is = ap (λ i. 44 ∷ (48 + i.prio) ∷ []) id_is ∙ ap (λ d. 44 ∷ (48 + d) ∷ []) (sym one) ∙ sym (piece_of_one prio (omega (arith, small))) in
+    let prio_is = ap (λ i. 44 ∷ (48 + i.prio) ∷ []) id_is ∙ ap (λ d. 44 ∷ (48 + d) ∷ []) (sym one) ∙ sym (column_of_one prio (omega (arith, small))) in
     line_is p _ _ _ _ _ _ _ _ _ _ _ _ _ c.put-at.ensures.bytes c.put-at-2.ensures.bytes c.put_pgn-at.ensures.bytes c.put-at-3.ensures.bytes c.put-at-4.ensures.bytes c.put_end.ensures.bytes
-    c.stamp_buffer-len.ensures.value prio_is (ap (λ i. number_piece i.pgn) id_is) (c.small_piece-count.ensures.piece ∙ ap (λ i. number_piece i.src) id_is)
-    (c.small_piece-count-2.ensures.piece ∙ ap (λ i. number_piece i.dst) id_is) c.data.ensures.value
+    c.stamp_buffer-len.ensures.value prio_is (ap (λ i. number_column i.pgn) id_is) (c.small_column-count.ensures.column ∙ ap (λ i. number_column i.src) id_is)
+    (c.small_column-count-2.ensures.column ∙ ap (λ i. number_column i.dst) id_is) c.data.ensures.value

@@ -23,7 +23,7 @@ use Rattle.std.proofs.alloc.Calls.{handle_tells}
 use Rattle.std.proofs.raw_atomic.Walks.{proved_at, leaves}
 use Rattle.std.specs.Box.Ownership.{box_owns}
 use Rattle.n2k_c.specs.declared.decoder.Decoder.{Decoder}
-use Rattle.n2k_c.specs.Held.{owned_of, token}
+use Rattle.n2k_c.specs.DecoderView.{owned_of, token}
 use Rattle.n2k_c.proofs.RawBoxes.{pair, allocates, pair_good, raw_box_in}
 use Rattle.n2k_c.proofs.RawDecoders.{R, Z, LZ, g, RawDecoder, word, raw_decoder_out, the, the_is}
 use Rattle.n2k_c.specs.contracts.raw_decoder.RawDecoder.into_raw_box.{ended, clauses}

@@ -21,9 +21,9 @@ returns-in_err-take_kept-clause-fed c = λ part none is.
     let kept = c.loop-end.room.kept.items in
     let fed = c.loop-end.invariant.fed part none is in
     let mid = c.in_ok-keep.ensures ∙ ap (λ x. take most_kept (kept ++ x)) c.split_line.ensures.line in
-    let piece = fed.rest ++ take c.in-Some.end left in
-    let takes = c.in_err-take_kept.ensures.taken piece (line_kept t nearest part c.args.bytes.now left kept c.keep.new.kept.items c.in-Some.end c.args.ledger.now c.loop-end.ledger fed mid) in
-    rw (p.1, p.2) (feeds_fault t nearest part c.args.bytes.now left kept c.take_kept.new.room.kept.items c.in-Some.end (without_return piece) c.args.ledger.now c.loop-end.ledger c.take_kept.new.ledger _ fed c.in-Some.ensures takes)
+    let chunk = fed.rest ++ take c.in-Some.end left in
+    let takes = c.in_err-take_kept.ensures.taken chunk (line_kept t nearest part c.args.bytes.now left kept c.keep.new.kept.items c.in-Some.end c.args.ledger.now c.loop-end.ledger fed mid) in
+    rw (p.1, p.2) (feeds_fault t nearest part c.args.bytes.now left kept c.take_kept.new.room.kept.items c.in-Some.end (without_return chunk) c.args.ledger.now c.loop-end.ledger c.take_kept.new.ledger _ fed c.in-Some.ensures takes)
 
 pub loop-end-preserved : goal.loop-end-preserved
 loop-end-preserved c =

@@ -20,7 +20,7 @@ invariant_of-self-2 c =
     let gives = c.in_ok-taken.ensures in
     let leads = line-leads (kind c.args.table.now) s c.args.self.now c.args.entry.now c.is_in_order-in_order.result c.self.invariant.0 c.self.view_is c.requires.expired c.if-self-eq-MOST_LINES.false c.is_in_order-in_order.ensures step o.is_unknown c.len.result (listed c.take_entry.new.groups) c.count_line.new.counts gives.given gives.unknown gives.groups held (rw (sym (own_counted c.args.table.now o.message (packet_in c.take_entry.new.entry) gives.own)) at c.count_line.ensures) in
     let lines : c.count_line.new.counts.lines + 1 ≡ c.self.inside.counts.lines + 1 + 1 = ap (λ (n : Counts). n.lines + 1) c.count_line.ensures in
-    (subst IsState (sym leads) (step-keeps (kind c.args.table.now) s c.args.entry.now c.self.invariant.0 (c.know_entry.ensures c.requires.short) below), subst (λ n. IsKept n c.take_entry.new.groups) (sym lines) c.in_ok-taken.ensures.kept)
+    (subst IsState (sym leads) (step-keeps (kind c.args.table.now) s c.args.entry.now c.self.invariant.0 (c.lemma_entry_valid.ensures c.requires.short) below), subst (λ n. IsKept n c.take_entry.new.groups) (sym lines) c.in_ok-taken.ensures.kept)
 
 pub returns-clause-takes : goal.returns-clause-takes
 returns-clause-takes c =
@@ -31,7 +31,7 @@ returns-clause-takes c =
     let held : c.len.result ≡ length (listed c.take_entry.new.groups) = c.len.ensures (c.self.inside.counts.lines + 1 + 1) c.in_ok-taken.ensures.kept in
     let gives = c.in_ok-taken.ensures in
     let leads = line-leads (kind c.args.table.now) s c.args.self.now c.args.entry.now c.is_in_order-in_order.result c.self.invariant.0 c.self.view_is c.requires.expired c.if-self-eq-MOST_LINES.false c.is_in_order-in_order.ensures step o.is_unknown c.len.result (listed c.take_entry.new.groups) c.count_line.new.counts gives.given gives.unknown gives.groups held (rw (sym (own_counted c.args.table.now o.message (packet_in c.take_entry.new.entry) gives.own)) at c.count_line.ensures) in
-    let keeps : IsState (step_after (kind c.args.table.now) s c.args.entry.now) = step-keeps (kind c.args.table.now) s c.args.entry.now c.self.invariant.0 (c.know_entry.ensures c.requires.short) below in
+    let keeps : IsState (step_after (kind c.args.table.now) s c.args.entry.now) = step-keeps (kind c.args.table.now) s c.args.entry.now c.self.invariant.0 (c.lemma_entry_valid.ensures c.requires.short) below in
     record {
       given = line-gives (kind c.args.table.now) s c.args.self.now c.args.entry.now c.is_in_order-in_order.result c.self.invariant.0 c.self.view_is c.requires.expired c.if-self-eq-MOST_LINES.false c.is_in_order-in_order.ensures gives.given;
       after = leads ∙ ap (λ t. step_after (kind c.args.table.now) t c.args.entry.now) c.self.view_is;

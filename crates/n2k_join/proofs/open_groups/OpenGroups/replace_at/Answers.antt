@@ -15,8 +15,8 @@ use Rattle.n2k_join.proofs.open_groups.OpenGroups.replace_at.Goals as goal
 pub unlink-requires : goal.unlink-requires
 unlink-requires c = record { kept = (c.args.group.first, c.requires.kept); within = c.requires.within }
 
-pub set_behind-requires : goal.set_behind-requires
-set_behind-requires c = grind (arith, place-split c.args.group.first c.args.self.now c.requires.kept c.args.at c.requires.within, length-set_value_at, last-place)
+pub set_after-requires : goal.set_after-requires
+set_after-requires c = grind (arith, place-split c.args.group.first c.args.self.now c.requires.kept c.args.at c.requires.within, length-set_value_at, last-place)
 
 pub returns-clause-replaced : goal.returns-clause-replaced
 returns-clause-replaced c = λ key old there xs ys is.
@@ -24,9 +24,9 @@ returns-clause-replaced c = λ key old there xs ys is.
     let s = c.unlink.new.self in
     let v = c.in-Some.linked.now in
     let e = entry-at s.groups.entries c.args.at v (sym c.in-Some.ensures.value) in
-    let w : Linked = record { group = c.args.group; before = s.last; behind = nowhere } in
+    let w : Linked = record { group = c.args.group; before = s.last; after = nowhere } in
     let same : e.0 ≡ key = ap (λ (p : FrameKey × OpenGroup). p.0) (same_Some (e.0, v.group) (key, old) (sym (ap (option_map item) e.1) ∙ c.unlink.ensures.items c.args.at ∙ there)) in
-    (replaced c.args.group.first g s c.args.at xs ys c.requires.kept c.requires.within is c.unlink.ensures e.0 v w e.1 _ c.set_behind.new.self refl refl refl refl refl refl c.set_behind.ensures).1
+    (replaced c.args.group.first g s c.args.at xs ys c.requires.kept c.requires.within is c.unlink.ensures e.0 v w e.1 _ c.set_after.new.self refl refl refl refl refl refl c.set_after.ensures).1
     ∙ ap (λ k. (groups_at (item_at g) xs ++ groups_at (item_at g) ys) ++ group_in (key_of k) c.args.group ∷ []) same
 
 pub returns-clause-kept : goal.returns-clause-kept
@@ -36,5 +36,5 @@ returns-clause-kept c =
     let at = place-split c.args.group.first g c.requires.kept c.args.at c.requires.within in
     let v = c.in-Some.linked.now in
     let e = entry-at s.groups.entries c.args.at v (sym c.in-Some.ensures.value) in
-    let w : Linked = record { group = c.args.group; before = s.last; behind = nowhere } in
-    (replaced c.args.group.first g s c.args.at at.xs at.ys c.requires.kept c.requires.within at.is c.unlink.ensures e.0 v w e.1 _ c.set_behind.new.self refl refl refl refl refl refl c.set_behind.ensures).0
+    let w : Linked = record { group = c.args.group; before = s.last; after = nowhere } in
+    (replaced c.args.group.first g s c.args.at at.xs at.ys c.requires.kept c.requires.within at.is c.unlink.ensures e.0 v w e.1 _ c.set_after.new.self refl refl refl refl refl refl c.set_after.ensures).0

@@ -18,7 +18,7 @@ loop-written-preserved c =
     let e : FrameKey × Linked = (c.in-Some.key.now, c.in-Some.linked.now) in
     let is = sym c.in-Some.ensures.entry in
     record {
-      tokens = group_more_written (item_at g) at (places_from g.groups.entries (n - (i + 1)) e.1.behind) (item e) _ c.loop-written.out.tokens c.push_group.new.out.tokens (ap (option_map item) is)
+      tokens = group_more_written (item_at g) at (places_from g.groups.entries (n - (i + 1)) e.1.after) (item e) _ c.loop-written.out.tokens c.push_group.new.out.tokens (ap (option_map item) is)
           (c.loop-written.invariant.tokens ∙ ap (λ ps. c.loop-written.out.tokens ++ groups_tokens (groups_at (item_at g) ps)) (places-more g.groups.entries n i at e (omega (arith, c.loop-written-test.true, c.loop-written.invariant.end)) is)) c.in_ok-push_group.ensures.tokens;
       before = c.in_ok-push_group.ensures.before ∙ c.loop-written.invariant.before;
       end = c.loop-written.invariant.end;

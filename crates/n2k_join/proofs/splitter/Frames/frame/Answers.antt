@@ -1,5 +1,5 @@
 use Rattle.std.proofs.Common.{arith}
-use Rattle.n2k_join.proofs.LentFrames.{fast_at, single_at}
+use Rattle.n2k_join.proofs.InPlaceFrames.{fast_at, single_at}
 use Rattle.n2k_join.proofs.splitter.Frames.frame.Goals as goal
 
 pub returns-in-Single : goal.returns-in-Single

@@ -3,7 +3,7 @@ use Rattle.n2k_table.specs.Table.{kind}
 use Rattle.n2k_table.specs.declared.definition.Kind.TheVariants.{Fast}
 use Rattle.n2k_join.specs.Pieces.{stream_of}
 use Rattle.n2k_join.specs.Splitter.{sequences}
-use Rattle.n2k_join.proofs.LentFrames.{are_fast, are_single, pieces_single}
+use Rattle.n2k_join.proofs.InPlaceFrames.{are_fast, are_single, pieces_single}
 use Rattle.n2k_join.proofs.Numbered.{raised_fast, raised_single}
 use Rattle.n2k_join.proofs.splitter.Splitter.split.Goals as goal
 

@@ -1,6 +1,6 @@
 use Rattle.std.proofs.Common.{refl, sym, ap, ◌∙◌, length, subst, arith}
 use Rattle.std.proofs.lemmas.Result.{err_from_is_err_and}
-use Rattle.n2k_run.specs.Blocks.{Held, HasNoFeed}
+use Rattle.n2k_run.specs.Blocks.{BlocksView, HasNoFeed}
 use Rattle.n2k_run.proofs.Calls.{idle_at_end}
 use Rattle.n2k_run.proofs.Feeds.{feed_or_none}
 use Rattle.n2k_run.proofs.Finding.{reads_none, reads_round, found_line, found_none}
@@ -28,7 +28,7 @@ returns-in_err-read_some-clause-found g c =
 
 pub returns-in_err-read_some-clause-quiet : goal.returns-in_err-read_some-clause-quiet
 returns-in_err-read_some-clause-quiet g c = λ feed.
-    absurd (feed_or_none c.args.self.now.kept feed (subst (λ (h : Held). HasNoFeed h.kept) (c.loop-found.invariant.quiet feed).1 c.in_default.ensures.none.1))
+    absurd (feed_or_none c.args.self.now.kept feed (subst (λ (h : BlocksView). HasNoFeed h.kept) (c.loop-found.invariant.quiet feed).1 c.in_default.ensures.none.1))
 
 pub returns-then-branch-eq0-clause-found : goal.returns-then-branch-eq0-clause-found
 returns-then-branch-eq0-clause-found g c =
@@ -41,7 +41,7 @@ returns-then-branch-eq0-clause-found g c =
 
 pub returns-then-branch-eq0-clause-quiet : goal.returns-then-branch-eq0-clause-quiet
 returns-then-branch-eq0-clause-quiet g c = λ feed.
-    absurd (feed_or_none c.args.self.now.kept feed (subst (λ (h : Held). HasNoFeed h.kept) (c.loop-found.invariant.quiet feed).1 c.in_default.ensures.none.1))
+    absurd (feed_or_none c.args.self.now.kept feed (subst (λ (h : BlocksView). HasNoFeed h.kept) (c.loop-found.invariant.quiet feed).1 c.in_default.ensures.none.1))
 
 pub loop-found-preserved : goal.loop-found-preserved
 loop-found-preserved g c =
@@ -49,6 +49,6 @@ loop-found-preserved g c =
     let e = c.read_some.ensures in
     record {
       reads = reads_round 0 c.args.self.now c.loop-found.self c.take_line.new.self c.make_room.new.self c.read_some.new.self _ _ _ _ _ _ c.loop-found.invariant.reads none.0 none.1 c.make_room.ensures.stays c.make_room.ensures.reads e.gains (omega (arith, c.in_ok-read_some.ensures.count, c.if-branch-eq0.false)) e.passing e.reads e.called;
-      quiet = λ feed. absurd (feed_or_none c.args.self.now.kept feed (subst (λ (h : Held). HasNoFeed h.kept) (c.loop-found.invariant.quiet feed).1 none.1));
+      quiet = λ feed. absurd (feed_or_none c.args.self.now.kept feed (subst (λ (h : BlocksView). HasNoFeed h.kept) (c.loop-found.invariant.quiet feed).1 none.1));
       none_failed = c.in_ok-read_some.ensures.counted ∙ c.loop-found.invariant.none_failed;
     }

@@ -3,7 +3,7 @@ use Rattle.std.specs.Io.KnownBytes.{Consumes, Keeps}
 use Rattle.std.specs.List.{slice_range}
 use Rattle.std.proofs.lemmas.Result.{err_from_is_err_and}
 use borrow.Rule.Slice.PartMut.{put_mid}
-use Rattle.n2k_run.specs.Blocks.{Held}
+use Rattle.n2k_run.specs.Blocks.{BlocksView}
 use Rattle.n2k_run.specs.Inner.Block.{FindsEnd}
 use Rattle.n2k_run.proofs.Ranges.{length-range, range_grown}
 use Rattle.n2k_run.proofs.blocks.Blocks.read_some.Goals as goal
@@ -24,7 +24,7 @@ invariant_of-self g c =
     let i = c.self.inside in
     let size : length c.read.new.buffer ≡ 4096 - i.end = c.read.auto.buffer ∙ length-range i.block i.end 4096 (omega arith) (omega arith) in
     let same = same_kept i.block c.read.new.buffer i.start i.end (4096 - i.end) 0 c.self.invariant.kept_ends (omega arith) size refl in
-    let reads = ap (λ (h : Held). h.reads) c.self.view_is in
+    let reads = ap (λ (h : BlocksView). h.reads) c.self.view_is in
     record {
       line_ends = c.self.invariant.line_ends;
       line_within = c.self.invariant.line_within;
@@ -37,7 +37,7 @@ invariant_of-self g c =
 pub returns-in_err-count-clause-gains : goal.returns-in_err-count-clause-gains
 returns-in_err-count-clause-gains g c =
     let i = c.self.inside in
-    let kept = ap (λ (h : Held). h.kept) c.self.view_is in
+    let kept = ap (λ (h : BlocksView). h.kept) c.self.view_is in
     let size : length c.read.new.buffer ≡ 4096 - i.end = c.read.auto.buffer ∙ length-range i.block i.end 4096 (omega arith) (omega arith) in
     let same = same_kept i.block c.read.new.buffer i.start i.end (4096 - i.end) 0 c.self.invariant.kept_ends (omega arith) size refl in
     record { gained = []; appended = rw add-zero at same ∙ kept ∙ sym (append-nil c.args.self.now.kept); given = none_taken _ _ c.in_err-count.ensures.bytes }
@@ -45,7 +45,7 @@ returns-in_err-count-clause-gains g c =
 pub returns-in_err-count-clause-failed : goal.returns-in_err-count-clause-failed
 returns-in_err-count-clause-failed g c =
     let i = c.self.inside in
-    let kept = ap (λ (h : Held). h.kept) c.self.view_is in
+    let kept = ap (λ (h : BlocksView). h.kept) c.self.view_is in
     let size : length c.read.new.buffer ≡ 4096 - i.end = c.read.auto.buffer ∙ length-range i.block i.end 4096 (omega arith) (omega arith) in
     let same = same_kept i.block c.read.new.buffer i.start i.end (4096 - i.end) 0 c.self.invariant.kept_ends (omega arith) size refl in
     let p = err_from_is_err_and c.from_residual.result c.from_residual.ensures.1 in

@@ -2,7 +2,7 @@ use Rattle.std.proofs.Common.{refl, sym, ap, ◌∙◌}
 use Rattle.n2k_table.specs.Field.{FieldParts}
 use Rattle.n2k_table.specs.Shown.{shown}
 use Rattle.n2k_table.specs.Inner.FieldValue.{stands_inside}
-use Rattle.n2k_table.proofs.Behind.{fixed, shows_at_once}
+use Rattle.n2k_table.proofs.AfterStrings.{fixed, shows_at_once}
 use Rattle.n2k_table.proofs.Numbers.{field_shows}
 use Rattle.n2k_table.proofs.field.Field.value.Goals as goal
 

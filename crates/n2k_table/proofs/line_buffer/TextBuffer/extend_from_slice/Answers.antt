@@ -12,5 +12,5 @@ returns-then-bytes-self g c =
     let put = c.copy_from_slice.new.self in
     let same : put ≡ bytes = c.copy_from_slice.ensures.after in
     let text = take-put_mid at (at + length bytes - at) room put (at + length bytes) (omega (arith, ap length same)) (omega (arith, c.self.invariant, c.self.told)) in
-    appended c.args.self.now.items c.self.inside.front.items (take at room) bytes _ (ap (λ (t : LineBufferParts). t.items) (sym c.self.view_is))
+    appended c.args.self.now.items c.self.inside.prefix.items (take at room) bytes _ (ap (λ (t : LineBufferParts). t.items) (sym c.self.view_is))
     (text ∙ ap (λ (t : List ℕ). take at room ++ t) same)

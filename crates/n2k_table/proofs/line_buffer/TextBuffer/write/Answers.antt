@@ -8,4 +8,4 @@ returns-clause-items g c =
     let at = c.self.inside.at in
     let room = c.self.inside.room in
     let text = partly c.write_at.new.room room c.args.bytes.now at c.args.count g.row.N c.write_at.ensures.bytes c.requires.few (omega (arith, c.self.invariant, c.self.told)) in
-    appended c.args.self.now.items c.self.inside.front.items (take at room) (take c.args.count c.args.bytes.now) _ (ap (λ (t : LineBufferParts). t.items) (sym c.self.view_is)) text
+    appended c.args.self.now.items c.self.inside.prefix.items (take at room) (take c.args.count c.args.bytes.now) _ (ap (λ (t : LineBufferParts). t.items) (sym c.self.view_is)) text

@@ -4,7 +4,7 @@ use Rattle.n2k_table.specs.Definition.{DefinitionParts}
 use Rattle.n2k_table.specs.Table.{TableParts, is_of, matches, choice}
 use Rattle.n2k_table.specs.declared.index.Candidate.{Candidate}
 use Rattle.n2k_table.specs.Inner.Index.{pgns, places, places_of}
-use Rattle.n2k_table.proofs.Glances.{candidate_differs}
+use Rattle.n2k_table.proofs.MatchPrefilters.{candidate_differs}
 use Rattle.n2k_table.proofs.Places.{first_at, candidate_here, passed_over, find_places}
 use Rattle.n2k_table.proofs.table.Table.chosen.Goals.{then-allows+else-matches, else-allows}
 use Rattle.n2k_table.proofs.table.Table.chosen.Goals as goal
@@ -26,7 +26,7 @@ returns-then-matches c = λ pgn same.
     let ds = c.args.self.now.definitions in
     let cs = c.args.candidates.now in
     let k = c.loop-candidate.candidate-index in
-    let e : Candidate = record { place = 0; glance = record { mask = 0; wanted = 0 } } in
+    let e : Candidate = record { place = 0; match_prefilter = record { mask = 0; wanted = 0 } } in
     let x = get_or cs k e in
     let d = c.index-definition.result.now in
     let at : d ≡ get_or ds x.place d = c.index-definition.ensures ∙ ap (λ (t : TableParts). get_or t.definitions x.place d) c.self.view_is in
@@ -50,7 +50,7 @@ loop-candidate-preserved c =
     let ds = c.args.self.now.definitions in
     let cs = c.args.candidates.now in
     let k = c.loop-candidate.candidate-index in
-    let e : Candidate = record { place = 0; glance = record { mask = 0; wanted = 0 } } in
+    let e : Candidate = record { place = 0; match_prefilter = record { mask = 0; wanted = 0 } } in
     let x = get_or cs k e in
     elim c.if-allows.branch [
       | then-allows+else-matches w ↦

@@ -1,6 +1,6 @@
 use Rattle.std.proofs.Common.{◌≡◌, length, take, Err, refl, rules, ap, ◌∙◌}
 use Rattle.n2k_wire.specs.declared.fault.WireFault.TheVariants.{Memory}
-use Rattle.n2k_wire.specs.Inner.Stamp.{behind_millis}
+use Rattle.n2k_wire.specs.Inner.Stamp.{after_millis}
 use Rattle.n2k_wire.proofs.CandumpLemmas.{appended, no_id, no_memory}
 use Rattle.n2k_wire.proofs.candump_writer.CandumpLines.append.Goals as goal
 
@@ -15,8 +15,8 @@ returns-in_err-map_err-clause-text c =
 
 pub returns-clause-text : goal.returns-clause-text
 returns-clause-text c =
-    let behind : c.self.inside.behind ≡ behind_millis c.args.self.now = c.self.invariant.1 ∙ ap behind_millis c.self.view_is in
+    let after : c.self.inside.after ≡ after_millis c.args.self.now = c.self.invariant.1 ∙ ap after_millis c.self.view_is in
     let before : take c.len-start.result c.as_mut_slice.result.now ≡ c.args.out.now.items = search rules in
     let long : length c.write_line-end.new.text ≡ c.append_room.new.out.len = search rules in
-    appended c.args.self.now c.advance_to.new.self.line (take 3 c.in-Some.millis.now) c.self.inside.behind c.advance_id.new.digits c.args.packet.now c.data.result.now _ _ c.write_line-end.new.text _ _ _ _ _
-    (rw c.stamp.ensures.value at c.in-Some.ensures.some) (rw c.id.ensures.value at (c.if-not-advance_id.ensures.some refl)) behind c.data.ensures.value c.write_line-end.ensures before c.truncate.ensures.items long
+    appended c.args.self.now c.advance_to.new.self.line (take 3 c.in-Some.millis.now) c.self.inside.after c.advance_id.new.digits c.args.packet.now c.data.result.now _ _ c.write_line-end.new.text _ _ _ _ _
+    (rw c.stamp.ensures.value at c.in-Some.ensures.some) (rw c.id.ensures.value at (c.if-not-advance_id.ensures.some refl)) after c.data.ensures.value c.write_line-end.ensures before c.truncate.ensures.items long

@@ -1,7 +1,0 @@
--- The data after the strings left are the data after all of them.
-use Rattle.std.proofs.Common.{◌≡◌, drop}
-use Rattle.n2k_table.specs.Strings.{data_behind}
-use Rattle.n2k_table.proofs.string_place.data_behind.Given as goal
-
-abbrev pub invariant-loop-step : goal.invariant-loop-step
-invariant-loop-step l = data_behind (drop l.step-index l.steps) l.rest ≡ data_behind l.steps l.«data»
