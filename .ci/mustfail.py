@@ -1,7 +1,7 @@
 """What must-fail edits change: their files, and the functions of these.
 
-The files are laid out as `rt fmt` does it, which the gate demands: a function's body ends at the first line that is a closing
-brace as far to the right as the function's head.
+The files are laid out as by `rt fmt`, which the gate requires: a function's body ends at the first line that is a
+closing brace with the indent of the function's head.
 """
 import collections
 import functools
@@ -14,10 +14,10 @@ import shutil
 import sys
 
 HERE = pathlib.Path(__file__).resolve().parent
-# What the kit asks of a crate whose edits it lists.
+# The fields of a crate that the kit reads when it lists edits.
 Place = collections.namedtuple("Place", "name folder")
-# The head of its impl or trait, or nothing; its name; the numbers of its head's line and its last; where its comments, its body and what
-# follows begin; its text up to the body, without comments, and the whole.
+# The head of its impl or trait, or nothing; its name; the numbers of its head's line and its last line; where its
+# comments, its body and the text after it begin; its text up to the body, without comments, and the whole.
 Function = collections.namedtuple("Function", "owner name line last start begin end head text")
 HEAD = re.compile(r'( *)(?:pub(?:\([^)]*\))? )?(?:default |const |unsafe |extern "C" )*fn (\w+)')
 
@@ -34,7 +34,7 @@ def kit():
 
 @functools.lru_cache(maxsize=None)
 def functions(text):
-    """The functions of a source file that have a body; one within another's body counts as that one's text."""
+    """The functions of a source file that have a body; one within another's body belongs to that body's text."""
     lines, found, owner = text.split("\n"), [], ""
     starts = [0]
     for line in lines:
@@ -63,7 +63,7 @@ def functions(text):
 
 
 def opening(lines, at, indent):
-    """The line in which a function's body begins, whose head begins in this one; None if it has none."""
+    """The line in which the body of the function with this head begins; None if it has none."""
     for place in range(at, len(lines)):
         line = lines[place]
         if line in (f"{indent}{{", f"{indent}{{}}") or line.endswith((" {", " {}")) and (place == at or line.startswith(f"{indent})")):
@@ -74,15 +74,16 @@ def opening(lines, at, indent):
 
 
 def without(text, begin="start"):
-    """A file's text without its functions, or without their bodies alone."""
+    """A file's text without its functions, or only without their bodies."""
     for it in reversed(functions(text)):
         text = text[: getattr(it, begin)] + text[it.end :]
     return text
 
 
 def edited(edit, crate):
-    """The texts of the files that an edit changes, and the path, the function and the new body of each body that it changes; the last two are
-    None if it changes more of a file than bodies. A ValueError says why the edit cannot be applied."""
+    """The texts of the files that an edit changes, and the path, the function and the new body of each changed body;
+    the last two are None if the edit changes more of a file than bodies. A ValueError gives the reason why the edit
+    cannot be applied."""
     texts, why = kit().read_edit(str(edit), str(crate))
     if why:
         raise ValueError(why)
@@ -98,9 +99,10 @@ def edited(edit, crate):
 
 
 def together(crate, changes):
-    """The texts of the files that changes of bodies change: of each the path, the function and the new body, no function twice."""
+    """The texts of the files after changes of bodies; each change is the path, the function and the new body, no
+    function twice."""
     texts = {}
-    # From the last one on, so that what is before it is where it was.
+    # In reverse order, so that earlier offsets stay valid.
     for path, function, body in sorted(changes, key=lambda it: -it[1].begin):
         text = texts.get(path) or (crate / path).read_text(encoding="utf-8")
         texts[path] = text[: function.begin] + body + text[function.end :]
@@ -108,7 +110,7 @@ def together(crate, changes):
 
 
 def misfit(edit, crate):
-    """Says why an edit cannot be applied to a crate's folder, or nothing."""
+    """The reason why an edit cannot be applied to a crate's folder, or None."""
     try:
         edited(edit, crate)
     except ValueError as fault:

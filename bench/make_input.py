@@ -3,19 +3,19 @@
 
     bench/make_input.py tables/n2k.toml 4000 > bench/input.txt
 
-with so many lines of the bus; crates/n2k_bench/stdin, for the stored run, is that of examples/sample.toml and 200.
+with this many lines of the bus; crates/n2k_bench/stdin, for the stored run, is made from examples/sample.toml and 200.
 
-A section begins with a line `=== NAME`. `bus` is a boat's bus for twenty seconds: 40 senders, whose messages a boat sends,
-a sixth of them drawn from the whole table, some of PGNs that no table has; lines of candump and plain lines with
-canboat's stamps and ours, fifty of one form at a time. `whole` is whole messages as plain lines, `bad` lines in other
-forms, `open` frames each of which opens a group, `table` the table. The same words print the same text (Python 3.11 or
-newer). The input is kept as it is: the program changes stamps, senders and data by its seed.
+A section begins with a line `=== NAME`. `bus` is a boat's bus for twenty seconds: 40 senders with the messages of a
+boat, a sixth of them drawn from the whole table, some with PGNs that no table has; candump lines and plain lines with
+canboat's and with our timestamps, fifty of one form at a time. `whole` is whole messages as plain lines, `bad` bad
+lines, `open` frames that each open a group, `table` the table. The same arguments print the same text (Python 3.11 or
+newer). The input stays fixed: the program changes timestamps, senders and data by its seed.
 """
 import random
 import sys
 import tomllib
 
-OFTEN = {  # PGN: how often a second it is sent, as on a boat of some size
+OFTEN = {  # PGN: messages a second, as on a boat of medium size
     127250: 10, 127251: 10, 127245: 10, 127257: 5, 127258: 1, 128259: 2, 128267: 2, 128275: 1, 129025: 10, 129026: 5,
     129029: 2, 129033: 1, 129283: 1, 129284: 1, 129285: 0.3, 129539: 1, 129540: 1, 130306: 10, 130310: 1, 130311: 1,
     130312: 1, 130314: 1, 130316: 1, 127488: 10, 127489: 2, 127493: 2, 127505: 1, 127506: 1, 127508: 2, 126992: 1,
@@ -45,7 +45,8 @@ def number_of(field, rng, lookups):
 
 
 def data_of(definition, rng, lookups):
-    """What a device sends: most numbers small, some not available, names that there are, texts filled up, a few sets."""
+    """The data that a device sends: mostly small numbers, some not available, existing names, padded texts, a few
+    sets."""
     fields = [(f["at"], f) for f in definition["fields"]]
     bits = max((f["at"] + f["bits"] for f in definition["fields"]), default=8)
     if "repeat" in definition:
@@ -75,7 +76,7 @@ def frames_of(fast, data, sequence):
 
 
 def line_of(form, milli, micro, pgn, prio, src, dst, data):
-    """One line of a form: of candump, or plain with canboat's stamp or with ours; 2025-07-04 from 06:00 on."""
+    """One line in a form: candump, or plain with canboat's or with our timestamp; from 2025-07-04 06:00 on."""
     second, milli = milli // 1000, milli % 1000
     if form == "candump":
         return f"({1751608800 + second}.{milli * 1000 + micro:06}) can0 {identifier_of(pgn, prio, src, dst):08X}#{data.hex().upper()}"
@@ -155,7 +156,7 @@ def bad(rng, count):
 
 
 def opened(table):
-    """A frame with number 1 of each fast PGN and sequence, of one sender: none of them ends a message."""
+    """Frame number 1 of each fast PGN and sequence, from one sender: none of them completes a message."""
     lines = []
     for sequence in range(8):
         for pgn in sorted({d["number"] for d in table if d["kind"] == "fast"}):

@@ -1,4 +1,4 @@
-/* What arm64/kit.c has to do, at its limits; tests/arm64 runs it with the words `three words` and an empty one. */
+/* What arm64/kit.c must do at its limits; tests/arm64 runs it with the arguments `three words` and an empty one. */
 #undef NDEBUG
 #include <assert.h>
 #include <errno.h>
@@ -19,7 +19,7 @@ void rattle_set_errno(int error);
 ssize_t rattle_arg(size_t i, unsigned char *to, size_t room);
 
 int main(void) {
-    /* Blocks of all sizes and alignments, those of no bytes too, are apart, aligned, and given back. */
+    /* Blocks of all sizes and alignments, also empty ones, are apart, aligned, and can be freed. */
     struct Tried empty = rattle_alloc(0, 1), other = rattle_alloc(0, 16);
     assert(empty.ok && other.ok && empty.p != other.p);
     for (size_t bytes = 0; bytes < 5000; bytes += bytes / 3 + 1) {
@@ -27,7 +27,7 @@ int main(void) {
             struct Tried block = rattle_alloc(bytes, align);
             assert(block.ok && (uintptr_t)block.p % 16 == 0 && block.p != empty.p);
             memset(block.p, 7, bytes);
-            /* It grows, shrinks to nothing, and grows again: what is kept stays. */
+            /* It grows, shrinks to nothing, and grows again: the kept bytes stay. */
             block = rattle_realloc(block.p, bytes, 3 * bytes + 1000000, align);
             assert(block.ok && (uintptr_t)block.p % 16 == 0);
             for (size_t at = 0; at < bytes; at++) assert(block.p[at] == 7);
@@ -35,7 +35,7 @@ int main(void) {
             assert(block.ok && block.p != NULL && block.p != empty.p);
             block = rattle_realloc(block.p, 0, 20, align);
             assert(block.ok);
-            /* What can't be had is refused, with a pointer that is not null, and leaves the block as it was. */
+            /* A block that is too large is refused, with a pointer that is not null, and the old block is unchanged. */
             memset(block.p, 9, 20);
             struct Tried refused = rattle_realloc(block.p, 20, SIZE_MAX / 2, align);
             assert(!refused.ok && refused.p != NULL && block.p[0] == 9 && block.p[19] == 9);
@@ -50,7 +50,7 @@ int main(void) {
     rattle_set_errno(EINTR);
     assert(errno == EINTR && rattle_errno() == EINTR);
 
-    /* Words: whole, of just the room, cut, empty, and missing. */
+    /* Arguments: whole, of exactly the room, cut, empty, and missing. */
     unsigned char to[13];
     memset(to, 0xee, sizeof to);
     assert(rattle_arg(1, to, 12) == 11 && memcmp(to, "three words\xee", 12) == 0);

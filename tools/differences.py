@@ -1,4 +1,4 @@
-"""Where two tables differ, message by message. from_canboat.py --compare prints it."""
+"""Lists the differences between two tables, message by message, for from_canboat.py --compare."""
 import collections
 import decimal
 import json
@@ -8,13 +8,13 @@ import table_rules
 
 
 class Differences:
-    """The lines on what differs; each line speaks of the first table and then of the second."""
+    """Collects the lines; each line describes the first table, then the second."""
 
     def __init__(self, first, second, names):
         self.first, self.second, self.names = first, second, names
         self.entries = [{lookup["name"]: dict(map(tuple, lookup["entries"])) for lookup in table.get("lookup", [])}
                         for table in (first, second)]
-        self.seen = {}  # pairs of lookups that were compared, by the message
+        self.seen = {}  # compared pairs of lookups, by message
         self.counts = collections.Counter()
 
     def lines(self):
@@ -62,12 +62,12 @@ class Differences:
         return lines
 
     def value_lines(self, of, first, second, keys):
-        """One line for each key that differs; `of` says what has the keys."""
+        """One line for each key that differs; `of` names the holder of the keys."""
         return [f"  {of}{key} {shown(first, key)}, in {self.names[1]} {shown(second, key)}"
                 for key in keys if meant(first, key) != meant(second, key)]
 
     def lookup_lines(self, title, of, first, second):
-        """How the names of values differ; a pair of lookups is listed at its first message."""
+        """The differences between the names of values; a pair of lookups is listed at its first message."""
         ones, others = self.entries[0][first], self.entries[1][second]
         if ones == others:
             return []
@@ -87,7 +87,7 @@ def quoted(text):
 
 
 def meant(holder, key):
-    """A key's value, as it counts: 0.10 is 0.1."""
+    """The meaning of a key's value: 0.10 is 0.1."""
     if key == "resolution":
         return decimal.Decimal(holder.get(key, "1"))
     return holder.get(key, {"signed": False, "short": False, "offset": 0}.get(key))
@@ -104,12 +104,13 @@ def matches(message):
 
 
 def values(*keys):
-    """What gives the values of these keys."""
+    """Returns a function that reads the values of these keys."""
     return lambda holder: [holder[key] for key in keys]
 
 
 def as_one(messages, others):
-    """The messages of a PGN, of those of one description the one with the fewest matches where the other table has one alone."""
+    """The messages of a PGN. If the other table has only one message of a description, only the one with the fewest
+    matches is kept."""
     counts = collections.Counter(message["description"] for message in others)
     chosen = {}
     for message in messages:
@@ -118,13 +119,13 @@ def as_one(messages, others):
     return list(chosen.values())
 
 
-# What messages of one PGN, and fields of one message, have in common in both tables: the first that is found counts.
+# What identifies a message of a PGN, and a field of a message, in both tables: the first key that matches counts.
 MESSAGE_KEYS = (lambda message: (matches(message), message["description"]), matches, values("description"))
 FIELD_KEYS = (values("name", "at"), values("name"), values("at"))
 
 
 def pairs_of(first, second, keys):
-    """Each item of two lists with the one that it is in the other: alike by the first key, or the next, or None."""
+    """Pairs the items of two lists: items that agree in the first key, else in the next, else with None."""
     partners, left = {}, list(range(len(second)))
     for key in keys:
         for at, item in enumerate(first):
@@ -137,11 +138,11 @@ def pairs_of(first, second, keys):
 
 
 class NoTable(Exception):
-    """Why a file is no table."""
+    """Why a file is not a table."""
 
 
 def text(first, first_name, second_name):
-    """The differences between a table, given as its text, and that of a file; and how many messages they are about."""
+    """The differences between a table, given as text, and a file's table, and how many messages they concern."""
     with open(second_name, "rb") as file:
         try:
             second = table_rules.tree(file.read())

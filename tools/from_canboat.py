@@ -31,7 +31,7 @@ import json
 import sys
 import textwrap
 
-# What Python keeps of modules would stay behind where n2kdec is removed.
+# Python's compiled modules would remain after n2kdec is removed.
 sys.dont_write_bytecode = True
 import differences
 import table_text
@@ -44,14 +44,14 @@ MOST_DECIMALS = 18
 GREATEST_MATCH = 2**63 - 1
 LONGEST_FILE = 16777216  # bytes
 
-# An ISO message is sent by the transport protocol of ISO 11783, and so is no fast packet.
+# An ISO message uses the transport protocol of ISO 11783, so it is not a fast packet.
 PACKETS = {"Single": "single", "ISO": "single", "Fast": "fast", "Mixed": None}
 NUMBERS = {"NUMBER", "MMSI", "TIME", "DATE", "DURATION", "PGN", "FIELD_INDEX", "ISO_NAME"}
 RAW = {
     "INDIRECT_LOOKUP": "since the names depend on another field",
     "FIELDTYPE_LOOKUP": "since the names are those of kinds of fields",
 }
-# The lists of names, and what a field of that kind names one by.
+# The lists of names, and the member by which a field of that kind refers to a list.
 NAMED = {"LOOKUP": "LookupEnumeration", "BITLOOKUP": "LookupBitEnumeration", "INDIRECT_LOOKUP": "LookupIndirectEnumeration"}
 STRINGS = {"STRING_LZ": "lz", "STRING_LAU": "lau"}
 VARYING = {"STRING_VAR", "VARIABLE"}
@@ -59,10 +59,10 @@ KEYED = {"KEY_VALUE", "DYNAMIC_FIELD_KEY", "DYNAMIC_FIELD_LENGTH", "DYNAMIC_FIEL
 WHOLE = {"STRING_FIX": "text", "DECIMAL": "digits"}
 UNNAMED = {"RESERVED", "SPARE"}
 KNOWN = NUMBERS | RAW.keys() | NAMED.keys() | STRINGS.keys() | VARYING | KEYED | WHOLE.keys() | UNNAMED | {"BINARY", "FLOAT"}
-# As recipes know them.
+# Units as the recipes know them.
 UNITS = {"DATE": "days since 1970-01-01", "TIME": "s since midnight"}
 
-# What the greatest value of a lookup is called where it only says that there is none.
+# Names of a lookup's greatest value that only mean "not available".
 NONE = {"unavailable", "not available", "data not available", "not defined", "not defined (default)", "undefined",
         "unknown", "null", "no data", "n/a"}
 NO_MATCH = "with a match that a table can't express"
@@ -86,7 +86,7 @@ REQUIRED = object()
 
 
 class Object:
-    """An object of the file, whose members are asked for by name and kind."""
+    """An object of the file; its members are read by name and kind."""
 
     def __init__(self, value):
         if not isinstance(value, dict):
@@ -112,7 +112,7 @@ class Object:
         return value
 
     def called(self, otherwise, name="Name"):
-        """What a comment calls it, whatever is odd about it."""
+        """How a comment names it, valid or not."""
         try:
             return quoted(self.ask(name, "a text"))
         except Odd:
@@ -121,8 +121,8 @@ class Object:
 
 @dataclasses.dataclass
 class Given:
-    """A field as the file has it; `bits` is None where its length varies or isn't known. Of an odd one what is wrong is there,
-    and as much of the rest as is right."""
+    """A field as in the file; `bits` is None if its length varies or is unknown. For an odd field it contains what is
+    wrong, and the parts that are right."""
     called: str
     at: int | None = None
     bits: int | None = None
@@ -142,9 +142,9 @@ class Given:
 
 @dataclasses.dataclass
 class Message:
-    """A definition of the table, and comments on it."""
+    """A definition of the table, and its comments."""
     definition: dict
-    notes: dict  # from a text to what the fields that it is about are called
+    notes: dict  # from a text to the names of the fields that it describes
 
     def matches(self):
         return sum("match" in field for field in self.definition["fields"])
@@ -155,9 +155,9 @@ class Message:
 
 @dataclasses.dataclass
 class Table:
-    parts: list  # messages, and the comments that stand in the place of others
+    parts: list  # messages, and comments in place of messages
     lookups: dict  # from a name to names by value
-    comments: list  # what stands behind the lookups
+    comments: list  # comments after the lookups
     counts: collections.Counter  # what was left out, by cause
 
     def messages(self):
@@ -167,7 +167,7 @@ class Table:
 # ---- The file ----
 
 def parse(text):
-    """What the file's bytes hold; numbers with a dot are decimals, so that none is rounded."""
+    """Parses the file's bytes; numbers with a dot become decimals, so that none is rounded."""
     def refuse(name):
         raise BadInput(f"this is not JSON: it has the number {name}")
 
@@ -208,7 +208,7 @@ def read_field(value, ordinal):
 
 
 def read_names(top, entries_name, value_names, left_out):
-    """The lists of names of one kind, each from values to a name; in `left_out` goes what is odd."""
+    """The lists of names of one kind, each a map from values to a name; odd lists go into `left_out`."""
     found = {}
     for ordinal, value in enumerate(list_of(top, f"Lookup{entries_name}Enumerations", left_out), 1):
         called = f"number {ordinal}"
@@ -241,7 +241,7 @@ def list_of(top, name, left_out):
 
 
 def read_name(entry, value_names):
-    """The values of a name, or None where a table can't say it."""
+    """The values of a name, or None if a table cannot express it."""
     try:
         entry = Object(entry)
         values = tuple(entry.count(name) for name in value_names)
@@ -252,7 +252,7 @@ def read_name(entry, value_names):
 
 
 def set_of(pgn, length):
-    """The places of the first repeating set among the fields, and whether it ends the message."""
+    """The positions of the first repeating set among the fields, and whether it ends the message."""
     size = pgn.count("RepeatingFieldSet1Size", 0)
     if size == 0:
         return None, True
@@ -263,7 +263,7 @@ def set_of(pgn, length):
     return range(start, start + size), start + size == length and not second
 
 
-# ---- What a table can say ----
+# ---- What a table can express ----
 
 def is_unicode(text):
     return not any("\ud800" <= letter <= "\udfff" for letter in text)
@@ -274,7 +274,7 @@ def is_text(text):
 
 
 def resolution_text(number):
-    """The exact decimals of a resolution, without zeros at the end."""
+    """The exact decimals of a resolution, without trailing zeros."""
     if 0 < number < 10**10 and number.adjusted() >= -MOST_DECIMALS:
         whole, _, decimals = f"{number:f}".partition(".")
         decimals = decimals.rstrip("0")
@@ -299,26 +299,26 @@ def match_of(given):
 
 
 def unit_of(given):
-    """A time below 0 is none of a day."""
+    """The unit of a field. A time below 0 is not a time of day."""
     unit = given.unit if given.kind == "TIME" and given.signed else UNITS.get(given.kind, given.unit)
     return {"unit": unit} if is_text(unit) else {}
 
 
 class Layout:
-    """The fields of a message or of a set, one behind the other, as far as a table can say them. Each stands at a bit, which
-    counts from the front or from the end of the string before it."""
+    """The fields of a message or of a set in order, as far as a table can express them. Each has a place in bits,
+    counted from the beginning or from the end of the string before it."""
 
     def __init__(self, lookups, front, end, used, names):
         self.lookups, self.front, self.end, self.used, self.names = lookups, front, end, used, names
         self.fields, self.notes = [], collections.defaultdict(list)
-        # Where the next field begins, None where that isn't known; the string behind which, and that one's fixed place.
+        # The place of the next field (None if unknown), the string before it, and that string's fixed place.
         self.at, self.after, self.fixed = 0, None, 0
-        self.reach = 0  # the greatest fixed place behind a field
-        self.behind = None  # why what follows has no place
-        self.rest = None  # where that begins
+        self.reach = 0  # the greatest fixed place after a field
+        self.behind = None  # why later fields have no place
+        self.rest = None  # the place of the first field without one
 
     def place(self, given):
-        """Where a field begins. The file's own place counts from the front of the message."""
+        """Where a field begins. The file's own place counts from the beginning of the message."""
         counts = self.after is None and self.front is not None and given.at is not None
         at = given.at - self.front if counts else self.at
         return None if at is not None and at < 0 else at
@@ -343,7 +343,7 @@ class Layout:
             self.reach = max(self.reach, self.fixed + self.at)
 
     def no_place(self, given, at, is_last):
-        """Why a field has no place for its own, or what it leaves without one."""
+        """Why a field cannot have its place, or what it leaves without one."""
         if given.sometimes:
             self.ends_at(at, f"after a field {(cause := 'only in some messages')}")
             return cause
@@ -353,12 +353,12 @@ class Layout:
         if given.varies and given.kind not in STRINGS and not is_bytes:
             self.ends_at(at, f"after a field {(cause := 'of variable length')}")
             return None if given.odd else cause
-        # Where the length isn't known, what follows may have its place all the same.
+        # If the length is unknown, later fields may still have a place.
         self.rest = (at, self.after, self.fixed) if given.bits is None and given.odd else None
         return None
 
     def ends_at(self, at, behind):
-        """That what follows has no place: what is left begins here, unless it has begun before."""
+        """Records that later fields have no place: the rest begins here, unless it has begun before."""
         if self.behind is None:
             self.behind = behind
             self.rest = self.rest if at is None else (at, self.after, self.fixed)
@@ -390,7 +390,7 @@ class Layout:
             self.at, self.after, self.fixed = 0, field["name"], self.fixed + at
 
     def field(self, given, at, is_last):
-        """The field as a table has it, and why it is less than in the file."""
+        """The field for the table, and why it contains less than the file's."""
         field = {"name": self.free_name(given.name), "kind": "number", "at": at}
         if given.kind in KEYED:
             raise LeftOut("as part of a key and its value")
@@ -410,7 +410,7 @@ class Layout:
             field["kind"] = WHOLE[given.kind]
         elif given.kind == "BINARY" and is_whole and not given.has_match:
             field["kind"] = "bytes"
-        # Of what ends a message as much is shown as is there.
+        # The last field shows as many bytes as there are.
         if is_last and field["kind"] in ("text", "bytes") and room >= 8:
             field["short"], bits = True, min(bits, room - room % 8)
         if bits > room:
@@ -426,7 +426,7 @@ class Layout:
         return field, note
 
     def number(self, field, given):
-        """Makes the field a number, flags or a lookup field; answers why it is less than in the file."""
+        """Makes the field a number, flags or a lookup field; returns why it contains less than the file's."""
         note = RAW.get(given.kind)
         if given.kind in ("LOOKUP", "BITLOOKUP"):
             named = self.lookups.get((given.kind, given.names))
@@ -439,7 +439,7 @@ class Layout:
         if given.kind in NUMBERS:
             if given.signed and given.bits < 2:
                 raise LeftOut("with one bit and a sign")
-            # What is sent with an offset has no sign.
+            # A value with an offset is unsigned.
             if given.offset:
                 field["offset"] = offset_of(given.offset)
             elif given.signed:
@@ -450,13 +450,13 @@ class Layout:
         return note
 
     def free_name(self, name):
-        """The name, or where it is used the name with the first number that no field has."""
+        """The name; if it is in use, the name with the lowest free number."""
         if name not in self.used:
             return name
         return next(new for at in itertools.count(2) if (new := f"{name} {at}") not in self.used and new not in self.names)
 
     def add_rest(self):
-        """The bytes whose fields have no place, as far as they are there."""
+        """Adds the bytes of the fields without a place, as far as the data contain them."""
         if self.rest is None or len(self.fields) == MOST_FIELDS:
             return
         at, after, fixed = self.rest
@@ -469,18 +469,18 @@ class Layout:
 # ---- From messages of the file to messages of the table ----
 
 class Maker:
-    """Makes the messages of a table and keeps what they have in common."""
+    """Makes the messages of a table, and keeps what they share."""
 
     def __init__(self, lookups, counts):
         self.lookups, self.counts = lookups, counts
         self.packets = {}  # the kind of each PGN
-        self.indirect = collections.defaultdict(dict)  # the fields whose names depend on others, by their list
+        self.indirect = collections.defaultdict(dict)  # the fields whose names depend on other fields, by their list
 
     def definition(self, packet, given, repeat, is_last):
         """The fields and the sets of a message, and the notes on them."""
         end = FRAME if packet == "Single" else LONGEST_MESSAGE
         own = given[:repeat.start] if repeat else given
-        # The member `list` of the JSON line holds the sets.
+        # The member `list` of the JSON line contains the sets.
         layout = Layout(self.lookups, 0, end, {"list"} if repeat else set(), {field.name for field in own})
         for field in own:
             layout.add(field, is_last=field is given[-1])
@@ -502,7 +502,7 @@ class Maker:
         return {"fields": layout.fields, **sets}, layout.notes
 
     def set(self, layout, repeated, is_last):
-        """What repeats behind the fields of this layout, or why it can't be said."""
+        """The sets after the fields of this layout, or why a table cannot express them."""
         at = layout.place(repeated[0])
         if layout.behind or at is None:
             raise LeftOut(layout.behind or "of no fixed place")
@@ -538,8 +538,8 @@ class Maker:
         return Message({"number": number, "kind": kind, "description": description, **definition}, notes)
 
     def part(self, value, ordinal):
-        """The PGN of a message of the file, and the message as one of the table, as a comment, or as nothing where it stands for
-        a range."""
+        """The PGN of a message of the file, and its part of the table: a message, a comment, or nothing for a range of
+        PGNs."""
         number, called = None, f"PGNs {ordinal}"
         try:
             pgn = Object(value)
@@ -569,7 +569,7 @@ class Maker:
 
 
 def named_lookups(lookups, messages, counts):
-    """The lookups that fields name, without names of greatest values that only say that there is none."""
+    """The lookups that fields name, without greatest values that only mean "not available"."""
     lengths = collections.defaultdict(set)
     for message in messages:
         for field in message.all_fields():
@@ -593,7 +593,7 @@ def indirect_comment(name, fields, names):
 
 
 def table_of(value):
-    """The table of what the file holds."""
+    """The table made of the file."""
     if not isinstance(value, dict) or not {"PGNs", "LookupEnumerations"} <= value.keys():
         raise BadInput("this is not canboat.json of version 4 to 6: it has no PGNs or no LookupEnumerations")
     top, left_out, counts = Object(value), [], collections.Counter()
@@ -617,7 +617,7 @@ def table_of(value):
         number, part = maker.part(pgn, ordinal)
         if part is not None:
             by_number[number].append(part)
-    # The first definition that matches is chosen, so those with more matches stand before those with fewer.
+    # The first definition that matches is chosen, so those with more matches come first.
     parts = []
     for of_one in by_number.values():
         parts += [part for part in of_one if isinstance(part, str)]
@@ -643,7 +643,7 @@ def message_lines(message):
 
 
 def head(value):
-    """What the file says of itself, as comments."""
+    """The file's own description, as comments."""
     lines = comment("canboat's PGN database, made a table by tools/from_canboat.py. Where the greatest value of a lookup only "
                     "says that there is none, it has no name here.")
     for name in ("Version", "License", "Copyright"):
@@ -673,7 +673,7 @@ def summary(table):
 
 
 def made_of(path, compared):
-    """The text that is asked for, and the summary of the table."""
+    """The requested text, and the summary of the table."""
     try:
         with open(path, "rb") as file:
             value = parse(file.read())
@@ -685,7 +685,7 @@ def made_of(path, compared):
 
 
 def write(text):
-    """Text on standard output, without a buffer that would try again at the end."""
+    """Writes text to standard output, without a buffer that would retry at exit."""
     rest = text.encode()
     with open(sys.stdout.fileno(), "wb", buffering=0, closefd=False) as output:
         while rest:

@@ -11,13 +11,13 @@ import random
 import sys
 import tomllib
 
-HEADS = {"lau": 2, "lz": 1}  # bytes of a string before its characters
+HEADS = {"lau": 2, "lz": 1}  # bytes before the characters of a string
 LETTERS = "ABCabc012 -'\"\\}{,:@é日"
 
 
 def placed(fields, begin, rng):
-    """Fields that count from bit `begin`, with strings of up to 12 bytes: where the last one ends, the strings' first bytes
-    with their forms and sizes, and where each string ends."""
+    """Lays out fields from bit `begin`, with strings of up to 12 bytes: the end of the last field, the strings' first
+    bytes with their forms and sizes, and where each string ends."""
     last, strings, ends = begin, [], {None: begin}
     for f in fields:
         end = ends[f.get("after")] + f["at"]
@@ -32,7 +32,7 @@ def placed(fields, begin, rng):
 
 
 def put_string(data, at, form, size, rng):
-    """A string's length, encoding and characters, as far as they lie in the data."""
+    """Writes a string's length, encoding and characters, as far as they fit into the data."""
     is_wide = form == "lau" and rng.random() < 0.5
     text = "".join(rng.choices(LETTERS, k=size)).encode("utf-16-le" if is_wide else "utf-8")[:size]
     string = bytes([size + 2, not is_wide] if form == "lau" else [size]) + text
@@ -40,8 +40,8 @@ def put_string(data, at, form, size, rng):
 
 
 def data_of(definition, rng):
-    """The bytes that its fields take and up to three sets, a single frame eight, and where a field may be short some of
-    them: random, but for the strings and the match fields."""
+    """The data of a message: the bytes of its fields and of up to three sets (eight in a single frame; part of them if
+    a field may be short). All are random except strings and match fields."""
     bits, strings, ends = placed(definition["fields"], 0, rng)
     bits = bits if definition["fields"] else 8
     if "repeat" in definition:
@@ -90,7 +90,7 @@ def main(table, seed, lines):
             address = rng.randrange(256) if definition["number"] >> 8 & 255 < 240 else 0
             identifier = rng.randrange(8) << 26 | definition["number"] << 8 | address << 8 | sender
             frames = frames_of(definition, data_of(definition, rng), sequences[identifier & 0x3FFFFFF] % 8)
-            if len(frames) > left - sum(map(len, waiting)):  # no line for it: the others first, then shorter ones
+            if len(frames) > left - sum(map(len, waiting)):  # too few lines left: the other messages first, then shorter ones
                 if any(waiting):
                     sender = rng.choice([s for s in range(8) if waiting[s]])
                 else:

@@ -19,7 +19,7 @@ import itertools
 import os
 import sys
 
-# What Python keeps of modules would stay behind where n2kdec is removed.
+# Python's compiled modules would remain after n2kdec is removed.
 sys.dont_write_bytecode = True
 import table_rules
 import table_text
@@ -38,10 +38,10 @@ class Part:
     top: table_rules.Table
     lines: table_rules.Lines
     faults: list
-    kinds: dict = dataclasses.field(default_factory=dict)  # of PGNs, by earlier files
+    kinds: dict = dataclasses.field(default_factory=dict)  # kinds of PGNs in earlier files
 
     def definitions(self):
-        """Those that are joined."""
+        """The definitions that are joined."""
         return [it for it in self.top.get("pgn", []) if it["kind"] == self.kinds.get(it["number"], it["kind"])]
 
     def other_kinds(self):
@@ -58,7 +58,7 @@ class Part:
 
 
 def lookup_names(top):
-    """The names of the lookups of a file that may have any fault; None is one that is no TOML."""
+    """The names of the lookups of a file with any faults; None stands for invalid TOML."""
     lookups = table_rules.tables_of(top.get("lookup")) if top is not None else []
     return {lookup["name"] for lookup in lookups if type(lookup.get("name")) is str}
 
@@ -76,7 +76,7 @@ def part(name, data, joined_lookups=()):
 
 
 class Joined:
-    """The files of an owner and the shipped table, which stands last. Where a file has a fault there is no table."""
+    """The owner's files and the shipped table, which comes last. If a file has a fault, there is no table."""
 
     def __init__(self, standard, files):
         datas = [read(name) for name in files]
@@ -107,7 +107,7 @@ class Joined:
             self.own[0].faults.append(Fault(1, None, "TooMany", f"joined {count} {what}, over {most}"))
 
     def hides(self, one):
-        """The definitions of a file that fit whenever one of a later file does, or are of another kind, by line."""
+        """The definitions of a file that match whenever one of a later file matches, or have another kind, by line."""
         later, kinds = collections.defaultdict(list), {}
         for other in self.parts[self.parts.index(one) + 1:]:
             for definition in other.top.get("pgn", []):
@@ -131,7 +131,7 @@ class Joined:
         return [one.told(fault) for one in self.parts for fault in sorted(one.faults, key=lambda fault: fault.line)]
 
     def notes(self):
-        """What is told each time, of each file no more than a few lines."""
+        """Notes that are printed on each run, at most a few lines for each file."""
         for one in self.own:
             found = sorted([*self.hides(one), *one.other_kinds()])
             yield from (one.told(f"{line}: {what}") for line, what in found[:MOST_NOTES])
@@ -149,7 +149,7 @@ class Joined:
 
 
 def with_units(definition, one):
-    """A definition whose units are at their keys."""
+    """A definition with its units as keys."""
     def fields(fields):
         units = [table_rules.unit_of(field, one.top, one.text) if field["kind"] == "number" else None for field in fields]
         return [{**field, "unit": unit} if unit else field for field, unit in zip(fields, units)]
@@ -159,8 +159,8 @@ def with_units(definition, one):
 
 
 def standing(one):
-    """The definitions of a table of format 3 as they stand, with their comments; None where not each of them is a header with
-    what follows it."""
+    """The unchanged definitions of a table in format 3, with their comments; None unless each is a header with its
+    lines."""
     arrays = [one.top[key] for key in ("pgn", "lookup") if key in one.top]
     if one.top["format"] != 3 or not all(array.by_headers for array in arrays):
         return None
@@ -173,7 +173,7 @@ def standing(one):
 
 
 def with_comments(text, table):
-    """Where the comments right above a header begin."""
+    """Where the comments directly above a header begin."""
     line = text.rfind("\n", 0, table.at) + 1
     above = text[table.begin:line].split("\n")[1:-1]
     return line - sum(len(it) + 1 for it in itertools.takewhile(lambda it: it.lstrip().startswith("#"), reversed(above)))

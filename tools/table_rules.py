@@ -1,4 +1,4 @@
-"""A table of n2kdec read with its places: TOML 1.1 as the program reads it, and the rules of docs/PROFILE.md.
+"""Reads a table of n2kdec with offsets: TOML 1.1 as the program reads it, and the rules of docs/PROFILE.md.
 
 `tree(bytes)` is the document, `faults(bytes)` every fault with its line. tools/table-check prints them,
 tests/random/table_faults.py their names (Python 3.9 or newer).
@@ -23,13 +23,13 @@ LONGEST_MESSAGE = 1784  # bits
 MOST_DEFINITIONS, MOST_FIELDS, MOST_LOOKUPS, MOST_ENTRIES = 4096, 256, 1024, 4096
 GREATEST_PGN, GREATEST_VALUE, GREATEST_MANTISSA = 2**24 - 1, 2**32 - 1, 2**32 - 1
 LEAST_OFFSET, GREATEST_OFFSET = -2**32, 2**32 - 1
-DEEPEST = 80  # arrays and inline tables in one another, and parts of a key
+DEEPEST = 80  # maximum nesting of arrays and inline tables, and maximum parts of a key
 
 
 # ---- TOML ----
 
 class NotToml(Exception):
-    """Why a text is no TOML: what was expected, and at which offset."""
+    """Why a text is not valid TOML: what was expected, and at which offset."""
 
     def __init__(self, what, at):
         super().__init__(what)
@@ -37,9 +37,10 @@ class NotToml(Exception):
 
 
 class Table(dict):
-    """A table, with the offset at which it begins (`at`), of one in braces that behind it (`end`), of one with a header that
-    behind what stands before it (`begin`), and those of its keys (`keys_at`). `origin` says what made it, as the rules on
-    defining a key twice ask: a header that passed through it, a dotted key, its own header, or braces."""
+    """A table with its offsets: its begin (`at`), the offset after a table in braces (`end`), the offset after the item
+    before a table with a header (`begin`), and the offsets of its keys (`keys_at`). `origin` says what created it,
+    which decides whether a key may be defined again: a header that passed through it, a dotted key, its own header, or
+    braces."""
 
     def __init__(self, at, origin, begin=None):
         super().__init__()
@@ -51,7 +52,8 @@ class Table(dict):
 
 
 class Array(list):
-    """An array, with the offsets of its elements. Where headers make it, each element is a table of its own header."""
+    """An array with the offsets of its elements. If it was created by headers, each element is a table with its own
+    header."""
 
     def __init__(self, by_headers):
         super().__init__()
@@ -64,7 +66,7 @@ class Array(list):
 
 
 class Moment(str):
-    """A date, a time or both, as it is spelled."""
+    """A date, a time or both, as written."""
 
 
 SPACES = re.compile(r"[ \t]*")
@@ -90,7 +92,7 @@ A_VALUE = "expected a string, number, boolean, date-time, array or inline table"
 
 
 def number(word):
-    """The number that a word spells, or why it spells none."""
+    """The number that a word denotes, or why it is not a number."""
     hexadecimal = word[:2] == "0x"
     if LOOSE_UNDERSCORE[hexadecimal].search(word):
         return None, "`_` may only go between digits"
@@ -129,13 +131,13 @@ def is_moment(word):
 
 
 class Reader:
-    """Reads a text as the crate `toml` does, by the same steps, and keeps where things stand."""
+    """Reads a text in the same steps as the crate `toml`, and keeps the offsets."""
 
     def __init__(self, text):
         self.text = text
-        self.open = [0]  # the offsets of the pair or header, and of the brackets, braces and quotes, that are open
-        self.before = self.behind = 0  # that of the pair or header before, and that behind it
-        self.lines_of_text = 0, 0  # where the last text of many lines begins and ends
+        self.open = [0]  # the offsets of the open pair or header, and of open brackets, braces and quotes
+        self.before = self.behind = 0  # the offset of the previous pair or header, and the offset after it
+        self.lines_of_text = 0, 0  # begin and end of the last multi-line text
 
     def first(self, at):
         return self.text[at:at + 1]
@@ -144,7 +146,7 @@ class Reader:
         return self.text.count("\n", 0, at) + 1
 
     def fail(self, what, at, start=None):
-        """Tells what is wrong with what begins at `start`, or there where it is seen."""
+        """Raises a fault at `start`, or at the offset where it was found."""
         line = self.line(at)
         begins = [begin for begin in map(self.line, reversed(self.open)) if begin < line]
         first, last = map(self.line, self.lines_of_text)
@@ -157,7 +159,7 @@ class Reader:
         raise NotToml(what, at)
 
     def blank(self, at):
-        """After spaces, newlines and comments."""
+        """Skips spaces, newlines and comments."""
         return BLANK.match(self.text, at).end()
 
     def spaces(self, at):
@@ -177,7 +179,7 @@ class Reader:
         return root
 
     def header(self, at):
-        """What defines the table of a header and answers it, and the offset behind it."""
+        """Returns a function that defines the header's table and returns it, and the offset after the header."""
         doubled = self.text.startswith("[[", at)
         path, end = self.key(self.spaces(at + 1 + doubled))
         if self.first(end) != "]":
@@ -203,7 +205,7 @@ class Reader:
         return define, end + 1 + doubled
 
     def along_header(self, table, path):
-        """The table to which a header's path leads; what is missing is made."""
+        """The table that a header's path names; missing tables are created."""
         for key, at in path:
             there = table.get(key)
             if isinstance(there, Array) and there.by_headers:
@@ -218,7 +220,7 @@ class Reader:
         return table
 
     def pair(self, at, depth):
-        """What defines a key with its value and answers the section, and the offset behind them."""
+        """Returns a function that defines the key and returns the section, and the offset after key and value."""
         path, end = self.key(at)
         if self.first(end) != "=":
             self.fail("key with no value, expected `=`", end, at)
@@ -248,7 +250,7 @@ class Reader:
                   f"{self.line(table.keys_at[key])}", at)
 
     def key(self, at):
-        """The parts of a key, each with its offset, and the offset behind the key and spaces."""
+        """The parts of a key, each with its offset, and the offset after the key and spaces."""
         path, start = [], at
         for _ in range(DEEPEST):
             if self.first(at) in ('"', "'"):
@@ -265,7 +267,7 @@ class Reader:
         self.fail(f"a key of more than {DEEPEST} parts, expected fewer", start)
 
     def value(self, at, depth):
-        """A value with arrays and inline tables at most `depth` deep, and the offset behind it."""
+        """A value with arrays and inline tables at most `depth` deep, and the offset after it."""
         front = self.first(at)
         if front and front in "[{":
             if depth == 0:
@@ -327,7 +329,7 @@ class Reader:
             return self.one_line(at)
         self.open.append(at)
         at += 3
-        # A newline right behind the quotes is left out.
+        # A newline directly after the quotes is dropped.
         at += 1 if self.first(at) == "\n" else 2 if self.text.startswith("\r\n", at) else 0
         read = self.body(at, delimiter, PLAIN_LINES, self.at_delimiters)
         self.lines_of_text = self.open.pop(), read[1]
@@ -337,7 +339,7 @@ class Reader:
         return self.body(at + 1, self.first(at), PLAIN, lambda end, _: (None, end + 1))
 
     def body(self, at, delimiter, plain, at_delimiter):
-        """A text up to the quotes that end it, and the offset behind them."""
+        """A text up to its closing quotes, and the offset after them."""
         many = plain is PLAIN_LINES
         pieces, run = [], plain['"\\\\' if delimiter == '"' else delimiter]
         while True:
@@ -360,7 +362,7 @@ class Reader:
             pieces.append(piece)
 
     def at_delimiters(self, at, delimiter):
-        """Three quotes end a text of many lines; one or two are text, also before the last three."""
+        """Three quotes end a multi-line text; one or two are text, also before the last three."""
         end = at
         while self.first(end) == delimiter:
             end += 1
@@ -371,7 +373,7 @@ class Reader:
         return delimiter, at + 1
 
     def escape(self, at, many):
-        """What stands for the letters behind a backslash, and the offset behind them."""
+        """The characters that an escape denotes, and the offset after it."""
         if many and LINE_END.match(self.text, at):
             return "", LINES.match(self.text, at).end()
         letter = self.first(at)
@@ -396,7 +398,7 @@ def text_of(data):
 
 
 def tree(data):
-    """The document that the bytes spell, a Table; else NotToml is raised."""
+    """The document in the bytes as a Table; raises NotToml otherwise."""
     return Reader(text_of(data)).document()
 
 
@@ -425,20 +427,20 @@ MOST_BITS = {"number": 64, "lookup": 32, "text": LONGEST_MESSAGE, "bytes": LONGE
              "digits": LONGEST_MESSAGE}
 BY_BYTES = ("text", "bytes", "digits", "string")
 FORMS = ("lau", "lz")
-MOST_NAMES = 5  # of strings in a fault
+MOST_NAMES = 5  # names listed in a fault
 
 
 @dataclasses.dataclass(frozen=True)
 class String:
-    """A string that others may stand behind: where it begins in the text, and its fixed place, None where that isn't known."""
+    """A string that other fields may follow: its offset in the text, and its fixed place (None if unknown)."""
     at: int
     place: int | None
 
 
 @dataclasses.dataclass(frozen=True)
 class Fields:
-    """The fields of a message or of a set: those that are tables, where each name first stands, the strings by name, and the
-    kinds, None where one of them isn't known."""
+    """The fields of a message or of a set: those that are tables, the first occurrence of each name, the strings by
+    name, and the kinds (None if one is unknown)."""
     tables: list
     names: dict
     strings: dict
@@ -447,7 +449,7 @@ class Fields:
 
 @dataclasses.dataclass(frozen=True)
 class Fault:
-    """A fault: its line and, where the text is no TOML, its column; the name of its class; and what is wrong."""
+    """A fault: its line (and its column if the text is not valid TOML), the name of its class, and its description."""
     line: int
     column: int | None
     name: str
@@ -459,7 +461,7 @@ class Fault:
 
 
 class Lines:
-    """The lines of a text by offset."""
+    """Converts offsets to lines."""
 
     def __init__(self, text):
         self.starts = [0, *(match.end() for match in re.finditer("\n", text))]
@@ -472,21 +474,21 @@ class Lines:
 
 
 def quoted(text):
-    """A text in quotes on one line; of a long one the front."""
+    """A text in quotes on one line; a long text is cut."""
     text = text if len(text) <= 60 else f"{text[:60]}.."
     return '"' + "".join(letter if letter.isprintable() and letter not in '"\\' else
                          letter.encode("unicode_escape").decode() if letter != '"' else '\\"' for letter in text) + '"'
 
 
 def shown(value):
-    """A value in a fault: a text in quotes, a number as it is, else its kind."""
+    """A value in a fault: a text in quotes, a number unchanged, any other value by its kind."""
     if type(value) is str:
         return quoted(value)
     return str(value) if type(value) is int else KIND_NAMES[type(value)]
 
 
 def of_definition(definition, ordinal):
-    """What a fault calls a definition."""
+    """How a fault names a definition."""
     number, description = definition.get("number"), definition.get("description")
     parts = [str(number)] if type(number) is int else []
     parts += [quoted(description)] if type(description) is str else []
@@ -494,13 +496,13 @@ def of_definition(definition, ordinal):
 
 
 def of_named(word, holder, ordinal):
-    """What a fault calls a field or a lookup."""
+    """How a fault names a field or a lookup."""
     name = holder.get("name")
     return f"{word} {quoted(name)}" if type(name) is str and name else f"{word} {ordinal}"
 
 
 def tables_of(array):
-    """The elements of what should be an array that are tables."""
+    """The elements of a supposed array that are tables."""
     return [item for item in array if type(item) is Table] if type(array) is Array else []
 
 
@@ -511,16 +513,16 @@ def all_keys(by_kind):
 
 
 class Rules:
-    """Judges a document. A value that has a fault by itself is None in what is judged further. Fields may name the lookups
-    of tables that it is joined with too."""
+    """Judges a document. A value that has a fault of its own counts as None in later rules. Fields may also name the
+    lookups of the tables that it is joined with."""
 
     def __init__(self, top, lines, joined_lookups=()):
         self.top, self.lines, self.faults, self.joined_lookups = top, lines, [], joined_lookups
         self.version, self.field_keys, self.lookups = None, {}, {}
-        self.near = {}  # the lookup that is most like a name that none has
+        self.near = {}  # the existing lookup whose name is closest to an unknown name
 
     def fault(self, name, at, where, what, *others):
-        """Keeps a fault that shows at an offset, and with it the lines of other values that it is about."""
+        """Records a fault at an offset, and the lines of other values that it concerns."""
         line = self.lines.line(at)
         others = sorted({self.lines.line(other) for other in others} - {line})
         see = f"; see line{'s' * (len(others) > 1)} {', '.join(map(str, others))}" if others else ""
@@ -529,7 +531,7 @@ class Rules:
     # ---- One value ----
 
     def asked(self, table, key, kind, where, others=()):
-        """The value at a key that has to be there."""
+        """The value of a required key."""
         if key not in table:
             self.fault("Key", table.at, where, f"{key} is missing", *others)
         elif type(table[key]) is not kind:
@@ -552,7 +554,7 @@ class Rules:
         return None
 
     def choice(self, table, key, names, where, newer=(), others=()):
-        """One of these names; of those of a newer format that is told."""
+        """One of these names; the fault says if a name belongs to a newer format."""
         text = self.asked(table, key, str, where, others)
         if text is None or text in names:
             return text
@@ -577,7 +579,8 @@ class Rules:
         return None
 
     def only_keys(self, table, keys, where, what, others=(), newer=(), elsewhere=()):
-        """That a table has these keys alone; of those of a newer format, or of a definition, that is told."""
+        """Checks that a table has only these keys; the fault says if a key belongs to a newer format or to a
+        definition."""
         for key in [key for key in table if key not in keys]:
             near = difflib.get_close_matches(key, set(keys) - table.keys(), 1)
             hint = "format 3 has it" if key in newer else "perhaps [[pgn]] is missing before it" if key in elsewhere else \
@@ -586,18 +589,18 @@ class Rules:
             self.fault("Key", table.keys_at[key], where, f"{what} has no key {quoted(key)}; {hint}", *others, *of_format)
 
     def elements(self, holder, key, where, most, word):
-        """The elements of an array that has to be there, each with its offset and ordinal; and how many there are is judged."""
+        """The elements of a required array, each with its offset and ordinal; judges their number."""
         array = self.asked(holder, key, Array, where)
         if array is None:
             return []
         if len(array) > most:
-            # Of elements with headers of their own the first too many is told.
+            # If the elements have headers of their own, the fault names the first element too many.
             at = array.items_at[most] if array.by_headers else holder.keys_at[key]
             self.fault("TooMany", at, where, f"{len(array)} {word}, over {most}")
         return list(zip(array, array.items_at, range(1, len(array) + 1)))
 
     def tables(self, holder, key, where, most, word):
-        """The tables of an array that has to be there, each with its ordinal, one after the other."""
+        """The tables of a required array in order, each with its ordinal."""
         for item, at, ordinal in self.elements(holder, key, where, most, word):
             if type(item) is Table:
                 yield ordinal, item
@@ -605,8 +608,8 @@ class Rules:
                 self.fault("Key", at, where, f"element {ordinal} of {key} is {KIND_NAMES[type(item)]}, not a table")
 
     def unique(self, values):
-        """The values of which each may come once, each with where it first stands. They are given with what a fault says of
-        each: its offset, its place and its name."""
+        """Maps values that must be unique to their first occurrence. Each is given with its offset, its place and its
+        name for a fault."""
         seen = {}
         for value, at, where, what in values:
             if value in seen:
@@ -682,7 +685,7 @@ class Rules:
             kinds.append((definition, where))
 
     def mixed(self, definitions):
-        """That the definitions of each PGN are of one kind."""
+        """Checks that all definitions of a PGN have one kind."""
         firsts = {}
         for definition, where in definitions:
             first, kind = firsts.setdefault(definition["number"], definition), definition["kind"]
@@ -692,7 +695,7 @@ class Rules:
                            definition.keys_at["number"], first.keys_at["number"])
 
     def repeat(self, repeat, where, own):
-        """What repeats behind a message's own fields."""
+        """The sets that repeat after a message's own fields."""
         has_strings = self.version == 3
         keys = ("at", "bits", "after", "fields") if has_strings else ("at", "bits", "fields")
         self.only_keys(repeat, keys, where, "a repeat", newer=("after",))
@@ -710,8 +713,8 @@ class Rules:
                        repeat.keys_at["fields"])
 
     def ends(self, table, at, bits, end, where, repeat, string=None):
-        """Whether bits end in a message, or in a set of this repeat, as far as the table says it: behind this string they
-        count from its fixed place."""
+        """Whether bits end within a message, or within a set of this repeat, as far as the table determines it: after
+        this string they count from its fixed place."""
         if None in (at, bits, end):
             return False
         fixed = at if string is None else string.place + at
@@ -746,8 +749,7 @@ class Rules:
         return Fields(all_fields, self.unique(names), strings, kinds if is_known else None)
 
     def field(self, field, kind, where, end, repeat, strings, fields):
-        """A field of a known kind. Answered are its name and its fixed place, None where that isn't known or is past the
-        end."""
+        """A field of a known kind. Returns its name and its fixed place, None if unknown or past the end."""
         required, optional = self.keys_of(self.field_keys, kind, repeat)
         by_kind = (field.keys_at["kind"],)
         what = f"a {kind} field" + (" of a set" if repeat is not None else "")
@@ -759,7 +761,7 @@ class Rules:
         string, is_behind = None, "after" in field and "after" in optional
         if is_behind:
             string = self.string_before(field, optional, where, strings, fields)
-        # Behind a string whose own place has a fault nothing has a place.
+        # A field after a string whose own place has a fault has no place.
         is_placed = not is_behind or string is not None and string.place is not None
         place = None
         if is_placed and self.ends(field, at, bits, end, where, repeat, string):
@@ -792,7 +794,7 @@ class Rules:
         return name, place
 
     def string_before(self, field, optional, where, strings, fields):
-        """The string behind which a field stands, None where it names none of those before it."""
+        """The string that a field follows, None if it names none of the strings before it."""
         if "match" in field:
             if "match" in optional:
                 self.fault("Key", field.keys_at["after"], where, "a field with a match has no after", field.keys_at["match"])
@@ -803,7 +805,7 @@ class Rules:
         return self.named_string(field, where, strings, "string comes before it", "strings before it", named, hint)
 
     def string_of_message(self, repeat, where, own):
-        """The string behind which the sets stand, None where the message's own fields have none of that name."""
+        """The string that the sets follow, None if no field of the message has that name."""
         named, hint = self.named_by_after(repeat, own.tables), "is not a string"
         if named is None:
             named, hint = self.named_by_after(repeat, tables_of(repeat.get("fields"))), "is a field of the set"
@@ -812,11 +814,11 @@ class Rules:
 
     @staticmethod
     def named_by_after(holder, fields):
-        """The first of these fields, of whatever kind, that `after` names."""
+        """The first of these fields, of any kind, that `after` names."""
         return next((field for field in fields if field.get("name") == holder["after"]), None)
 
     def named_string(self, holder, where, strings, none, many, named, hint):
-        """The string that `after` names; where it names none, what has that name, and what that is, goes with the fault."""
+        """The string that `after` names. If it names none, the fault says which field has that name, and its kind."""
         name = self.text(holder, "after", where)
         if name is None or name in strings:
             return strings.get(name)
@@ -861,8 +863,8 @@ def not_toml(error, data):
 
 
 def judged(data, joined_lookups=()):
-    """The document of a table's bytes, None where it is no TOML; its lines; and all its faults as they are judged: the first
-    is the one that the program answers."""
+    """The document of a table's bytes (None if it is not valid TOML), its lines, and all its faults in the order of the
+    rules: the program reports the first."""
     try:
         text = text_of(data)
         top = Reader(text).document()
@@ -874,18 +876,18 @@ def judged(data, joined_lookups=()):
 
 
 def faults(data):
-    """All faults of a table's bytes; the first is the one that the program answers."""
+    """All faults of a table's bytes; the program reports the first."""
     return judged(data)[2]
 
 
 # ---- Of a table without faults ----
 
-# What may stand between a field and the comment of its line.
+# The text allowed between a field and the comment on its line.
 COMMENT = re.compile(r"[ \t,\]}]*#([^\n]*)")
 
 
 def unit_of(field, top, text):
-    """The unit of a field, or None: in format 3 at its key, before it in the comment behind the field."""
+    """The unit of a field, or None: in format 3 from its key, in older formats from the comment after the field."""
     if top["format"] == 3 or field.end is None:
         return field.get("unit")
     comment = COMMENT.match(text, field.end)
@@ -893,12 +895,12 @@ def unit_of(field, top, text):
     return unit if 1 <= len(unit.encode()) <= LONGEST_TEXT else None
 
 
-# The ranges of PGNs of NMEA 2000 in which one kind alone is sent.
+# The ranges of PGNs for which NMEA 2000 uses only one kind.
 RANGES = {range(59392, 65536): "single", range(126208, 126976): "fast", range(130816, 131072): "fast"}
 
 
 def kind_of_range(definition):
-    """What is to be told of a definition whose kind is not that of its PGN's range, or None."""
+    """A warning if a definition's kind is not the kind of its PGN's range, or None."""
     for numbers, kind in RANGES.items():
         if definition["number"] in numbers and definition["kind"] != kind:
             return f'kind is "{definition["kind"]}", but the PGNs {numbers[0]} to {numbers[-1]} are "{kind}"'
@@ -906,12 +908,12 @@ def kind_of_range(definition):
 
 
 def sets_of(definition):
-    """The fields of what repeats."""
+    """The fields of the sets that repeat."""
     return definition.get("repeat", {}).get("fields", [])
 
 
 class Wanted:
-    """What the matches of a definition ask of the data: bits and their values, and how many bytes there have to be."""
+    """What the matches of a definition require of the data: bits and their values, and the minimum number of bytes."""
 
     def __init__(self, definition):
         self.mask = self.values = self.bytes = 0
@@ -924,6 +926,6 @@ class Wanted:
                 self.bytes = max(self.bytes, (field["at"] + field["bits"] + 7) // 8)
 
     def fits_whenever(self, other):
-        """Whether data that have what the other asks for have this too."""
+        """Whether data that satisfy the other also satisfy this."""
         return not self.is_never and self.bytes <= other.bytes and other.mask & self.mask == self.mask and \
             other.values & self.mask == self.values

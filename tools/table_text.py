@@ -1,16 +1,16 @@
-"""The text of a table of format 3: definitions and lookups as lines of TOML, always the same ones."""
+"""Writes the text of a table of format 3: definitions and lookups as lines of TOML, always in the same form."""
 
 FIELD_KEYS = ("name", "kind", "at", "bits", "after", "form", "signed", "resolution", "offset", "unit", "lookup", "match", "short")
 ESCAPES = {chr(code): f"\\u{code:04X}" for code in (*range(32), 127)} | {'"': '\\"', "\\": "\\\\"}
 
 
 def quoted(text):
-    """A text of TOML."""
+    """A TOML string."""
     return '"' + "".join(ESCAPES.get(letter, letter) for letter in text) + '"'
 
 
 def pairs(table, keys):
-    """These keys of a table, as far as they are there, each with its value."""
+    """Those of these keys that a table has, each with its value."""
     return [f"{key} = {quoted(table[key]) if isinstance(table[key], str) else str(table[key]).lower()}"
             for key in keys if key in table]
 

@@ -71,18 +71,18 @@ try:
     from n2kdec._frame import STAMP, text_of, types_of
     from n2kdec._logs import Boat, Chain, Log, LogError, boats_of, is_remote, messages_of, names_of, store_of
     MISSING = ""
-except ImportError as _error:  # a worker gets this file even if it has no library, and says so
+except ImportError as _error:  # a worker gets this file even without the library, and reports that it is missing
     MISSING = str(_error)
 
 HERE = pathlib.Path(__file__).resolve().parent
-# The folder of records within a folder of results, and the names of files that are not whole yet.
+# The folder of records within a folder of results, and the names of incomplete files.
 OWN = ".n2k-fleet"
 # On a worker, the text of the recipe that makes CSV.
 CONVERT = globals().get("CONVERT", "")
 UNFINISHED = re.compile(r"\..+\.new-.+-\d+-\d+")
 NUMBERS = itertools.count()
 TRIES = 3
-# How many rows of Parquet files wait at most.
+# The maximum number of waiting rows of Parquet files.
 MOST_ROWS = 50_000
 
 
@@ -155,7 +155,7 @@ def difference(job: Job) -> str:
     wanted = job.program
     try:
         own = program()
-    except Exception as error:  # also those of an n2kdec that is not here
+    except Exception as error:  # also those of a missing n2kdec
         return f"has no n2kdec: {error}"
     if own.version != wanted.version:
         return f"has n2kdec {own.version}, and this computer {wanted.version}"
@@ -228,7 +228,7 @@ class Folder:
                 fcntl.flock(file, fcntl.LOCK_EX | fcntl.LOCK_NB)
             except BlockingIOError:
                 raise Busy(f"{self.name}: another call works there: {holder_of(self.read(f'{OWN}/lock'))}") from None
-            # The call that had it may have removed the file meanwhile.
+            # The previous call may have removed the file in the meantime.
             with contextlib.suppress(FileNotFoundError):
                 if os.fstat(file.fileno()).st_ino == os.stat(name).st_ino:
                     break
@@ -379,7 +379,7 @@ class Record:
 
     def put(self, part: str, key: str, counts: n2kdec.Counts, tables: Sequence[str] = ()) -> None:
         self.parts[part] = key, counts, tables
-        # A boat may have thousands of short days. A killed worker's last second is done again.
+        # A boat may have thousands of short days. If a worker is killed, its last second is repeated.
         if time.monotonic() - self.saved > 1:
             self.save()
 
@@ -418,11 +418,11 @@ class Work:
         self.record = Record(self.folder, boat.name + (".csv" if job.columns else ".parquet" if job.has_parquet else ""))
         self.chain = Chain(job.toml)
         self.days = self.lines = 0
-        # The counts of the part before, and of what ended with a part that cannot be read.
+        # The counts of the previous part, and of parts that ended because the next one cannot be read.
         self.counts = self.ended = n2kdec.Counts(0, 0, 0, 0, 0, 0)
         self.faults: list[str] = []
         self.is_broken = False
-        # The Parquet files of the part that is made.
+        # The Parquet files of the current part.
         self.tables: list[str] = []
 
     def base(self, log: Log) -> str:
@@ -728,7 +728,7 @@ def table_text(done: Sequence[Done], seconds: float) -> str:
 
 def run_child(writer: multiprocessing.connection.Connection, boat: Boat, job: Job) -> None:
     """The work of a process of this computer."""
-    # Ctrl-C goes to all; the parent ends its children.
+    # Ctrl-C reaches all processes; the parent ends its children.
     signal.signal(signal.SIGINT, signal.SIG_IGN)
     signal.signal(signal.SIGTERM, signal.SIG_DFL)
     try:
@@ -797,7 +797,7 @@ def work_for(boat: bytes, plain: tuple[Any, ...]) -> tuple[Any, ...]:
 def on_cluster(address: str, boats: Sequence[Boat], job: Job) -> Iterator[Done]:
     """The result of each boat. A boat whose worker died goes to another worker. Lost if the scheduler does not answer."""
     import distributed
-    # What Dask logs of a lost scheduler is said here, in a sentence.
+    # A lost scheduler, which Dask logs, is reported here in one sentence.
     logging.disable(logging.CRITICAL)
     faults = OSError, distributed.TimeoutError, distributed.CancelledError
     try:
@@ -822,7 +822,7 @@ def by_client(client: Any, boats: Sequence[Boat], job: Job) -> Iterator[Done]:
             if client.status != "running":
                 raise distributed.CancelledError
             time.sleep(0.2)
-    # The table goes to each worker once; a worker that died with it does no harm, since it can be made again.
+    # Each worker gets the table once; a worker that died with the table does no harm, since it can be made again.
     sources = [(HERE / name).read_text(encoding="utf-8") for name in ("fleet.py", "convert")]
     digest = hashlib.sha256("".join(sources).encode()).hexdigest()
     handed = client.submit(tuple, [f"n2k_fleet_{digest}", *sources, (job.toml, tuple(job.program), *job[2:])])
@@ -907,7 +907,7 @@ def table_of(options: argparse.Namespace) -> bytes:
         chain.begin()
     except n2kdec.ArgumentError as error:
         raise ValueError(f"{options.table}: {error}") from error
-    # The processes that are forked go on with it, so that they need not read the table.
+    # The forked processes share it, so that they need not read the table.
     chain.keep(None)
     return toml
 
@@ -926,7 +926,7 @@ def main(words: Sequence[str]) -> int:
         if options.joined and any(it.name == "fleet" for it in boats):
             raise ValueError("a boat is called fleet, as the table of --joined is")
         job = Job(table_of(options), own, folder.name, options.columns, call, options.parquet is not None)
-        # SIGTERM ends the processes that this call has started, too.
+        # SIGTERM also ends the processes that this call has started.
         signal.signal(signal.SIGTERM, lambda *_: sys.exit(128 + signal.SIGTERM))
         with folder.held(call):
             return decode_all(boats, job, folder, options, start)

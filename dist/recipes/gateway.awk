@@ -13,7 +13,7 @@ function days_of(text,    year, month) {
     month = substr(text, 6, 2) + 0; year = substr(text, 1, 4) - (month < 3); month = (month + 9) % 12
     return 365 * year + int(year / 4) - int(year / 100) + int(year / 400) + int((153 * month + 2) / 5) + substr(text, 9, 2) - 719469
 }
-# The date of so many days after 1970-01-01.
+# The date this many days after 1970-01-01.
 function date_of(days,    year, month) {
     days += 719468
     year = 400 * int(days / 146097); days %= 146097
@@ -39,7 +39,7 @@ $2 == "R" && $1 ~ /^[0-9][0-9]:[0-9][0-9]:[0-9][0-9]\.[0-9]+$/ {
     fflush()
     next
 }
-# The second word is source, destination and priority, the third the PGN.
+# The second column is source, destination and priority, the third the PGN.
 /^A[0-9]+\.[0-9]+ [0-9A-Fa-f]+ [0-9A-Fa-f]+ [0-9A-Fa-f]+$/ {
     size = length($4) / 2
     gsub(/../, ",&", $4)

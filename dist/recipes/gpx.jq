@@ -5,9 +5,9 @@
 # destinations (129284), men overboard (127233), and those of routes and lists if the table has them.
 include "n2k" {search: "./"};
 
-# What XML may not have, or what turns writing round, is a space.
+# A character that XML does not allow, or a bidirectional control, becomes a space.
 def xml: gsub("[[:cntrl:]\u061c\u200e\u200f\u202a-\u202e\u2066-\u2069\ufffe\uffff]"; " ") | @html;
-# With 7 decimals, as the bus has it; jq may write a small number with an exponent.
+# With 7 decimals, as on the bus; jq may write a small number with an exponent.
 def coordinate:
     (. * 1e7 | fabs | round) as $whole
     | (if . < 0 then "-" else "" end) + "\($whole / 1e7 | floor)." + ("000000\($whole % 10000000)" | .[-7:]);
@@ -16,7 +16,7 @@ def place: select(.[0] >= -90 and .[0] <= 90 and .[1] >= -180 and .[1] <= 180)
 def timed: if seconds then "<time>\(.)</time>" else "" end;
 def point($stamp; $at): "<trkpt \($at)>\($stamp | timed)</trkpt>";
 
-# The waypoints of a message, each as its name and its place.
+# The waypoints of a message, each with its name and its position.
 def waypoints:
     .fields as $fields
     | if .pgn == 129284 then
@@ -29,7 +29,7 @@ def waypoints:
     | select(.at[0] and .at[1]) | (.at | place) as $at | .at = $at;
 
 ($ARGS.named.every // 10 | tonumber) as $every
-# Strings are parts of the track, objects are waypoints. A null is put behind the lines.
+# Strings are parts of the track, objects are waypoints. A null follows the last line.
 | [foreach (lines, null) as $m ({};
       if $m == null then .say = .left
       elif ($m.pgn == 129025 or $m.pgn == 129029) and $m.fields.Latitude and $m.fields.Longitude then

@@ -11,22 +11,22 @@ import "units" as $known {search: ["..", "../../tables"]};
 def padded($width): . + (" " * ($width - length) // "");
 # Flags are names and numbers of bits.
 def shown: if type == "string" then . elif type == "array" then map(tostring) | join(", ") | if . == "" then "none" else . end else tojson end;
-# A text may hold a line's end, what a terminal obeys, or what turns writing round: each such sign is a space.
+# Each line break, control character and bidirectional control in a text becomes a space.
 def plain: "[[:cntrl:]\u061c\u200e\u200f\u202a-\u202e\u2066-\u2069]" as $obeyed | if test($obeyed) then gsub($obeyed; " ") else . end;
-# Seconds of a field that counts for how long something has run are hours, with one decimal.
+# Seconds in a field for a running time become hours, with one decimal.
 def is_hours: test("\\b([Hh]ours|Run Time|Motor Time|Operating Time)\\b");
 def unit_names:
     {date: "days", time: "s"}
     + if . == null then {} else {rad: "deg", "rad/s": "deg/s", K: "°C", Pa: "hPa", date: null, time: null} end
     + if . == "knots" then {"m/s": "knots"} else {} end;
-# Where a PGN stands: by its place here, then all others, then what is of the bus itself.
+# The order of PGNs: by their place in this list, then all others, then those about the bus itself.
 def ranks:
     [127233, 128267, 128259, 129026, 130306, 129025, 129029, 127488, 127489, 127493, 127250, 127245, 127505, 127508] as $first
     | [59392, 59904, 60160, 60416, 65240, 126208, 126464, 126993, 126998, 60928, 126996] as $last
     | reduce range($first | length) as $at ({}; .[$first[$at] | tostring] = $at) | reduce range($last | length) as $at (.; .[$last[$at] | tostring] = 100 + $at);
 
 ranks as $ranks | things as $things | ($things | keys) as $names | ($ARGS.named.own // $known::known)[0] as $units | ($ARGS.named.units | unit_names) as $called
-# The days stand beside the messages, whose keys begin with a bracket: jq copies what lies deeper.
+# The days are beside the messages, whose keys begin with a bracket: jq copies deeper values.
 | reduce lines as $m ({};
       (if .has_days then . elif .day == null then .day = $m.timestamp[:10] else .has_days = .day != $m.timestamp[:10] end)
       | setpath([$m | [.pgn, .src, .description, (.fields | .[keys_unsorted[] | select($things[.])])] | tojson]; $m))

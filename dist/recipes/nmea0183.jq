@@ -8,8 +8,8 @@
 # NMEA 0183 4.10, such as FUEL#0.
 include "n2k" {search: "./"};
 
-# A checksum is all bytes by exclusive or, which jq has not: how often each of the seven bits is 1 is counted, all in one sum
-# in base 128, since no sentence has more bytes; an odd count is a 1.
+# A checksum is the exclusive or of all bytes, which jq lacks: the ones in each of the seven bits are counted, all in
+# one sum in base 128, since no sentence has more bytes; an odd count is a 1.
 def spread: [range(128) as $byte | reduce range(7) as $bit (0; . + (($byte / pow(2; $bit) | floor) % 2) * pow(128; $bit))];
 def checksum($spread):
     ([explode[] | $spread[.]] | add) as $sum
@@ -20,7 +20,7 @@ def sentence($spread): "$" + . + "*" + checksum($spread) + "\r";
 def filled($width): "00000000\(.)" | .[-$width:];
 def decimals($scale): if type == "number" then (. * $scale | round / $scale) + 0 else null end;
 def told: if . == null then "" else tostring end;
-# An angle of radians as degrees from 0 to 359.9; a signed one; one without its sign, and the sign as a letter.
+# An angle in radians as degrees from 0 to 359.9; a signed angle; an angle without its sign, and the sign as a letter.
 def degrees: if type == "number" then . * 1800 / 3.141592653589793 | round | (. % 3600 + 3600) % 3600 / 10 else null end;
 def signed: if type == "number" then . * 1800 / 3.141592653589793 | (round / 10) + 0 else null end;
 def lettered($positive; $negative): if . == null then "," elif . < 0 then "\(-.),\($negative)" else "\(.),\($positive)" end;
@@ -35,7 +35,7 @@ def minutes($width; $positive; $negative):
     end;
 def is_place: .Latitude and .Longitude and (.Latitude | fabs) <= 90 and (.Longitude | fabs) <= 180;
 def place: (.Latitude | minutes(2; "N"; "S")) + "," + (.Longitude | minutes(3; "E"; "W"));
-# A time of day in seconds, and that of an ISO text, as hhmmss.ss.
+# A time of day in seconds, and the time of an ISO text, as hhmmss.ss.
 def clock: if type == "number" then . * 100 | floor as $all | ($all / 360000 | floor | filled(2)) + ($all / 6000 | floor % 60 | filled(2))
         + ($all / 100 | floor % 60 | filled(2)) + "." + ($all % 100 | filled(2)) else "" end;
 def iso_clock: .[11:13] + .[14:16] + .[17:19] + "." + (.[20:22] | rtrimstr("Z") + "00" | .[:2]);
@@ -48,7 +48,7 @@ def rooms: {"Sea Temperature": "ENV_WATER_T", "Outside Temperature": "ENV_OUTAIR
 def air: {"Inside": "ENV_INAIR_H", "Outside": "ENV_OUTAIR_H"};
 def named($names; $instance): . as $source | $names[tostring] // ("\($source // "")" | ascii_upcase | gsub("[^A-Z0-9]+"; "_")) + "#\($instance // 0)";
 
-# Transducers, each as type, value, unit and name: three at most in a sentence, which has no more than 82 bytes.
+# Transducers, each as type, value, unit and name: at most three in a sentence, which has at most 82 bytes.
 def transducers:
     map(select(.[1] != null) | map(tostring) | join(","))
     | range(0; length; 3) as $at | "IIXDR," + (.[$at:$at + 3] | join(","));
@@ -60,7 +60,7 @@ def temperature($source; $instance; $value):
       end;
 def pressure: if type == "number" then ["P", (. / 100000 | decimals(10000)), "B", "ENV_ATMOS_P"] else empty end;
 
-# What is learnt of a message for later sentences.
+# The values of a message that later sentences need.
 def learnt($m):
     $m.fields as $f
     | if $m.pgn == 129026 then .sog = $f.SOG | .cog = $f.COG | .magnetic_cog = ($f."COG Reference" == "Magnetic")
@@ -73,7 +73,7 @@ def learnt($m):
       elif $m.pgn == 129029 then .method = ($f.Method | tostring)
       else . end;
 
-# What a message says, where `.` is what was learnt before it.
+# The sentences of a message; `.` is what earlier messages gave.
 def said($m):
     . as $known | $m.fields as $f | $m.pgn as $pgn
     | if $pgn == 129025 then
@@ -142,7 +142,7 @@ def said($m):
       elif $pgn == 130316 then temperature($f.Source; $f.Instance; $f.Temperature)
       else empty end;
 
-# PGNs of which one sender counts, and the others that say something.
+# PGNs of which only one sender counts, and the others that give sentences.
 def alone: {"129025": true, "129026": true, "129029": true, "127250": true, "127258": true, "128259": true, "128267": true, "130306": true,
     "129283": true, "127257": true};
 def many: {"127245": false, "127488": false, "127489": false, "127505": false, "127508": false, "130310": false, "130311": false,

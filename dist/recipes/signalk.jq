@@ -8,7 +8,7 @@
 # that is not a time is left out: Signal K then uses the time at which it receives the delta.
 include "n2k" {search: "./"};
 
-# No value is false, so null alone counts as no here and below: a test by `==` is a call, which jq is slow at.
+# No value is false, so only null counts as false here and below: a test by `==` is a call, which is slow in jq.
 def at($path; $value): if $path and $value then {path: $path, value: $value} else empty end;
 def ratio: if type == "number" then . * 10000 | round / 1000000 else null end;
 def pi: 3.141592653589793;
@@ -38,7 +38,7 @@ def temperature($source; $instance; $value):
 def humidity($source; $value):
     at({"Inside": "environment.inside.relativeHumidity", "Outside": "environment.outside.relativeHumidity"}[$source | tostring]; $value | ratio);
 def place: if .Latitude and .Longitude then {latitude: .Latitude, longitude: .Longitude} else null end;
-# Alarms are flags that have a name.
+# Alarms are flags with a name.
 def notified($engine; $state; $method):
     {path: "notifications.\($engine).\(camel)", value: {state: $state, method: $method, message: .}};
 def moment:
@@ -76,7 +76,7 @@ def wind:
           at("environment.wind.speedOverGround"; ."Wind Speed"), at("environment.wind.directionMagnetic"; ."Wind Angle")
       else empty end;
 
-# The offset is the way from the transducer to the water line (above 0) or to the keel (below it).
+# The offset is the distance from the transducer to the waterline (above 0) or to the keel (below 0).
 def depth:
     (if .Depth and .Offset then (.Depth + .Offset) * 1000 | round / 1000 else null end) as $sum
     | at("environment.depth.belowTransducer"; .Depth),
@@ -112,7 +112,7 @@ def tank:
           | at($tank + ".currentLevel"; .Level | ratio), at($tank + ".capacity"; .Capacity | if . then . / 1000 else . end)
       else empty end;
 
-# What a message says, from its PGN and its fields. The PGNs stand in four parts, so that few are compared.
+# The values of a message, from its PGN and its fields. The PGNs are in four groups, so that few are compared.
 def values_of($pgn):
     if $pgn < 127000 then
         if $pgn == 126992 then at("navigation.datetime"; moment)
@@ -173,8 +173,8 @@ def values_of($pgn):
         else empty end
     end;
 
-# The state is a stamp up to its second, and the same as ISO text, null where it is no time: each second is looked at once; what
-# is set of each engine; and what the last message of one changed.
+# The state: a timestamp up to its second, and the same as ISO text (null if invalid), so that each second is converted
+# once; what is set on each engine; and what the last message changed.
 foreach lines as $m ({set: {}};
     ($m.timestamp / ".")[0] as $text
     | if .text == $text then . else

@@ -1,4 +1,4 @@
-// Call number REFUSED of malloc and realloc gives nothing, and leaves the file REFUSED_AT.
+// Call number REFUSED of malloc and realloc returns NULL, and creates the file REFUSED_AT.
 #include <fcntl.h>
 #include <stdlib.h>
 #include <unistd.h>

@@ -35,7 +35,8 @@ def product(sender):
 
 
 class Bus:
-    """Messages, each with time, priority, PGN, sender, receiver and bytes; then frames, each with time, identifier and bytes."""
+    """Messages, each with time, priority, PGN, sender, receiver and bytes; then frames, each with time, identifier and
+    bytes."""
 
     def __init__(self, seconds):
         self.seconds, self.draw, self.messages = seconds, random.Random(103), []
@@ -45,7 +46,7 @@ class Bus:
         self.messages.append((at, prio, pgn, sender, receiver, data))
 
     def every(self, interval, first, prio, pgn, sender, data):
-        """A message at an interval, with jitter; `data` makes its bytes of the time and the count."""
+        """Sends a message at an interval, with jitter; `data` makes its bytes from the time and the count."""
         count = 0
         while first + count * interval < self.seconds:
             t = first + count * interval
@@ -74,7 +75,7 @@ class Bus:
             self.every(1.5, .24 + .02 * instance, 6, 127506, sender, lambda t, n, at=instance: pack("<BBBBBHHH", n % 253, at, 0, 80, 99, 600, 20, 200))
         for sender in DEVICES:
             self.every(60, 4 + sender / 50, 7, 126993, sender, lambda t, n: pack("<HBBI", 60000, n % 253, 0xFF, 0xFFFFFFFF))
-        # The plotter asks for all names once, and each device answers. It sends commands when somebody presses a key.
+        # The plotter asks for all names once, and each device answers. It sends commands when a key is pressed.
         self.ask(2.0)
         for _ in range(self.seconds // 20):
             self.put(self.draw.uniform(5, self.seconds), 3, 126208, 1, bytes([1, 0x05, 0xFF, 0x00, 0xF8, 2, 1, 0, 2, 0xFF]), 12)
@@ -87,7 +88,7 @@ class Bus:
             self.put(t + .6 + .02 * place, 6, 126996, sender, product(sender))
 
     def frames(self, counts="pgn"):
-        """The frames of all messages in the order of time. Fast packets are counted for each PGN, or by `counts` for each device."""
+        """The frames of all messages by time. Fast packets are counted for each PGN, or by `counts` for each device."""
         counters, frames = {}, []
         for at, prio, pgn, sender, receiver, data in sorted(self.messages):
             identifier = prio << 26 | (pgn | (receiver if pgn >> 8 & 0xFF < 240 else 0)) << 8 | sender
@@ -116,12 +117,12 @@ def lines(frames):
         yield f"({START + at:.6f}) can0 {identifier:08X}#{data.hex().upper()}"
 
 
-# The faults. Each takes a bus of ten minutes, and gives frames or lines.
+# The faults. Each function takes a bus of ten minutes, and returns frames or lines.
 FAULTS = {}
 
 
 def fault(*expected):
-    """Each expected finding is a kind and an address, or None if it is of no device."""
+    """Each expected finding is a kind and an address, or None if it concerns no device."""
     def enter(make):
         FAULTS[make.__name__.replace("_", "-")] = make, expected
         return make
@@ -367,7 +368,8 @@ def tanks(bus):
 
 
 def busy(bus):
-    """Two tanks in turn; the plotter's waypoints and what it says to its like, in bursts; ships, whose packets begin before the last one ended."""
+    """Two tanks in turn; the plotter's waypoints and its proprietary messages, in bursts; ships, whose packets
+    overlap."""
     tanks(bus)
     for burst in range(20, bus.seconds, 35):
         for place in range(20):
@@ -418,8 +420,8 @@ def short_hole(bus):
 
 
 def changed(bus):
-    """Eight changes and no fault: 8 is gone, 44 moved to 50 and is battery 2, 41 has other software, 5 sends each second, 3 sends no course, 6 a
-    temperature, 22 has an alarm, and 43 has 11.90 V."""
+    """Eight changes and no fault: 8 is gone, 44 moved to 50 and is battery 2, 41 has other software, 5 sends each
+    second, 3 sends no course, 6 a temperature, 22 has an alarm, and 43 has 11.90 V."""
     messages, software = [], lambda data: data.replace(b"2.10", b"2.11")
     for at, prio, pgn, sender, receiver, data in bus.messages:
         if sender == 8 or (pgn, sender) in ((129026, 3), (127250, 5)):

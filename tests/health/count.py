@@ -1,5 +1,6 @@
 #!/usr/bin/env python3
-"""Counts a log of candump a second time, by other means than the recipes, and compares with what `n2k --health --json` says:
+"""Counts a log of candump a second time, by other means than the recipes, and compares with the output of `n2k --health
+--json`:
 
     count.py LOG HEALTH.json TABLE
 
@@ -17,13 +18,13 @@ WINDOW = 10000
 
 
 def fast_pgns(table):
-    """The PGNs that the table sends as fast packets."""
+    """The PGNs that are fast packets in the table."""
     kinds = re.findall(r'^number = (\d+)$\n(?:.*\n)*?kind = "(\w+)"', open(table).read(), re.M)
     return {int(number) for number, kind in kinds if kind == "fast"}, {int(number) for number, _ in kinds}
 
 
 def bits_on_wire(identifier, data):
-    """A frame written out bit by bit."""
+    """A frame written bit by bit."""
     bits = "0" + f"{identifier >> 18:011b}" + "11" + f"{identifier & 0x3FFFF:018b}" + "000" + f"{len(data):04b}" + "".join(f"{it:08b}" for it in data)
     crc = 0
     for bit in bits:
@@ -34,14 +35,14 @@ def bits_on_wire(identifier, data):
     sent = ""
     for bit in bits + f"{crc:015b}":
         sent += bit
-        # The sender puts the other bit after five that are equal; a stuff bit counts as the first of the next run.
+        # After five equal bits the sender inserts the opposite bit; this stuff bit counts as the first of the next run.
         if len(sent) >= 5 and sent[-5:] == 5 * bit:
             sent += "10"[int(bit)]
     return len(sent) + 1 + 2 + 7 + 3
 
 
 def read(log):
-    """Each frame: number of its line, time, identifier, data."""
+    """Each frame: its line number, time, identifier, data."""
     for number, line in enumerate(open(log), 1):
         found = re.fullmatch(r"\((\d+\.\d+)\) \S+ ([0-9A-F]{8})#([0-9A-F]*)\n?", line)
         if found and int(found[2], 16) < 1 << 29:

@@ -1,9 +1,11 @@
 #!/usr/bin/env python3
-"""Sums a trip up a second time, from the frames of a log of bus.py and by other means than the recipes, and compares with `n2k --trip --json`:
+"""Sums up a trip a second time, from the frames of a log of bus.py and by other means than the recipes, and compares
+with `n2k --trip --json`:
 
     sums.py LOG TRIP.json
 
-The way is summed by vectors, the rest by lists of all values. Each difference is a line; the last line says how many sums are the same.
+The distance is summed by vectors, the rest by lists of all values. Each difference is a line; the last line gives the
+number of equal sums.
 """
 import json
 import math
@@ -12,14 +14,14 @@ import sys
 
 
 def messages(log):
-    """Time, sender, PGN and bytes of each message whose frames are all there, in this order."""
+    """Time, sender, PGN and bytes of each message whose frames all exist, in this order."""
     parts = {}
     for line in open(log):
         stamp, _, frame = line.split()
         word, _, digits = frame.partition("#")
         number, data, at = int(word, 16), bytes.fromhex(digits), float(stamp[1:-1])
         sender, pgn = number & 255, number >> 8 & 0x3FFFF
-        # A stamp of a message has milliseconds, cut.
+        # A message's timestamp is cut to milliseconds.
         at = math.floor(at * 1000 + 1e-4) / 1000
         if pgn in (127489, 128275):
             key = sender, pgn, data[0] >> 5
@@ -42,7 +44,7 @@ def miles(one, other):
 
 
 def over(values):
-    """A value times the time to the next one, of those that are a minute apart at most."""
+    """Sums each value times the time to the next one, if they are at most a minute apart."""
     return [(value, after - at) for (at, value), (after, _) in zip(values, values[1:]) if 0 <= after - at <= 60]
 
 
@@ -67,7 +69,7 @@ def main(log, report):
             depths.append(struct.unpack_from("<I", data, 1)[0] / 100)
         elif pgn == 130306:
             winds.append(struct.unpack_from("<H", data, 1)[0] / 100)
-    # Stretches without a gap; in each the points that are 20 m from the last one that counts, and the last point.
+    # Stretches without a gap; each contains the points 20 m from the last one that counts, and its last point.
     way, stretch = 0.0, []
     for place in [*places, (math.inf, None)]:
         if stretch and place[0] - stretch[-1][0] > 60:

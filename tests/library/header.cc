@@ -1,4 +1,4 @@
-// A program in C++ that calls the library as n2kdec.h declares it.
+// A program in C++ that makes the calls that n2kdec.h declares.
 #include "n2kdec.h"
 
 int main() {

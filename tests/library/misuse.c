@@ -1,10 +1,10 @@
-// Makes each call that n2kdec.h refuses, between the lines of a log: it has to answer the status that the header gives it,
-// and to harm nothing, so that what the decoder prints and reports in the end is the program's.
+// Makes each call that n2kdec.h refuses, between the lines of a log: it has to return the status that the header names,
+// and to change nothing, so that the decoder's final output and reports are the program's.
 //
 //     misuse TABLE LOG OUTPUT ERRORS
 //
-// TABLE is examples/sample.toml, LOG a log that leaves a group open in its first lines, OUTPUT what the program prints of
-// it, and ERRORS what it reports, without the summary.
+// TABLE is examples/sample.toml, LOG a log that leaves a group open in its first lines, OUTPUT the program's output for
+// it, and ERRORS its reports, without the summary.
 #include "texts.h"
 
 static const struct n2k_settings usual = {.window = 10000};
@@ -18,7 +18,7 @@ static void want(int32_t wanted, int32_t status, const char *call) {
     answered++;
 }
 
-// The text with one part exchanged, where that comes first.
+// Replaces the first occurrence of a part of a text.
 static struct text changed(struct text text, const char *old, const char *new) {
     struct text made = {0};
     size_t size = strlen(old);
@@ -32,7 +32,7 @@ static struct text changed(struct text text, const char *old, const char *new) {
     fail(old, 0);
 }
 
-// A field more than a definition may have.
+// One field more than a definition may have.
 static char *too_many_fields(void) {
     static char fields[1 << 15];
     int size = sprintf(fields, "fields = [");
@@ -44,7 +44,7 @@ static int32_t open_with(struct n2k_decoder *d, struct text table, const struct 
     return n2k_open(table.bytes, table.size, state != NULL, state ? state->bytes : NULL, state ? state->size : 0, settings, d);
 }
 
-// Whether the handle is zeros, as before its first call.
+// Whether the handle is all zeros, as before its first call.
 static void stays_closed(const struct n2k_decoder *d) {
     if (d->live || d->hold.at != NULL) fail("a refused call opened a decoder", 0);
 }
@@ -133,7 +133,8 @@ static void refused_state(struct text table, struct text state, int32_t number, 
     free(state.bytes);
 }
 
-// What waits, or the state, in rooms that are too small by every number of bytes, and then in one that is larger.
+// Takes the queued text, or the state, into rooms that are too small by every number of bytes, and then into a larger
+// room.
 static void take_in_small_rooms(struct n2k_decoder *d, int32_t (*call)(struct n2k_decoder *, uint8_t *, size_t, size_t *), struct text *to) {
     size_t wanted, size;
     if (call(d, NULL, 0, &wanted) == N2K_DONE) return;
@@ -150,7 +151,7 @@ static void take_in_small_rooms(struct n2k_decoder *d, int32_t (*call)(struct n2
     }
 }
 
-// The states that are refused are made of one with open groups.
+// The refused states are made from one with open groups.
 static void refused_states(struct text table, struct n2k_decoder *d) {
     struct text state = {0};
     struct n2k_settings other = {.window = 500};
@@ -165,7 +166,7 @@ static void refused_states(struct text table, struct n2k_decoder *d) {
     free(table_too.bytes), free(state.bytes);
 }
 
-// A log that has as many lines as are counted takes no more of them, and its decoder is closed.
+// A log at the line limit accepts no further line, and its decoder is closed.
 static void too_much(struct text table) {
     struct n2k_decoder d = {0};
     struct text empty = {0};
@@ -184,7 +185,7 @@ static void too_much(struct text table) {
     free(empty.bytes), free(full.bytes);
 }
 
-// What is no frame changes nothing, and a frame comes between two lines.
+// An invalid frame changes nothing, and a frame comes between two lines.
 static void refused_frames(struct n2k_decoder *d) {
     const uint8_t data[9] = {0};
     size_t size;

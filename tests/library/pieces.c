@@ -1,28 +1,29 @@
-// Feeds a log in random pieces and frames to a decoder, takes what waits, all or a line, into rooms of random size, saves, closes and goes on from
-// the state after random lines, and compares all that was printed and reported, the counts and the last state with those
-// of the program.
+// Feeds a log in random chunks and frames to a decoder, takes the queued text, all or one line, into rooms of random
+// size, saves, closes and resumes from the state after random lines, and compares the whole output and reports, the
+// counts and the last state with the program's.
 //
 //     pieces CALLS SEED TABLE LOG OUTPUT ERRORS STATE WINDOW OPTIONS [THREADS]
 //
-// OUTPUT, ERRORS and STATE are what the program wrote of that log; OPTIONS has the letters o (in order), e (empty) and w
-// (whole), in any order. The log is fed again and again until so many calls were made. The pieces of one decoder have 1
-// byte to a bound, which is a power of 2 up to 64 KiB. With THREADS, twice as many decoders go from thread to thread: a
+// OUTPUT, ERRORS and STATE are the program's for that log; OPTIONS has the letters o (in order), e (empty) and w
+// (whole), in any order. The log is fed repeatedly until CALLS calls were made. The chunks of one decoder have 1 byte
+// up to a limit, which is a power of 2 up to 64 KiB. With THREADS, twice as many decoders go from thread to thread: a
 // thread takes one, under a mutex, makes a few calls, and puts it back.
 #include "texts.h"
 #include <pthread.h>
 
-// Once over the log: what it has made so far.
+// One pass over the log, and its results so far.
 struct run {
     unsigned long long seed;
     struct n2k_decoder decoder;
     struct text printed, reported;
-    // How far the log is fed, where the line that is cut begins, and after how many lines the decoder is saved.
+    // How far the log is fed, where the line that is cut begins, and the number of lines after which the decoder is
+    // saved.
     size_t at, start, lines, wanted, most;
     long calls, opened, frames, hands;
     pthread_t last;
 };
 
-// What all runs have.
+// What all runs share.
 static struct text table, log_text, output, errors, end;
 static struct n2k_settings settings;
 
@@ -34,7 +35,7 @@ static size_t below(struct run *run, size_t n) {
 
 typedef int32_t take_call(struct n2k_decoder *, uint8_t *, size_t, size_t *);
 
-// Moves what waits behind a text. Where the room is too small, nothing is lost, and the size that it wants is told.
+// Appends the queued text. If the room is too small, nothing is lost, and the required size is returned.
 static void take(struct run *run, take_call *call, struct text *to) {
     size_t room = below(run, 400), size = 12345;
     uint8_t *bytes = block(room);
@@ -74,7 +75,7 @@ static void take_both(struct run *run) {
     take(run, n2k_take_reports, &run->reported);
 }
 
-// Feeds a piece from a block of its own, of which nothing is kept.
+// Feeds a chunk from its own block, which is freed afterwards.
 static void feed(struct run *run, size_t at, size_t size) {
     uint8_t *bytes = block(size);
     memcpy(bytes, log_text.bytes + at, size);
@@ -85,7 +86,7 @@ static void feed(struct run *run, size_t at, size_t size) {
     run->calls++;
 }
 
-// Takes the candump line that begins there as a frame, if it has the form that candump prints. How many bytes it has.
+// Feeds the candump line at this position as a frame, if it has the form that candump prints. Returns its length.
 static size_t feed_frame(struct run *run, size_t at) {
     char line[80] = "", printed[80], data[17] = "";
     unsigned long long seconds = 0;
@@ -107,7 +108,7 @@ static size_t feed_frame(struct run *run, size_t at) {
     return size + 1;
 }
 
-// Takes some messages, a line at a time.
+// Takes some messages, one line at a time.
 static void take_some(struct run *run) {
     for (size_t most = below(run, 4); most > 0; most--) {
         size_t before = run->printed.size;
@@ -118,7 +119,7 @@ static void take_some(struct run *run) {
     }
 }
 
-// So many bytes of a line wait.
+// Checks that this many bytes of a line are queued.
 static void is_cut(struct run *run, size_t wanted) {
     size_t size;
     int32_t status = n2k_waiting(&run->decoder, &size);
@@ -126,7 +127,7 @@ static void is_cut(struct run *run, size_t wanted) {
     run->calls++;
 }
 
-// Saves, closes and goes on from the state.
+// Saves, closes and resumes from the state.
 static void go_on(struct run *run) {
     struct text state = {block(1), 0, 1};
     take_both(run);
@@ -136,19 +137,20 @@ static void go_on(struct run *run) {
     free(state.bytes);
 }
 
-// Begins at the line that the decoder has not taken: after so many lines it is saved.
+// Begins at the line that the decoder has not taken, and chooses after how many lines it is saved.
 static void begin(struct run *run) {
     run->at = run->start, run->lines = 0, run->wanted = 1 + below(run, 40), run->most = (size_t)1 << below(run, 17);
 }
 
-// A piece or a frame, and what follows. The lines of the pieces are counted, so that a decoder goes on from a state only
-// behind a line that it has taken: the line that is cut there is fed again, and a long one would else never be passed.
+// Feeds a chunk or a frame, and takes its results. The lines of the chunks are counted, so that a decoder resumes from
+// a state only after at least one line: the line cut there is fed again, and a long line would otherwise never be
+// passed.
 static void step(struct run *run) {
     size_t at = run->at, size = at == run->start && below(run, 2) ? feed_frame(run, at) : 0;
     if (size == 0) {
         size = 1 + below(run, run->most);
         if (size > log_text.size - at) size = log_text.size - at;
-        // Every other piece ends with a line, where a frame may come.
+        // Every other chunk ends with a line, after which a frame may come.
         uint8_t *line = below(run, 2) ? memchr(log_text.bytes + at, '\n', log_text.size - at) : NULL;
         if (line != NULL) size = (size_t)(line - log_text.bytes) + 1 - at;
         feed(run, at, size);
@@ -194,7 +196,7 @@ static void finish(struct run *run) {
     free(run->printed.bytes), free(run->reported.bytes), free(state.bytes);
 }
 
-// The runs that no thread has, in a ring, and what was done so far. All of it is the mutex's.
+// The runs that no thread has, in a ring, and the totals so far. The mutex guards all of it.
 static pthread_mutex_t mutex = PTHREAD_MUTEX_INITIALIZER;
 static struct run **ring;
 static size_t ring_size, ring_first, ring_count;
@@ -212,7 +214,7 @@ static void put_new(void) {
     put(run);
 }
 
-// Takes one run after another a step further, until none waits.
+// Advances one run after another, until none is left.
 static void *work(void *nothing) {
     pthread_mutex_lock(&mutex);
     while (ring_count > 0) {

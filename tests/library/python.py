@@ -1,4 +1,4 @@
-"""Tries library/n2kdec: N2KDEC_PROGRAM is the program, N2KDEC_LIBRARY the library."""
+"""Tests library/n2kdec: N2KDEC_PROGRAM is the program, N2KDEC_LIBRARY the library."""
 import ast
 import asyncio
 import collections
@@ -37,7 +37,7 @@ RETURN = dis.opmap["RETURN_VALUE"]
 
 
 def program(*words, log=b""):
-    """What the program prints, reports and answers."""
+    """The program's output, reports and status."""
     return subprocess.run([PROGRAM, *map(str, words)], input=log, capture_output=True, check=False)
 
 
@@ -126,7 +126,7 @@ class Decoding(unittest.TestCase):
             list(n2kdec.decode("no such log", table=SAMPLE))
 
     def wanted(self, log=None):
-        """The trip's messages, or those of a log."""
+        """The messages of the trip, or of another log."""
         return [json.loads(it) for it in program("decode", "--table", TABLE, *([] if log else [TRIP]), log=log or b"").stdout.splitlines()]
 
     def test_nothing_is_lost_after_a_break(self):
@@ -144,7 +144,7 @@ class Decoding(unittest.TestCase):
                             seen.append(message)
                             if len(seen) == stops:
                                 break
-                        # Those of a stream, which goes on itself, and of the rest of what was handed in.
+                        # The messages of a stream, which itself continues, and of the remaining input.
                         if not decoder.ended:
                             seen += decoder.decode(source if hasattr(source, "read") or hasattr(source, "__next__") else b"")
                         self.assertEqual(seen, wanted[: len(seen)])
@@ -223,7 +223,7 @@ class Decoding(unittest.TestCase):
             self.assertEqual(json.loads(decoder.save())["table"], hashlib.sha256(TABLE.read_bytes()).hexdigest())
 
     def test_frames_of_python_can(self):
-        """A frame gives what the line of candump gives, by hand; other lines of candump are skipped."""
+        """A frame, made by hand, gives the same as its candump line; other lines of candump are skipped."""
         Frame = collections.namedtuple("Frame", "timestamp arbitration_id data is_extended_id is_error_frame is_remote_frame is_fd",
                                        defaults=(True, False, False, False))
         data = bytes.fromhex("01D6A93D3200FFFF")
@@ -251,7 +251,7 @@ class Decoding(unittest.TestCase):
             self.assertEqual(message["fields"], messages[0]["fields"])
 
     def test_frames_without_text(self):
-        """`frame` gives what the line of candump gives, to the millisecond."""
+        """`frame` gives the same as the candump line, to the millisecond."""
         data = bytes.fromhex("01D6A93D3200FFFF")
         times = (0, 0.9996, 1751608800.1149996, 253402300799.0, 1.0000004)
         with n2kdec.Decoder() as frames, n2kdec.Decoder() as lines:
@@ -332,7 +332,7 @@ class Decoding(unittest.TestCase):
             n2kdec.decode(b"", table="no such table")
 
     def test_decoders_go_from_thread_to_thread_in_random_pieces_and_frames_and_from_states(self):
-        """N2KDEC_RUNS is how many times a log is gone over: each step of eight decoders is another one's of four threads."""
+        """N2KDEC_RUNS is the number of passes over a log: eight decoders, each step by another one of four threads."""
         logs = [TRIP, ROOT / "examples/two-sources.log", ROOT / "examples/repeat-breaks.log", ROOT / "examples/ten-lines-eight-bad.log"]
         wanted = {log: program("decode", "--table", SAMPLE, log) for log in logs}
 
@@ -523,12 +523,12 @@ class Decoding(unittest.TestCase):
 
 
 class Interrupts(unittest.TestCase):
-    """KeyboardInterrupt before each of Python's instructions in the module, a run for each."""
+    """KeyboardInterrupt before each of Python's instructions in the module, one run for each."""
 
     LOG = (ROOT / "examples/two-sources.log").read_bytes() + b"bad\nx\n" + (ROOT / "examples/two-sources.log").read_bytes()
 
     def setUp(self):
-        # Small pieces and rooms, so that a short log has many, and a room grows.
+        # Small chunks and rooms, so that a short log has many, and a room grows.
         self.addCleanup(setattr, n2kdec, "_PIECE", n2kdec._PIECE)
         n2kdec._PIECE = 150
         wanted = program("decode", "--table", SAMPLE, log=self.LOG)
@@ -537,7 +537,7 @@ class Interrupts(unittest.TestCase):
 
     @staticmethod
     def is_interrupted(number, run):
-        """Runs it with KeyboardInterrupt before the instruction of this number; False if it has fewer."""
+        """Runs a function with KeyboardInterrupt before the instruction of this number; False if it has fewer."""
         count = 0
 
         def trace(frame, event, _):
@@ -545,7 +545,7 @@ class Interrupts(unittest.TestCase):
             if frame.f_code.co_filename != n2kdec.__file__:
                 return None
             frame.f_trace_opcodes, frame.f_trace_lines = True, False
-            # Python 3.11 and later run no handler before a function returns: what it returns has been handed on then.
+            # Python 3.11 and later run no handler before a function returns: its result has been passed on by then.
             is_return = frame.f_code.co_code[frame.f_lasti] == RETURN and frame.f_code.co_name in ("take", "messages", "reports")
             if event == "opcode" and not is_return:
                 count += 1
@@ -564,7 +564,8 @@ class Interrupts(unittest.TestCase):
         return False
 
     def at_each_instruction(self, begin, resume, step=1):
-        """Each message and report comes once, or what was on its way twice; a state has only what was handed on."""
+        """Each message and report comes once, or twice if it was being passed on; a state contains only what was passed
+        on."""
         number, repeats, saves = 0, 0, 0
         while True:
             number += step
@@ -589,7 +590,7 @@ class Interrupts(unittest.TestCase):
         self.assertGreater(saves, 50)
 
     def test_of_a_loop(self):
-        """A stream is given again; of a file that is named the decoder keeps the rest."""
+        """A stream is passed again; for a named file the decoder keeps the rest."""
         def begin_with(source):
             def begin(decoder, messages, reports):
                 decoder.source = source()
@@ -608,7 +609,7 @@ class Interrupts(unittest.TestCase):
         self.at_each_instruction(begin_with(lambda: io.BytesIO(self.LOG)), resume)
         self.at_each_instruction(begin_with(lambda: iter([self.LOG[:200], b"", self.LOG[200:]])), resume, 3)
         with tempfile.TemporaryDirectory() as folder, warnings.catch_warnings():
-            # An interrupt between the opening of a file and the next step leaves it to Python to close it.
+            # After an interrupt between opening a file and the next step, Python closes the file.
             warnings.simplefilter("ignore", ResourceWarning)
             tape = pathlib.Path(folder, "tape")
             tape.write_bytes(self.LOG)

@@ -1,14 +1,13 @@
-// Refuses each allocation of a decoder's life once, in turn: the call answers N2K_MEMORY or does its work, what was
-// printed by then is a front of the output, after a refused n2k_feed or n2k_end the decoder is closed, after a refused
-// n2k_open or n2k_save all is as it was, and nothing that was allocated is left. Linked with --wrap=malloc,
-// --wrap=realloc and --wrap=free.
+// Refuses each allocation of a decoder's life in turn: the call returns N2K_MEMORY or succeeds; the output so far is a
+// prefix of the whole; after a refused n2k_feed or n2k_end the decoder is closed; after a refused n2k_open or n2k_save
+// everything is unchanged; and no allocation is left. Linked with --wrap=malloc, --wrap=realloc and --wrap=free.
 //
 //     refused TABLE LOG OUTPUT STATE
 #include "texts.h"
 
 void *__real_malloc(size_t size), *__real_realloc(void *old, size_t size), __real_free(void *old);
 
-// How many allocations are allowed before one is refused: -1 if none is.
+// The number of allocations allowed before one is refused; -1 if none is.
 static long allowed = -1;
 static long blocks;
 static bool is_refused;
@@ -52,7 +51,7 @@ static void want_open(const struct n2k_decoder *d, bool wanted) {
     if (d->live != wanted || (d->hold.at != NULL) != wanted) fail("the decoder is open", d->live);
 }
 
-// The log in pieces, until a call is refused.
+// Feeds the log in chunks until a call is refused.
 static bool feed_all(struct n2k_decoder *d, bool resumes) {
     size_t printed = 0, size;
     for (size_t at = 0; at < tape.size; at += 40) {
@@ -66,7 +65,7 @@ static bool feed_all(struct n2k_decoder *d, bool resumes) {
     return true;
 }
 
-// One life of a decoder, from no state or from one.
+// One life of a decoder, with or without a state.
 static void live(bool resumes) {
     const struct n2k_settings settings = {.window = 10000};
     struct n2k_decoder d = {0};
@@ -79,7 +78,7 @@ static void live(bool resumes) {
         static uint8_t kept[sizeof room];
         memcpy(kept, room, sizeof room), size = 12345;
         if (is_ended && !is_done(n2k_save(&d, room, sizeof room, &size))) {
-            // All is as it was: what is asked again is done.
+            // Everything is unchanged: a second try succeeds.
             want_open(&d, true);
             if (memcmp(kept, room, sizeof room) != 0 || size != 12345) fail("a refused save wrote to the room or the size", (long)size);
             if (n2k_save(&d, room, 3, &wanted) != N2K_ROOM || n2k_save(&d, room, sizeof room, &size) != N2K_DONE || size != wanted)

@@ -1,4 +1,4 @@
-// ten_lines TABLE [LINES]: in pieces of 4 KiB, or with a second word line by line.
+// ten_lines TABLE [LINES]: feeds chunks of 4 KiB, or with a second argument line by line.
 #include <n2kdec.h>
 #include <stdio.h>
 #include <string.h>

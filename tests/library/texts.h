@@ -1,4 +1,4 @@
-// What the callers of the library share: texts that grow, files, and rooms that valgrind guards.
+// What the callers of the library share: growing texts, files, and rooms that valgrind guards.
 #include "../../library/n2kdec.h"
 #include <stdio.h>
 #include <stdlib.h>
@@ -15,7 +15,7 @@ static _Noreturn void fail(const char *what, long number) {
     exit(1);
 }
 
-// A room is a block of just its size, so that valgrind sees what is read or written beside it.
+// A room is a block of exactly its size, so that valgrind sees reads and writes outside it.
 static inline uint8_t *block(size_t size) {
     uint8_t *got = malloc(size > 0 ? size : 1);
     if (got == NULL) fail("no memory", (long)size);

@@ -1,5 +1,5 @@
-// Put behind a page that stands in frame.html: tells its width, what it takes of it, whether times below a chart overlap, and, with the
-// pointer in the middle of the first chart, what is shown there.
+// Appended to a page in frame.html: prints the page's width, how much of it the page takes, whether times below a chart
+// overlap, and, with the pointer in the middle of the first chart, the value shown there.
 addEventListener("load", function () {
   var told = [innerWidth, document.documentElement.scrollWidth <= innerWidth ? "fits" : "scrolls"]
   document.querySelectorAll(".plot .x").forEach(function (times) {

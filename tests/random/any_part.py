@@ -1,12 +1,13 @@
 #!/usr/bin/env python3
-"""Which lines before a part of a log are enough: a second reader of the rules of groups, on random logs.
+"""How many lines before a part of a log suffice: a second reader of the rules of groups, on random logs.
 
     any_part.py LOGS SEED
 
-The frames of up to six keys stand mixed, are lost, come twice, late or in another order, with windows of W = 32 to 10,000 lines. Each
-log is cut at twenty places. In order, the lines from a cut on give the messages of the whole log if the W - 1 lines before the cut were
-read. If the groups open at the cut are those of the whole log, in key, frames and distance, reports are the same too, their lines moved;
-if not, some reports differ. Two logs show that W - 2 lines are too few, and W - 1 lines without order.
+The frames of up to six keys are interleaved, lost, repeated, late or reordered, with windows of W = 32 to 10,000 lines.
+Each log is cut at twenty places. In order, the lines from a cut on give the messages of the whole log if the W - 1
+lines before the cut were read. If the groups open at the cut are those of the whole log, in key, frames and distance,
+the reports are the same too, with their line numbers moved; if not, some reports differ. Two logs show that W - 2 lines
+are too few, and W - 1 lines without order.
 """
 import random
 import sys
@@ -17,13 +18,13 @@ FIRST, SECOND = ("frame", 0, 0, bytes([13, 1, 2, 3, 4, 5, 6])), ("frame", 0, 1, 
 
 
 class Join:
-    """The open groups: of each key the first line, and the bytes of its frames by number."""
+    """The open groups: for each key the first line, and the bytes of its frames by number."""
 
     def __init__(self, window, in_order):
         self.lines, self.window, self.in_order, self.groups = 0, window, in_order, {}
 
     def line(self, entry):
-        """What a line gives: a message, whether it is bad, and the groups that are broken at it."""
+        """The result of a line: a message, whether the line is bad, and the groups that it breaks."""
         self.lines += 1
         broken = sorted((first, key) for key, (first, _) in self.groups.items() if first + self.window <= self.lines)
         for _, key in broken:
@@ -90,7 +91,7 @@ def moved(given, lines):
 
 
 def same_from(entries, window, in_order, lines):
-    """Whether the last entry gives what it gives in the whole log, with so many lines before it."""
+    """Whether the last entry has the same result as in the whole log if this many lines before it are read."""
     return messages(Join(window, in_order).run(entries))[-1] == messages(Join(window, in_order).run(entries[-lines - 1 :]))[-1]
 
 

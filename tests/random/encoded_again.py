@@ -4,11 +4,11 @@
     tests/random/encoded_again.py PROGRAM TABLE SEED COUNT
     tests/random/encoded_again.py PROGRAM tables SEED COUNT
 
-makes COUNT random messages of the definitions in TABLE, or those of COUNT random tables of formats 1 to 3 (random_messages.py),
-all of them as fast packets to all. `PROGRAM decode --whole` prints their lines, `PROGRAM encode` makes plain lines of these, and
-`decode --whole` has to print the same lines again. What `encode` refuses is counted by its code: of the shipped table nothing may be
-refused; in a random table fields may share bits, and no data show two values of one bit (B18). The last line ends with
-`N failures` (Python 3.11 or newer).
+makes COUNT random messages of the definitions in TABLE, or those of COUNT random tables of formats 1 to 3
+(random_messages.py), all as fast packets to all. `PROGRAM decode --whole` prints their lines, `PROGRAM encode` makes
+plain lines from these, and `decode --whole` has to print the same lines again. Refusals of `encode` are counted by
+code: with the shipped table there may be none; in a random table fields may share bits, and no data show two values of
+one bit (B18). The last line ends with `N failures` (Python 3.11 or newer).
 """
 import collections
 import os
@@ -52,7 +52,8 @@ def string(rng):
 
 
 def data_of(rng, definition):
-    """Random bytes, or bytes at the limits of fields, with texts, strings and the values that the definition asks for."""
+    """Random bytes, or bytes at the limits of fields, with texts, strings and the values that the definition
+    requires."""
     fields = definition["fields"]
     most = min(223, (max((f["at"] + f.get("bits", 16) for f in fields), default=0) + 7) // 8)
     count = 8 if definition["kind"] == "single" else rng.choice([most, min(223, most + rng.randrange(40)), rng.randrange(224)])

@@ -1,17 +1,18 @@
 #!/usr/bin/env python3
-"""The recipe `feed` where servers come and go, it is killed, and the power is cut.
+"""Trials of the recipe `feed`: servers come and go, feed is killed, and the power is cut.
 
     feed_trials.py influx1|influx2|sqlite|influxd|ended [COUNT [SEED]]
 
-A folder grows by a seed as n2k-logger's does: lines in pieces, days that end and are gzipped, and in some trials a cut of the
-power, which takes the last lines of the file. Meanwhile the server is stopped and started STOPS times, and feed is killed. In
-the end each point of the files, and each row, is there once, and besides only those of lines that the cut took.
+A folder grows from a seed as n2k-logger's does: lines in chunks, days that end and are gzipped, and in some trials a
+power cut, which removes the last lines of the file. Meanwhile the server is stopped and started STOPS times, and feed
+is killed. In the end each point of the files, and each row, exists once; the only others are those of lines that the
+cut removed.
 
-influx1 and influx2 are servers made up here of the two interfaces of InfluxDB, which also refuse for now, break off before
-and after they have taken points, and take no large batch. influxd is the real one, of the 1.x that is on the PATH. With ended
-no folder grows by chance: feed is told to end while the server has a request and hasn't answered, in the middle of a stamp.
-What is wanted is waited for until it comes, and whoever calls this sets the time. The last line is `N faults`, after a line for
-each. Status 77 says that the trial can't be made here, and why.
+influx1 and influx2 are stand-ins for the two interfaces of InfluxDB, which also refuse temporarily, disconnect before
+and after they have stored points, and refuse large batches. influxd is the real InfluxDB 1.x on the PATH. With `ended`
+no folder grows at random: feed is told to end while the server has a request and has not answered, in the middle of a
+timestamp. Trials wait without a limit, so the caller sets one. The last line is `N faults`, after a line for each.
+Status 77 means that the trial cannot run here; the reason is printed.
 """
 import http.server
 import json
@@ -36,7 +37,7 @@ STOPS, TOKEN = 20, "a token"
 
 
 class Server:
-    """A server of InfluxDB's interface, made up, which keeps points as lines."""
+    """A stand-in for a server with InfluxDB's interface, which keeps points as lines."""
 
     def __init__(self, chance, version):
         self.chance, self.version, self.points, self.has_database = chance, version, {}, False
@@ -82,7 +83,8 @@ class Server:
                 return self.answer(204)
 
         class Listener(http.server.ThreadingHTTPServer):
-            # Closing waits for what is being answered, so that nothing of a feed that was killed comes after what the next one sends.
+            # Closing waits for pending answers, so that nothing of a killed feed arrives after what the next feed
+            # sends.
             allow_reuse_address, daemon_threads = True, False
 
             def handle_error(self, *_):
@@ -92,7 +94,7 @@ class Server:
         threading.Thread(target=self.running.serve_forever, args=(0.05,), daemon=True).start()
 
     def taken(self, body):
-        """Takes the points, and says whether it goes on to answer."""
+        """Stores the points, and returns whether to send the answer."""
         with self.lock:
             for line in body.decode().splitlines():
                 series, fields, stamp = split(line)
@@ -113,7 +115,7 @@ class Server:
 
 
 class Influxd:
-    """InfluxDB 1.x itself."""
+    """The real InfluxDB 1.x."""
 
     def __init__(self, room):
         if not shutil.which("influxd"):
@@ -138,7 +140,7 @@ bind-address = "127.0.0.1:{free_port()}"
             self.running = subprocess.Popen(["influxd", "run", "-config", f"{self.room}/influx.conf"], stdout=said, stderr=said)
 
     def stop(self):
-        # What InfluxDB has answered for is on the disk: it may be killed.
+        # What InfluxDB has acknowledged is on the disk, so it may be killed.
         self.running.kill()
         self.running.wait()
 
@@ -158,12 +160,12 @@ bind-address = "127.0.0.1:{free_port()}"
         raise ChildProcessError("influxd has ended")
 
     def has(self):
-        """How many points there are of each measurement."""
+        """The number of points of each measurement."""
         return {it["name"]: it["values"][0][1] for it in self.ask("SELECT COUNT(dst) FROM /.*/")}
 
 
 class Base:
-    """SQLite, which others lock now and then."""
+    """SQLite, which other processes lock from time to time."""
 
     def __init__(self, room):
         self.file, self.other = f"{room}/boat.db", None
@@ -193,7 +195,7 @@ def free_port():
 
 
 def split(line):
-    """A line of the protocol as its series, its fields and its time."""
+    """Splits a line of the protocol into its series, its fields and its time."""
     inside, places = False, []
     for at, sign in enumerate(line):
         if sign == '"' and line[at - 1] != "\\":
@@ -204,7 +206,7 @@ def split(line):
 
 
 def messages(chance, count, days):
-    """Lines of JSON over some days, some of one series and one stamp."""
+    """JSON lines of several days, some with the same series and timestamp."""
     with open(f"{ROOT}/tests/logs/trip.json", encoding="utf-8") as file:
         kinds = [it[it.index('"prio"') :] for it in file]
     at = 1751608800000
@@ -243,7 +245,7 @@ class Folder:
             file.write(line[half:])
 
     def cut(self):
-        """A cut of the power takes the end of the file, and n2k-logger ends the line that is cut."""
+        """A power cut removes the end of the file, and n2k-logger ends the truncated line."""
         with open(self.name(self.day), "rb+") as file:
             text = file.read()
             left = max(0, len(text) - self.chance.randrange(6000))
@@ -254,7 +256,7 @@ class Folder:
                 file.write(b"\n")
 
     def renew(self):
-        """The newest file goes on as another one, as where it was gzipped and is unpacked."""
+        """The newest file continues as another file, as when it was gzipped and is unpacked."""
         shutil.copy(self.name(self.day), f"{self.path}/.new")
         os.rename(f"{self.path}/.new", self.name(self.day))
 
@@ -268,7 +270,7 @@ class Folder:
 
 def converted(task, text):
     ran = subprocess.run([CONVERT, task], input=text, capture_output=True, check=False)
-    # Lines that were cut are no messages, which is status 1.
+    # Truncated lines are not messages, which gives status 1.
     if ran.returncode > 1:
         raise subprocess.SubprocessError(ran.stderr.decode())
     return ran.stdout.decode()
@@ -323,7 +325,7 @@ def trial(name, room, chance):
             feed = begin()
     for line in lines[place:]:
         folder.add(line)
-    # It may wait some seconds before it asks again.
+    # It may wait some seconds before its next request.
     time.sleep(1)
     feed.terminate()
     feed.wait()
@@ -369,12 +371,12 @@ def trial(name, room, chance):
 
 
 class Ending(Server):
-    """A server that tells feed to end in the place of an answer to its second points."""
+    """A server that tells feed to end instead of answering its second request."""
 
     def __init__(self):
         super().__init__(random.Random(), 1)
         self.has_database, self.asked, self.feed = True, 0, None
-        # Neither refused nor broken off by chance.
+        # Never refuses or disconnects at random.
         self.chance.random = lambda: 1
 
     def taken(self, body):
@@ -387,7 +389,7 @@ class Ending(Server):
 
 
 def ended(_, room, __):
-    """Three messages of one series and one stamp; feed ends with the second on its way."""
+    """Three messages with the same series and timestamp; feed ends while the second is being sent."""
     server, file = Ending(), f"{room}/boat/2025-07-04.json"
     lines = [f'{{"timestamp":"2025-07-04T06:00:00.000Z","prio":3,"src":1,"dst":255,"pgn":128267,"description":"Depth","fields":{{"Depth":{it}.00}}}}\n'
              for it in range(3)]

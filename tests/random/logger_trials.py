@@ -1,14 +1,17 @@
 #!/usr/bin/env python3
-"""The script `n2k-logger` where days change, senders end, processes are killed, a disk is full, the power is cut and Ctrl-C comes.
+"""Trials of the script `n2k-logger`: days change, senders end, processes are killed, a disk fills up, the power is cut,
+Ctrl-C is pressed.
 
     logger_trials.py PROGRAM days|holes|killed|stopped|full|full_raw|short|terminal|cut [COUNT [SEED]]
 
-Each trial has a boat's log by a seed: the messages of `lossy.py`, of 2 to 32 frames, none lost, stamped over some days. What
-the logger prints is judged by what was sent. Where frames are missing, the messages that miss one are those that are not
-printed, and no message has frames of two. `days` and `holes` ask for exactly these messages, and for a raw log that gives
-them again in one run. The others ask that each line which can be read as JSON is a message that was sent, each once.
+Each trial has a boat's log from a seed: the messages of `lossy.py`, of 2 to 32 frames, none lost, with timestamps over
+several days. The logger's output is compared with what was sent. If frames are missing, only the messages that lack a
+frame are not printed, and no message has frames of two. `days` and `holes` require exactly these messages, and a raw
+log that gives them again in one run. The others require that each line which is valid JSON is a message that was sent,
+each once.
 
-The last line is `N faults`, after a line for each. Status 77 says that the trial can't be made here, and why.
+The last line is `N faults`, after a line for each. Status 77 means that the trial cannot run here; the reason is
+printed.
 """
 
 import contextlib
@@ -38,7 +41,7 @@ ROUND = sum(lossy.FRAMES)
 
 
 class Log:
-    """A log by a seed: its lines, and each message with the places of its frames."""
+    """A log from a seed: its lines, and each message with the positions of its frames."""
 
     def __init__(self, chance, days):
         messages = lossy.messages(random.Random(seed := chance.random()))
@@ -52,17 +55,17 @@ class Log:
             self.places.setdefault(frame[:2], []).append(place)
 
     def whole(self, begin, end):
-        """The messages all of whose frames stand at these places, in the order in which they are complete."""
+        """The messages whose frames all have these positions, in the order in which they are complete."""
         whole = [(its[-1], key) for key, its in self.places.items() if begin <= its[0] and its[-1] < end]
         return [(key[0], self.data[key]) for _, key in sorted(whole)]
 
     def cut(self, begin, end):
-        """How many messages have some of their frames at these places, and not all."""
+        """The number of messages of which some frames, but not all, have these positions."""
         return sum(any(begin <= it < end for it in its) for its in self.places.values()) - len(self.whole(begin, end))
 
 
 def message(line):
-    """A line of JSON as (sender, bytes), or None where it can't be read."""
+    """A JSON line as (sender, bytes), or None if it is invalid."""
     try:
         it = json.loads(line)
         return it["src"], bytes.fromhex(it["fields"]["Data"])
@@ -71,7 +74,7 @@ def message(line):
 
 
 class Boat:
-    """A folder of a logger, and what is in it."""
+    """A folder of a logger, and its contents."""
 
     logger = None
 
@@ -102,7 +105,7 @@ class Boat:
         try:
             fcntl.flock(lock, fcntl.LOCK_EX)
             found = b""
-            # What came behind a gzipped file is in one without .gz.
+            # Lines after a gzipped file are in a file without .gz.
             for it in sorted(os.listdir(folder), key=lambda it: (it[:10], not it.endswith(".gz"))):
                 if re.fullmatch(rf"{day}\.{kind}(\.gz)?", it):
                     text = open(f"{folder}/{it}", "rb").read()
@@ -115,19 +118,19 @@ class Boat:
         return self.whole(self.folder, kind, day)
 
     def printed(self):
-        """The messages of all days, without the lines that can't be read."""
+        """The messages of all days, without invalid lines."""
         return [it for it in map(message, self.text("json").splitlines()) if it]
 
     def raw(self):
         return self.whole(f"{self.folder}/raw", "log")
 
     def decoded(self, log):
-        """What one n2kdec prints of a log."""
+        """The output of one n2kdec for a log."""
         command = [self.program, "decode", "--in-order", "--table", TABLE]
         return subprocess.run(command, input=log, capture_output=True, check=False).stdout
 
     def received(self, line):
-        """Waits until the raw log of the newest day ends in this line."""
+        """Waits until the newest day's raw log ends with this line."""
         until = time.time() + 300
         while time.time() < until:
             if names := self.names(r".*\.json"):
@@ -142,7 +145,7 @@ class Boat:
 
 
 def send(path, seconds, seed):
-    """A sender: writes the file in pieces of any length within these seconds, and then, after a second, comments."""
+    """A sender: writes the file in chunks of any length within these seconds, and then, after a second, comments."""
     chance, text = random.Random(seed), open(path, "rb").read()
     pieces = 1 + len(text) // 700
     while text:
@@ -168,7 +171,7 @@ def put(room, lines):
 
 
 def days(program, room, chance):
-    """A sender that goes on over some days."""
+    """A sender that runs over several days."""
     boat, log = Boat(program, room), Log(chance, chance.randrange(2, 7))
     text = b"".join(log.lines)
     logger = boat.start(*sender(put(room, log.lines), 0.3, chance))
@@ -206,7 +209,7 @@ def ended(boat, chance, path, last):
 
 
 def holes(program, room, chance):
-    """Ten holes at random places, many of them of some eight messages of each sender."""
+    """Ten gaps at random positions, many of about eight messages of each sender."""
     boat, log = Boat(program, room), Log(chance, 3)
     wanted, place, sent = [], 0, []
     for left in range(10, -1, -1):
@@ -214,7 +217,7 @@ def holes(program, room, chance):
         end = place + (rest if left == 0 else chance.randrange(1, max(2, min(rest, 2 * rest // (left + 1)) - 9 * ROUND)))
         lines = log.lines[place:end]
         status, said = ended(boat, chance, put(room, lines), lines[-1])
-        # Each day's summary has what broke off on it, the last one also what is open.
+        # Each day's summary counts the groups broken on that day; the last one also the open groups.
         given_up = sum(map(int, re.findall(r"broken (\d+)", said) + re.findall(r"open (\d+)", said)[-1:]))
         if status or given_up != log.cut(place, end):
             yield f"status {status}, {log.cut(place, end)} messages cut, said: {said}"
@@ -234,7 +237,7 @@ holes.mixed = 0
 
 
 def tree(pid):
-    """A process and those that it has started, the senders too."""
+    """A process and all its descendants, including the senders."""
     found, parents = [pid], {}
     for it in filter(str.isdigit, os.listdir("/proc")):
         try:
@@ -247,7 +250,7 @@ def tree(pid):
 
 
 def named(pids, name):
-    """Those of the processes that run this program; the names of the system have at most 15 bytes."""
+    """Those of the processes that run this program; the system cuts names to 15 bytes."""
 
     def of(pid):
         try:
@@ -259,7 +262,8 @@ def named(pids, name):
 
 
 def kill(pids):
-    """Kills all of them at one moment: each is stopped before the first is killed, so none sees the end of another."""
+    """Kills all of them at one moment: each is stopped before the first is killed, so none notices the end of
+    another."""
     for it in (signal.SIGSTOP, signal.SIGKILL):
         for pid in pids:
             try:
@@ -269,7 +273,7 @@ def kill(pids):
 
 
 def tear(boat, chance):
-    """What a cut of the power may do to the last of what was written."""
+    """What a power cut may do to the last written bytes."""
     for folder in (boat.folder, f"{boat.folder}/raw"):
         for name in [it for it in sorted(os.listdir(folder)) if it.endswith((".json", ".reports", ".log"))]:
             path = f"{folder}/{name}"
@@ -278,7 +282,8 @@ def tear(boat, chance):
 
 
 def killed(program, room, chance):
-    """Ten runs on one folder; in each the script and its n2kdec are killed at a random moment, or n2kdec, or all, or the sender."""
+    """Ten runs on one folder; in each run the script and its n2kdec are killed at a random moment, or only n2kdec, or
+    some processes, or the sender."""
     boat, log = Boat(program, room), Log(chance, 3)
     boat.environment["BOAT"] = boat.folder
     each, torn = len(log.lines) // 11, False
@@ -298,11 +303,12 @@ def killed(program, room, chance):
         if way == "all" and chance.randrange(2):
             tear(boat, chance)
             torn = True
-        # A script that lives ends where n2kdec or the sender was killed. What is left of a script that was killed ends at
-        # the sender's next line where n2kdec was killed too, and else with the sender, which may have begun after the kill.
+        # A live script ends after n2kdec or the sender was killed. If the script and n2kdec were killed, the remaining
+        # processes end at the sender's next line; otherwise they end with the sender, which may have begun after the
+        # kill.
         last = log.whole(run * each, (run + 1) * each)
         if not victims:
-            # The last run, until all is printed.
+            # The last run continues until all is printed.
             until = time.monotonic() + (1 if run < 10 else 60)
             while boat.printed()[-len(last) :] != last and time.monotonic() < until:
                 time.sleep(0.1)
@@ -318,7 +324,7 @@ def killed(program, room, chance):
 
 
 def judged(boat, log, torn):
-    """Each message printed was sent, none twice, the raw log gives it too, and the raw log gives no other."""
+    """Each printed message was sent, none is repeated, the raw log gives it too, and the raw log gives no other."""
     sent = {(key[0], data) for key, data in log.data.items()}
     printed, again = boat.printed(), [*map(message, boat.decoded(boat.raw()).splitlines())]
     if wrong := [it for it in printed if it not in sent]:
@@ -334,7 +340,7 @@ def judged(boat, log, torn):
 
 
 def left(boat):
-    """The processes that work for this boat: its folder stands in what they inherit."""
+    """The processes that work for this boat: their environment contains its folder."""
     mark, found = f"BOAT={boat.folder}".encode(), []
     for it in filter(str.isdigit, os.listdir("/proc")):
         try:
@@ -346,7 +352,7 @@ def left(boat):
 
 
 def stopped(program, room, chance):
-    """SIGTERM while the logger starts: the sender, which has processes of its own, ends, and all else."""
+    """SIGTERM while the logger starts: the sender, which has child processes, ends, as does everything else."""
     boat, log = Boat(program, room), Log(chance, 3)
     boat.environment["BOAT"] = boat.folder
     logger = boat.start("sh", "-c", 'cat "$0"; sleep 100; cat "$0"', put(room, log.lines[:ROUND]), start_new_session=True)
@@ -360,7 +366,7 @@ def stopped(program, room, chance):
         yield f"{len(pids)} processes are left; {said}"
         kill(pids)
         logger.communicate()
-    # bash begins with the default for each signal. Until its trap stands nothing has begun.
+    # bash begins with the default action for each signal. Before its trap is set nothing has begun.
     begun = bool(os.listdir(boat.folder))
     if logger.returncode != 0 and (logger.returncode != -signal.SIGTERM or begun):
         yield f"status {logger.returncode}, said: {said}"
@@ -369,12 +375,12 @@ def stopped(program, room, chance):
 
 
 def full_raw(program, room, chance):
-    """A folder of 300 kB that fills up with a raw log too."""
+    """A folder of 300 kB that fills up, with a raw log."""
     return full(program, room, chance, ["--raw"])
 
 
 def full(program, room, chance, words=()):
-    """A folder of 300 kB that fills up, and has room again."""
+    """A folder of 300 kB that fills up, and then has room again."""
     disk = f"{room}/disk"
     os.mkdir(disk)
     if subprocess.run(["mount", "-t", "tmpfs", "-o", "size=300k", "none", disk], check=False, capture_output=True).returncode:
@@ -408,7 +414,7 @@ def full(program, room, chance, words=()):
         text = "".join(before) + after
         if logger.returncode not in (0, 1) or text.count("disk full: ") != 1 or text.count("can be written again") != 1:
             yield f"status {logger.returncode}, said: {text}"
-        # What is sent after the pause begins the log again.
+        # Lines sent after the pause repeat the log from its beginning.
         sent = {(key[0], data) for key, data in log.data.items()}
         lines = boat.text("json").splitlines()
         if {it for it in map(message, lines) if it} - sent or sum(message(it) is None for it in lines) > 1:
@@ -420,7 +426,7 @@ def full(program, room, chance, words=()):
 
 
 def short(program, room, chance):
-    """A folder that has less room than the log: by --free the oldest days go, and nothing else is lost."""
+    """A folder with less room than the log: with --free the oldest days are removed, and nothing else is lost."""
     disk = f"{room}/disk"
     os.mkdir(disk)
     if subprocess.run(["mount", "-t", "tmpfs", "-o", "size=1200k", "none", disk], check=False, capture_output=True).returncode:
@@ -443,12 +449,12 @@ def short(program, room, chance):
         subprocess.run(["umount", "-l", disk], check=True)
 
 
-SHUTDOWN, NO_LOG_FLUSH = 0x8004587D, struct.pack("I", 2)  # EXT4_IOC_SHUTDOWN: nothing more goes to the disk, the journal neither
+SHUTDOWN, NO_LOG_FLUSH = 0x8004587D, struct.pack("I", 2)  # EXT4_IOC_SHUTDOWN: nothing more reaches the disk, including the journal
 
 
 def timed(path, told, seconds):
-    """A sender: writes the lines of the file one by one within these seconds, and tells each before. Where it is started again, it goes on
-    where it was; it waits as long as it is held."""
+    """A sender: writes the lines of the file one by one within these seconds, and announces each first. After a restart
+    it continues with the next line; it pauses while it is held."""
     with open(path, "rb") as file, open(told, "a+b") as its:
         lines = file.readlines()
         its.seek(0)
@@ -459,7 +465,7 @@ def timed(path, told, seconds):
             while os.path.exists(f"{told}.held"):
                 begin += 0.01
                 time.sleep(0.01)
-            # A line that is lost on its way was sent.
+            # A line that is lost on its way counts as sent.
             its.write(b"%f\n" % time.monotonic())
             its.flush()
             os.write(1, lines[place])
@@ -467,7 +473,7 @@ def timed(path, told, seconds):
 
 @contextlib.contextmanager
 def held(told, missing):
-    """Holds a sender that has begun, once nothing is missing of what it has sent. Gives how many lines that are."""
+    """Holds a sender after it has begun, once no sent line is missing. Gives the number of these lines."""
     path, until = f"{told}.held", time.monotonic() + 60
     while not os.path.getsize(told) and time.monotonic() < until:
         time.sleep(0.05)
@@ -481,7 +487,7 @@ def held(told, missing):
 
 
 class Disk:
-    """A file system of its own, in a file, whose power can be cut."""
+    """A file system in a file, whose power can be cut."""
 
     def __init__(self, room, megabytes=48):
         self.room, self.image, self.folder = room, f"{room}/image", f"{room}/disk"
@@ -511,7 +517,7 @@ class Disk:
         os.close(at)
 
     def note_syncs(self, environment):
-        """Has a logger's syncs noted, each when it has ended: when it began, and of which files."""
+        """Records a logger's syncs, each when it has ended: when it began, and which files it synced."""
         os.mkdir(f"{self.room}/bin")
         with open(f"{self.room}/bin/sync", "w", encoding="utf-8") as file:
             file.write(f'#!/bin/sh\nbegan=$(date +%s.%N)\n{shutil.which("sync")} "$@" && echo "$began $*" >>"{self.room}/syncs"\n')
@@ -519,7 +525,8 @@ class Disk:
         environment["PATH"] = f"{self.room}/bin:{environment['PATH']}"
 
     def synced(self, files, logger):
-        """Waits until a sync of files that begins from now on has ended, or the logger has, for half a minute; gives the seconds."""
+        """Waits until a sync of files that begins from now on has ended, or the logger has, at most half a minute;
+        returns the seconds."""
         begin, stamp = time.monotonic(), time.time()
         with open(f"{self.room}/syncs", "a+", encoding="utf-8") as its:
             while logger.poll() is None and time.monotonic() < begin + 30:
@@ -532,9 +539,9 @@ class Disk:
         subprocess.run(["umount", "-l", self.folder], check=False, capture_output=True)
 
     def again(self):
-        """The power is there again: the journal is played back."""
+        """Restores the power: the journal is replayed."""
         for _ in range(300):
-            # Where somebody still has the old one, it is mounted again as it was, and can't be written.
+            # If a process still uses the old mount, the new one is as before but read-only.
             if not subprocess.run(["umount", self.folder], check=False, capture_output=True).returncode:
                 self.mount()
                 try:
@@ -547,7 +554,7 @@ class Disk:
 
 
 def cut(program, room, chance):
-    """The power is cut at a random moment; afterwards the logger goes on."""
+    """Cuts the power at a random moment, and restarts the logger."""
     disk, log = Disk(room), Log(chance, chance.choice([1, 3, 30]))
     half = len(log.lines) // 2
     try:
@@ -590,7 +597,7 @@ def cut(program, room, chance):
 
 
 def terminal(program, room, chance):
-    """Ctrl-C in a terminal, to the script and all that it has started."""
+    """Presses Ctrl-C in a terminal, for the script and all its processes."""
     boat, log = Boat(program, room), Log(chance, 3)
     path = put(room, log.lines)
     pid, screen = pty.fork()
@@ -604,14 +611,14 @@ def terminal(program, room, chance):
         while select.select([screen], [], [], 30)[0] and (it := os.read(screen, 4096)):
             said += it
     except OSError:
-        # A terminal that nobody has open any more.
+        # The terminal is closed.
         pass
     else:
         kill(tree(pid))
         yield "it does not end"
     status = os.waitstatus_to_exitcode(os.waitpid(pid, 0)[1])
     days = re.findall(rb"lines (\d+) messages (\d+) bad (\d+) unknown (\d+) broken (\d+) open (\d+)", said)
-    # The summaries of the days are together n2kdec's, but for what is open.
+    # Added up, the days' summaries are n2kdec's, except for the open groups.
     sums = [sum(int(it[place]) for it in days) for place in range(5)] + [int(it[5]) for it in days[-1:]]
     wanted = re.findall(rb"\d+", boat.text("reports").splitlines()[-1]) if days else []
     if status not in (0, 1) or sums != list(map(int, wanted)):
@@ -624,10 +631,11 @@ def terminal(program, room, chance):
 def main():
     if sys.argv[1] in ("send", "timed"):
         return globals()[sys.argv[1]](*sys.argv[2:])
-    # Who runs in the background of a script finds these two ignored, and would hand that on: no Ctrl-C would end a logger.
+    # A background process of a script ignores these two signals, and its children would too: no Ctrl-C would end a
+    # logger.
     for it in (signal.SIGINT, signal.SIGQUIT):
         signal.signal(it, signal.SIG_DFL)
-    # At the end of its time a trial lets nothing go on.
+    # A trial whose time is up ends all its processes.
     signal.signal(signal.SIGTERM, lambda *_: sys.exit("it was ended"))
     program, trial = os.path.realpath(sys.argv[1]), globals()[sys.argv[2]]
     count, seed = int([*sys.argv, 1, 1][3]), int([*sys.argv, 1, 1, 1][4])

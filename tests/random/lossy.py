@@ -1,14 +1,14 @@
 #!/usr/bin/env python3
-"""Messages lost and mixed where frames are lost: a log of a thousand fast packets is made from a seed, one frame in twenty
-is taken out of it and one in fifty is there twice, and a program's output is judged by what was sent.
+"""Messages lost and mixed by lost frames: makes a log of a thousand fast packets from a seed, removes one frame in
+twenty, repeats one in fifty, and compares a program's output with what was sent.
 
     lossy.py PROGRAM SEED [--print]
 
-Five senders send two hundred messages each, of 2, 5, 9, 17 and 32 frames, each in order, and their frames stand mixed. What
-PROGRAM prints and reports is compared with what a second reader of the rules, below, makes of the same log: without the words
-that say what ends a group, with `--in-order`, and with that and a window in which no eight messages of a sender fit. With both
-no line may be a message that was not sent, and each message has to be there whose frames all came, once each. The log itself
-is printed with `--print`.
+Five senders send two hundred messages each, of 2, 5, 9, 17 and 32 frames, each in order, and their frames are
+interleaved. PROGRAM's output and reports are compared with those of a second reader of the rules, below: without
+options, with `--in-order`, and with `--in-order` and a window shorter than eight messages of a sender. With both
+options no line may be a message that was not sent, and each message whose frames all arrived has to be printed once.
+`--print` prints the log itself.
 """
 
 import json
@@ -25,7 +25,8 @@ ROUNDS = 200
 
 
 def messages(chance):
-    """Of each round one message a sender, as (sender, number, bytes): its first byte keeps the table's definition away."""
+    """One message a sender in each round, as (sender, number, bytes): its first byte does not match the table's
+    definition."""
     for number in range(ROUNDS):
         for sender, frames in enumerate(FRAMES):
             total = chance.randrange(7 * frames - 7, min(7 * frames, 224))
@@ -33,7 +34,7 @@ def messages(chance):
 
 
 def frames_of(data):
-    """The eight bytes of each frame of a message, with the sequence left out."""
+    """The eight bytes of each frame of a message, without the sequence."""
     whole = bytes([len(data)]) + data
     for number in range(1 + len(data) // 7):
         yield number, whole[7 * number : 7 * number + 7].ljust(7, b"\xff")
@@ -52,7 +53,7 @@ def transmissions(chance):
 
 
 def lossy(chance):
-    """The frames of the log: some are lost, and some come twice."""
+    """The frames of the log: some are lost, and some repeated."""
     for frame in transmissions(chance):
         what = chance.randrange(100)
         if what >= 5:
@@ -67,7 +68,8 @@ def line_of(place, frame):
 
 
 def read(log, window, in_order):
-    """What the rules say of the log: messages as (sender, bytes), and reports. A group is a list of its numbers and bytes."""
+    """What the rules give for the log: messages as (sender, bytes), and reports. A group is a list of its numbers and
+    bytes."""
     given, reports, groups = [], [], {}
     for line, (sender, number, its, data) in enumerate(log, 1):
         for key, group in [*groups.items()]:
@@ -93,7 +95,7 @@ def broken(line, key, group):
 
 
 def printed(program, log, words):
-    """What the program prints of the log: messages as (sender, bytes), and reports without the summary."""
+    """The program's output for the log: messages as (sender, bytes), and reports without the summary."""
     with tempfile.NamedTemporaryFile("w", suffix=".log") as file:
         file.writelines(line_of(*it) for it in enumerate(log, 1))
         file.flush()
@@ -104,7 +106,8 @@ def printed(program, log, words):
 
 
 def apart(sent_log, log):
-    """The most lines that a message takes, and the fewest from one message's last frame to the first of the eighth after it."""
+    """The maximum number of lines of a message, and the minimum from one message's last frame to the first frame of the
+    eighth message after it."""
     lines = {}
     for line, (sender, number, _, _) in enumerate(log, 1):
         lines.setdefault((sender, number), []).append(line)

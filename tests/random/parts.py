@@ -1,12 +1,13 @@
 #!/usr/bin/env python3
-"""Parts of a log against the whole one, on random logs: fast packets of six senders stand mixed, frames are lost, come twice or late.
+"""Compares parts of a log with the whole, on random logs: fast packets of six senders are interleaved, frames are lost,
+repeated or late.
 
     parts.py PROGRAM SEED..
 
-For each seed and each of three windows the recipe `part` prints the messages between random times, which have to be those of the
-whole log, and decodes the log in two to seven parts side by side: output, reports, summary and status have to be those of one
-process. Around each cut between parts half of the frames are lost. It says how many parts were decoded again, since the state
-that was assumed was another; among all seeds some are, and most are not.
+For each seed and each of three windows the recipe `part` prints the messages between random times, which have to be
+those of the whole log, and decodes the log in two to seven parts in parallel: output, reports, summary and status have
+to be those of one process. Around each cut between parts half of the frames are lost. The script prints how many parts
+were decoded again because the assumed state was wrong; over all seeds some are, and most are not.
 """
 import os
 import random
@@ -22,7 +23,7 @@ LINES = 4000
 
 
 def log(chance, jobs):
-    """Lines of a log, whose timestamps rise."""
+    """Lines of a log with rising timestamps."""
     under, sequences, lines, at, loss = [], {}, [], 1_751_600_000_000, chance.choice([0, 0.01, 0.1])
     while len(lines) < LINES:
         at += chance.choice([0, 0, 1, 2, 5, 300])

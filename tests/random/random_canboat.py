@@ -3,10 +3,10 @@
 
     tests/random/random_canboat.py PROGRAM FIRST LAST
 
-One file for each seed from FIRST to LAST. Each table has to read without a fault, by table_rules.py and by PROGRAM,
-and its text has to read back as the table that it was made of. Of each file two damaged copies are converted too: each gives a
-table without a fault, and an error in words only where the file's own members are not there. The last line is
-`N tables, M of damaged files, K faults` (Python 3.9 or newer).
+One file for each seed from FIRST to LAST. Each table has to be without a fault for table_rules.py and for PROGRAM, and
+its text has to read back as the table that it was made from. Two damaged copies of each file are converted too: each
+gives a table without a fault, and an error message only if the file's own members are missing. The last line is `N
+tables, M of damaged files, K faults` (Python 3.9 or newer).
 """
 import copy
 import json
@@ -49,7 +49,7 @@ def match(rng, bits):
 
 
 def field(rng, at, lookups):
-    """A field and the place of the next one, or None behind a field of variable length."""
+    """A field and the place of the next one, or None after a field of variable length."""
     kind = rng.choice(KINDS)
     bits = size(rng, kind)
     made = {"Name": text(rng), "FieldType": kind, "Signed": rng.random() < 0.3}
@@ -113,7 +113,7 @@ def lookup(rng, name):
 
 
 def database(rng):
-    """What a file of canboat's form holds."""
+    """The contents of a file of canboat's form."""
     names = sorted({text(rng) for _ in range(rng.randint(1, 12))})
     lookups = [lookup(rng, name) for name in names]
     return {"Version": "5.0.0", "License": text(rng), "LookupEnumerations": lookups, "LookupBitEnumerations": lookups[1:],
@@ -121,7 +121,7 @@ def database(rng):
 
 
 def damage(rng, value):
-    """Another kind of value, or nothing, at one place of the file."""
+    """Another kind of value, or nothing, at one position of the file."""
     value = copy.deepcopy(value)
     holder, key = None, None
     at = value
@@ -141,7 +141,7 @@ class Judge:
         self.faults = 0
 
     def program_says(self):
-        """What is wrong with the table by the program, or nothing."""
+        """The fault that the program reports for the table, or None."""
         words = [self.program, "decode", "--table", self.path, "/dev/null"]
         done = subprocess.run(words, capture_output=True, text=True)
         if done.returncode == 0 and done.stderr == "lines 0 messages 0 bad 0 unknown 0 broken 0 open 0\n":
@@ -149,7 +149,7 @@ class Judge:
         return f"status {done.returncode}: {done.stderr}"
 
     def table(self, name, made):
-        """Tells each fault of a table, and answers what it has."""
+        """Prints each fault of a table, and returns its contents."""
         read, _, faults = table_rules.judged(made.encode())
         with open(self.path, "w", encoding="utf-8", newline="") as file:
             file.write(made)
@@ -169,7 +169,7 @@ def convert(text):
 
 
 def is_same(table, read):
-    """Whether the text was read back as the table that it was made of."""
+    """Whether the text was read back as the table that it was made from."""
     lookups = {lookup["name"]: dict(lookup["entries"]) for lookup in read.get("lookup", [])}
     return lookups == table.lookups and [message.definition for message in table.messages()] == read.get("pgn", [])
 

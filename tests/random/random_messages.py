@@ -3,15 +3,15 @@
 
     tests/random/random_messages.py PROGRAM SEED COUNT [FORMATS [fixed-sets]]
 
-Each of the COUNT tables has lookups with holes, fields of each kind at any place, chains of strings with fields behind
-them, matches, several definitions of a PGN, and sets that repeat, with strings of their own or without. Its messages
-are of 0 to 223 bytes, cut anywhere, most with values at a limit. What PROGRAM prints of them by `decode --whole`, in
-part with `--empty`, has to be what this script makes of them by itself, byte for byte. As many more tables have one
-fault each: the program has to refuse them by its class. As many again have a field and sets with several faults or
-none: the first fault is answered. FORMATS is one of the formats or several, as `12`; one that stands there twice comes
-twice as often. With `fixed-sets` each set is as long as the next, and a string in one, or sets behind a string, are a
-fault, as in a program that knows none. The rules were written from the format's pages alone, apart from the program and
-from tools/table_rules.py. Each failure is shown; the last line ends with `N failures` (Python 3.9 or newer).
+Each of the COUNT tables has lookups with gaps, fields of each kind at any place, chains of strings with fields after
+them, matches, several definitions of a PGN, and sets that repeat, with or without strings of their own. Its messages
+have 0 to 223 bytes, cut anywhere, most with values at a limit. The output of PROGRAM by `decode --whole`, sometimes
+with `--empty`, has to equal this script's own result byte for byte. As many more tables have one fault each: the
+program has to report its class. As many again have a field and sets with several faults or none: the first fault has to
+be reported. FORMATS is one or more formats, such as `12`; a repeated one comes more often. With `fixed-sets` all sets
+have one length, and a string in a set, or sets after a string, are a fault, as in a program that does not know them.
+The rules were written from the format's pages alone, independent of the program and of tools/table_rules.py. Each
+failure is shown; the last line ends with `N failures` (Python 3.9 or newer).
 """
 import collections
 import json
@@ -30,12 +30,12 @@ STRINGS = ["string"] * 7  # of format 3, in a definition's own fields
 IN_SETS = ["string"] * 6  # of format 3, in the fields of a set
 LAST = ROOM - 8  # the greatest first bit of a string
 FORMS = ("lau", "lz")
-BITS = {"number": 64, "lookup": 32, "flags": 64}  # the most; the other kinds have whole bytes, and a string has no bits
+BITS = {"number": 64, "lookup": 32, "flags": 64}  # maximum bits; the other kinds have whole bytes, and a string has no bits
 NEEDED = {"number": [], "lookup": ["lookup"], "text": [], "bytes": [], "flags": ["lookup"], "digits": [], "string": ["form"]}
 SHORT = ("text", "bytes", "string")
 
 
-# ---- What the program has to print ----
+# ---- The output that the program has to give ----
 
 def quoted(text):
     return json.dumps(text, ensure_ascii=False)
@@ -49,7 +49,7 @@ def decimal_text(value, decimals):
 
 
 def of_bytes(kind, data):
-    """A field of bytes, or None where it is absent."""
+    """A field of bytes, or None if it is absent."""
     if kind == "bytes":
         return quoted(data.hex(" ").upper())
     data = data.rstrip(b"\xff" if kind == "digits" else b"\0\xff@ ")
@@ -82,7 +82,7 @@ def of_flags(bits, names, raw):
 
 
 def utf_16(data):
-    """The characters of units, low byte first."""
+    """The characters of 16-bit units, low byte first."""
     units = [data[at] | data[at + 1] << 8 for at in range(0, len(data) - 1, 2)]
     while units and units[-1] in (0, 0xffff, 0x40, 0x20):
         units.pop()
@@ -97,7 +97,7 @@ def utf_16(data):
 
 
 def utf_8(data):
-    """The characters of bytes that are UTF-8, else each byte as the character of its number."""
+    """The characters of bytes that are valid UTF-8, else each byte as the character of its number."""
     data = data.rstrip(b"\0\xff@ ")
     try:
         return data.decode("utf-8")
@@ -106,7 +106,8 @@ def utf_8(data):
 
 
 def of_string(field, data):
-    """A string at the front of `data`: its characters, or None where it is absent, and its bytes, or None without an end."""
+    """A string at the beginning of `data`: its characters, or None if it is absent, and its bytes, or None without an
+    end."""
     if not data:
         return None, None
     is_lau = field["form"] == "lau"
@@ -125,7 +126,7 @@ def raw_value(field, data):
 
 
 def shown(field, data, lookups):
-    """A field's VALUE, or None where it is absent; its place counts from the front of `data`."""
+    """A field's VALUE, or None if it is absent; its place counts from the beginning of `data`."""
     kind, at, bits = field["kind"], field["at"], field.get("bits")
     if kind == "string":
         characters, _ = of_string(field, data[at // 8:])
@@ -141,7 +142,7 @@ def shown(field, data, lookups):
 
 
 def ends(fields, data):
-    """The byte behind each string by its name, and 0 by None: where the places of fields begin."""
+    """The byte after each string by its name, and 0 for None: the origins of the fields' places."""
     found = {None: 0}
     for field in fields:
         if field["kind"] == "string":
@@ -162,7 +163,7 @@ def members(fields, data, lookups, empty):
 
 
 def set_length(repeat, data):
-    """The bytes that a set at the front of `data` takes, or None where it is not there."""
+    """The bytes of a set at the beginning of `data`, or None if there is none."""
     found, length = ends(repeat["fields"], data), repeat["bits"] // 8
     for field in repeat["fields"]:
         if field["kind"] == "string":
@@ -174,7 +175,7 @@ def set_length(repeat, data):
 
 
 def first_set(definition, data):
-    """The byte where the first set begins, or None where the string before the sets has no end."""
+    """The byte at which the first set begins, or None if the string before the sets has no end."""
     begin = ends(definition["fields"], data)[definition["repeat"].get("after")]
     return None if begin is None else begin + definition["repeat"]["at"] // 8
 
@@ -194,7 +195,7 @@ def fits(definition, data):
 
 
 def wanted_line(tree, lookups, message, empty):
-    """The JSON line of a message, or nothing."""
+    """The JSON line of a message, or None."""
     prio, pgn, src, dst, data = message
     definitions = [definition for definition in tree.get("pgn", []) if definition["number"] == pgn]
     if not definitions:
@@ -216,7 +217,7 @@ def wanted_line(tree, lookups, message, empty):
 # ---- Tables ----
 
 class Spelled(str):
-    """A value as it is spelled in TOML."""
+    """A value as written in TOML."""
 
 
 def toml(value):
@@ -243,7 +244,7 @@ def below_header(key, table):
 
 
 def table_text(tree):
-    """A table; its lookups and definitions have headers where they are some."""
+    """A table; its lookups and definitions may have headers."""
     below = [key for key in tree if key in ("lookup", "pgn") and isinstance(tree[key], list) and tree[key]
              and all(isinstance(part, dict) for part in tree[key])]
     lines = pairs({key: value for key, value in tree.items() if key not in below})
@@ -304,7 +305,7 @@ def offset(rng):
 
 
 def place(rng, kind, room, behind):
-    """The first bit and the bits of a field in so much room; often it stands behind another one."""
+    """The first bit and the bits of a field within this room; often it directly follows another field."""
     unit = 1 if kind in BITS else 8
     most = min(BITS.get(kind, ROOM), room) // unit
     usual = [1, 2, 3, 4, 6, 7, 8, 9, 12, 16, 24, 31, 32, 33, 48, 62, 63, 64] if unit == 1 else [1, 1, 2, 3, 4, 8, 16]
@@ -319,7 +320,7 @@ def place(rng, kind, room, behind):
 
 
 def fixed(fields, name):
-    """The fixed place of a string of the list; 0 for None."""
+    """The fixed place of a string in the list; 0 for None."""
     if name is None:
         return 0
     string = next(field for field in fields if field["name"] == name and field["kind"] == "string")
@@ -331,7 +332,7 @@ def match(rng, bits):
 
 
 def strings_of(format, in_set):
-    """The kind `string`, as often as it is chosen; nothing where there is none."""
+    """The kind `string`, as often as it is to be chosen; empty if the format has none."""
     return [] if format < 3 else IN_SETS if in_set else STRINGS
 
 
@@ -376,10 +377,11 @@ def new_field(rng, format, lookups, room, behind, in_set, after=None):
 
 
 def new_fields(rng, format, lookups, room, in_set, barred=(), first=(), others=()):
-    """The fields of a definition or of a set; `first` are some that it has, and `others` names that it may have too."""
+    """The fields of a definition or of a set; `first` are fields that it contains, and `others` names that it may also
+    contain."""
     fields, used = [dict(field) for field in first], {field["name"] for field in first}
     count = rng.choice([0, 1, 2, 3, 4, *([2, 3] if in_set else [6, 9])]) if rng.random() < 0.995 else 256 - len(fields)
-    behind = {None: 0}  # of the end of each string
+    behind = {None: 0}  # the last used bit after each string
     for _ in range(count):
         names = [*behind]
         after = names[-1] if rng.random() < 0.6 else rng.choice(names) if rng.random() < 0.7 else None
@@ -399,7 +401,7 @@ def new_fields(rng, format, lookups, room, in_set, barred=(), first=(), others=(
 
 
 def new_repeat(rng, format, lookups, fields):
-    """Sets of a definition; often they begin where its own fields end."""
+    """Sets of a definition; often they begin at the end of its own fields."""
     strings = [field["name"] for field in fields if field["kind"] == "string"] if strings_of(format, True) else []
     after = rng.choice([strings[-1], rng.choice(strings)]) if strings and rng.random() < 0.75 else None
     room = ROOM - fixed(fields, after)
@@ -423,12 +425,12 @@ def new_repeat(rng, format, lookups, fields):
 
 
 def has_string(holder):
-    """Whether a definition's own fields, or those of a `repeat`, have a string."""
+    """Whether a definition's own fields, or those of a `repeat`, include a string."""
     return any(field["kind"] == "string" for field in holder["fields"])
 
 
 def varies(definition):
-    """Whether a string decides where a field or a set of a definition stands."""
+    """Whether the place of a field or a set of a definition depends on a string."""
     return has_string(definition) or "repeat" in definition and has_string(definition["repeat"])
 
 
@@ -442,7 +444,7 @@ def new_definition(rng, format, lookups, number, kind, first):
 
 
 def again(rng, definition):
-    """The match fields of a definition with other values, for another one of its PGN."""
+    """The match fields of a definition with other values, for a second definition of its PGN."""
     fields = [dict(field) for field in definition["fields"] if "match" in field and field["name"] != "list"]
     for field in fields:
         field["match"] = match(rng, field["bits"])
@@ -475,7 +477,7 @@ def new_table(rng, format):
 # ---- Messages ----
 
 def length_of(rng, definition):
-    """How many bytes a message has: often up to a bit inside of a field, or some sets and a part of one."""
+    """The length of a message: often it ends inside a field, or after some sets and a part of one."""
     fields, repeat = definition["fields"], definition.get("repeat")
     way = rng.random()
     if repeat and way < 0.4:
@@ -522,7 +524,7 @@ def value(rng, field, lookups):
     return rng.choice(choices) & all_ones
 
 
-# Pieces of characters: bytes, and units of 16 bits.
+# Parts of characters: bytes, and units of 16 bits.
 PIECES = [b"A", b"Hi", b"buoy 9", b" ", b"@", b"\0", b"\xff", b'"', b"\\", b"/", b"\n", b"\t", b"\x1b", b"\x1f", b"\x7f",
           *map(str.encode, "äß\x80\x9f\u07ff\u0800\u2028\ud7ff\ue000\ufffd\ufffe\uffff\U00010000\U0001f600\U0010ffff")]
 BROKEN = [b"\x80", b"\x85", b"\x9f", b"\xa0", b"\xc4", b"\xe9", b"\xfe", b"\xc0\x80", b"\xc1\xbf", b"\xe0\x80\x80", b"\xe0\x9f\xbf",
@@ -534,7 +536,7 @@ FILLS = [0, 0xffff, 0x40, 0x20]
 
 
 def characters(rng, encoding):
-    """The bytes of a string's characters, often with filling behind them."""
+    """The bytes of a string's characters, often with padding after them."""
     if encoding == 0:
         units = [rng.choice(UNITS) if rng.random() < 0.7 else rng.randrange(2**16) for _ in range(rng.choice([0, 1, 1, 2, 3, 6]))]
         if rng.random() < 0.3:
@@ -555,7 +557,7 @@ def characters(rng, encoding):
 
 
 def string(rng, form, strange):
-    """The bytes of a string, proper or not; of so much of all the length is another one."""
+    """The bytes of a string, valid or not; with the probability `strange` its length is changed."""
     encoding = rng.choice([0, 0, 0, 0, 1, 1, 1, 1, 1, 1, 2, 255, rng.randint(2, 255)])
     some = characters(rng, encoding if form == "lau" else 1)
     if rng.random() < 0.04:
@@ -574,7 +576,7 @@ def put(whole, at, bits, raw):
 
 
 def put_strings(rng, fields, front, whole, strange):
-    """Puts the strings of a list that begins at byte `front` into a message; the bytes that they take."""
+    """Writes the strings of a list that begins at byte `front` into a message; returns their length."""
     found, taken = {None: front}, set()
     for field in fields:
         begin = found.get(field.get("after"))
@@ -592,7 +594,8 @@ def put_strings(rng, fields, front, whole, strange):
 
 
 def put_fields(rng, fields, front, whole, lookups, some, strange):
-    """Puts the fields of a list that begins at byte `front` into a message; the bytes where it may be cut."""
+    """Writes the fields of a list that begins at byte `front` into a message; returns the bytes at which it may be
+    cut."""
     taken = put_strings(rng, fields, front, whole, strange)
     begins, cuts = ends(fields, bytes(whole[front:])), []
     for field in fields:
@@ -614,7 +617,7 @@ def put_fields(rng, fields, front, whole, lookups, some, strange):
 
 
 def put_sets(rng, definition, whole, lookups, some):
-    """Puts sets into a message; the bytes where it may be cut."""
+    """Writes sets into a message; returns the bytes at which it may be cut."""
     repeat, begin, cuts = definition["repeat"], first_set(definition, bytes(whole)), []
     strange = rng.choice([0, 0, 0.02, 0.1])
     for _ in range(rng.choice([0, 1, 2, 3, 4, 6, 9, MOST, MOST])):
@@ -629,7 +632,7 @@ def put_sets(rng, definition, whole, lookups, some):
 
 
 def data_with_strings(rng, definition, lookups):
-    """A message with strings, often cut where one of them or a set begins or ends, or inside of it."""
+    """A message with strings, often cut at or inside one of them or a set."""
     fields, whole = definition["fields"], bytearray(filled(rng, MOST))
     some = rng.choice([0, 0.3, 0.9])
     cuts = put_fields(rng, fields, 0, whole, lookups, some, rng.choice([0, 0, 0.2]) if "repeat" in definition else 0.2)
@@ -671,7 +674,7 @@ def messages(rng, tree, lookups):
     for definition in definitions:
         some += [definition] * (2 if definition["number"] in seen else 10 if varies(definition) else 4)
         if not any("match" in field for field in definition["fields"]):
-            seen.add(definition["number"])  # no later one of the PGN is chosen
+            seen.add(definition["number"])  # later definitions of the PGN are never chosen
     for definition in some:
         data = data_of(rng, definition, lookups)
         yield rng.randint(0, 7), definition["number"], rng.randint(0, 255), rng.randint(0, 255), data
@@ -684,10 +687,10 @@ def log_line(message):
     return ",".join(["t", *map(str, (prio, pgn, src, dst, len(data))), *([data.hex(",")] if data else [])]) + "\n"
 
 
-# ---- Faults: each function makes one in a table, or answers False where that has no place for it ----
+# ---- Faults: each function makes one in a table, or returns False if the table has no place for it ----
 
 def places(tree):
-    """All fields of a table, each with the `repeat` that it is in, or None."""
+    """All fields of a table, each with the `repeat` that contains it, or None."""
     for definition in tree.get("pgn", []):
         for field in definition["fields"]:
             yield field, None
@@ -712,7 +715,7 @@ def spare_lookup(rng, tree):
 
 
 def spare_definition(rng, tree):
-    """The only definition of its PGN, with a `repeat` where the format has it."""
+    """The only definition of its PGN, with a `repeat` if the format allows it."""
     numbers = {one["number"] for one in tree.get("pgn", [])}
     number = next(number for number in range(60000, 60009) if number not in numbers)
     fields = [{"name": "A", "kind": "number", "at": 0, "bits": 8}]
@@ -724,13 +727,13 @@ def spare_definition(rng, tree):
 
 
 def a_holder(rng, tree):
-    """A definition or a set whose one field is A."""
+    """A definition or a set with the single field A."""
     definition = spare_definition(rng, tree)
     return rng.choice([definition, definition.get("repeat", definition)])
 
 
 def string_and_more(rng):
-    """A string S and fields behind it."""
+    """A string S and fields after it."""
     return [
         {"name": "S", "kind": "string", "at": 8 * rng.randint(0, 3), "form": rng.choice(FORMS)},
         {"name": "T", "kind": "string", "at": 0, "form": rng.choice(FORMS), **({"after": "S"} if rng.random() < 0.5 else {})},
@@ -738,7 +741,7 @@ def string_and_more(rng):
 
 
 def stringed(rng, tree):
-    """A definition with a string S and fields behind it, in its sets too, in a table of format 3; or None."""
+    """A definition with a string S and fields after it, also in its sets, in a table of format 3; or None."""
     if tree["format"] < 3:
         return None
     definition = spare_definition(rng, tree)
@@ -753,7 +756,7 @@ def stringed(rng, tree):
 
 
 def lists(tree):
-    """The lists of fields, each with the bits that it has."""
+    """The lists of fields, each with its available bits."""
     for definition in tree.get("pgn", []):
         yield definition["fields"], ROOM
         if "repeat" in definition:
@@ -765,12 +768,12 @@ def list_of(tree, field):
 
 
 def followers(tree):
-    """The fields that stand behind a string."""
+    """The fields that follow a string."""
     return [field for field, _ in places(tree) if "after" in field]
 
 
 def keys_of(format, field, in_set):
-    """The keys that a field has to have, and those that it may have too."""
+    """The keys that a field must have, and those that it may have."""
     kind, more = field["kind"], []
     if strings_of(format, in_set) and "match" not in field:
         more += ["after"]
@@ -784,7 +787,7 @@ def keys_of(format, field, in_set):
 
 
 def some_part(rng, tree):
-    """A part of a table with the keys that it has to have, and those that it may have too; of each kind as often."""
+    """A part of a table with the keys that it must and may have; each kind of part is equally likely."""
     format = tree["format"]
     found = {"lookup": [(spare_lookup(rng, tree), ["name", "entries"], [])],
              "pgn": [(spare_definition(rng, tree), ["number", "kind", "description", "fields"], ["repeat"] * (format >= 2))]}
@@ -870,7 +873,7 @@ def repeat_out_of_range(rng, tree):
 
 
 def set_of_no_bits(rng, tree):
-    """Sets that would take no byte."""
+    """Sets that take no byte."""
     if stringed(rng, tree) is None:
         return False
     repeat = rng.choice(repeats(tree))
@@ -910,7 +913,7 @@ def place_out_of_range(rng, tree):
 
 
 def fixed_place_out_of_range(rng, tree):
-    """A chain of strings up to the limit, and one more field or a set behind it."""
+    """A chain of strings up to the limit, followed by one more field or a set."""
     definition = stringed(rng, tree)
     if definition is None:
         return False
@@ -1057,7 +1060,7 @@ def unknown_lookup(rng, tree):
 
 
 def no_string(rng, tree):
-    """A field stands behind what is no string before it."""
+    """A field names something other than an earlier string."""
     if stringed(rng, tree) is None:
         return False
     field = rng.choice(followers(tree) if rng.random() < 0.8 else
@@ -1090,7 +1093,7 @@ def no_string(rng, tree):
 
 
 def no_string_of_sets(rng, tree):
-    """Sets stand behind what is no string of the definition's own fields."""
+    """Sets name something other than a string of the definition's own fields."""
     if stringed(rng, tree) is None or not IN_SETS:
         return False
     definition = rng.choice([one for one in tree["pgn"] if "repeat" in one])
@@ -1144,7 +1147,7 @@ FREQUENT = ["Key"] * 6 + ["Range"] * 8 + ["Text"] * 4 + ["Lookup"] * 2 + ["NotTo
 
 
 def spoiled(rng, written):
-    """The bytes of a table that are no TOML."""
+    """The bytes of a table, made invalid as TOML."""
     data = written.encode()
     at = rng.randint(0, len(data))
     return rng.choice([
@@ -1155,7 +1158,7 @@ def spoiled(rng, written):
 
 
 def faulty(rng, format):
-    """A fault's class and the bytes of a table that has it."""
+    """The class of a fault, and the bytes of a table that has it."""
     name = rng.choice(FREQUENT)
     while True:
         tree = new_table(rng, format)
@@ -1165,7 +1168,7 @@ def faulty(rng, format):
             return name, table_text(tree).encode()
 
 
-# ---- A field and sets with several faults: the first of them is answered ----
+# ---- A field and sets with several faults: the first is reported ----
 
 OWN = {"number": ["signed", "resolution", "offset", "unit", "match"], "lookup": ["lookup", "match"], "text": ["short"],
        "bytes": ["short"], "flags": ["lookup"], "digits": [], "string": ["form", "short"]}
@@ -1196,7 +1199,7 @@ def resolution_fault(text):
 
 
 def field_faults(field, format, in_set, strings, room):
-    """The faults of a field, in the order in which they are looked for; `strings` are the fixed places of those before it."""
+    """The faults of a field, in the order of the rules; `strings` are the fixed places of the strings before it."""
     kind = field.get("kind")
     if type(kind) is not str:
         yield "Key"
@@ -1245,7 +1248,7 @@ def key_fault(field, key):
 
 
 def list_faults(fields, format, in_set, room, strings):
-    """The faults of a list of fields, in their order; `strings` gets the fixed places of its strings."""
+    """The faults of a list of fields, in order; the fixed places of its strings are added to `strings`."""
     if type(fields) is not list:
         yield "Key"
     if len(fields) > 256:
@@ -1261,7 +1264,7 @@ def list_faults(fields, format, in_set, room, strings):
 
 
 def repeat_faults(repeat, format, strings):
-    """The faults of a `repeat`, in their order; `strings` are the fixed places of the definition's own."""
+    """The faults of a `repeat`, in order; `strings` are the fixed places of the definition's own strings."""
     if type(repeat) is not dict:
         yield "Key"
     may_vary, room, inner = bool(strings_of(format, True)), ROOM, {}
@@ -1282,7 +1285,7 @@ def repeat_faults(repeat, format, strings):
 
 
 def definition_faults(definition, format):
-    """The faults of a definition's fields and of its sets, in their order."""
+    """The faults of a definition's fields and of its sets, in order."""
     strings = {}
     if format == 1 and "repeat" in definition:
         yield "Key"
@@ -1318,12 +1321,12 @@ OF_REPEAT = {"at": [0, 8, 16, 4, -8, 1760, 1768, 1776, 1784, "8"], "after": VALU
 
 
 def two_strings(at):
-    """A string S and another one behind it."""
+    """A string S and a second one after it."""
     return [{"name": "S", "kind": "string", "at": at, "form": "lau"}, {"name": "T", "kind": "string", "at": at, "form": "lz", "after": "S"}]
 
 
 def changed_repeat(rng, repeat, strings):
-    """Changes sets; there are `strings` for them where these may vary."""
+    """Changes sets; `strings` may be chosen for them if the format lets sets vary."""
     if strings and rng.random() < 0.6:
         repeat.update(after=rng.choice("ST"), at=8 * rng.choice([0, 1, *range(211, 217), *range(219, 224)]))
     if rng.random() < 0.4:
@@ -1339,7 +1342,8 @@ def changed_repeat(rng, repeat, strings):
 
 
 def several(rng, format):
-    """The class of the first fault, or None, and the bytes of a table with a field and sets that may have several."""
+    """The class of the first fault, or None, and the bytes of a table with a field and sets that may have several
+    faults."""
     of_sets = two_strings(rng.choice([0, 8, 8])) if strings_of(format, True) else []
     fields = [dict(A)] + two_strings(8) * bool(strings_of(format, False))
     repeat = {"at": 8, "bits": 64, "fields": [dict(A)] + of_sets}

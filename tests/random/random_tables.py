@@ -1,18 +1,18 @@
 #!/usr/bin/env python3
-"""Holds tools/table-check against the program, on random tables with changes.
+"""Compares tools/table-check with the program, on random tables with changes.
 
     tests/random/random_tables.py PROGRAM SEED COUNT
 
-Each of COUNT tables is made by the seed and its number: a small one, or some messages of tables/n2k.toml, with one to
-four changes (spellings, kinds, ranges, doubles, missing and extra keys, damaged TOML), and spelled at random. PROGRAM
-reads it exactly where the check finds nothing, and else answers the class of the first fault that the check finds, as it
-judges. Where the one change is known by its line, the check tells that line: as its own, as one that it names, or, of
-TOML that is damaged, between what begins before it and where it is seen.
+Each of COUNT tables is made from the seed and its number: a small one, or some messages of tables/n2k.toml, with one to
+four changes (spellings, kinds, ranges, duplicates, missing and extra keys, damaged TOML), in a random spelling. PROGRAM
+has to accept it exactly if the check finds nothing, and otherwise report the class of the check's first fault in the
+order of the rules. If the line of the only change is known, the check has to report it: as its line, as one that the
+fault names, or, for damaged TOML, between the beginning of the item and the place of the error.
 
-Beside each table stands a document of any kind: PROGRAM takes it for TOML exactly where the check does. Of both, what
-the check reads is what was written, and what tomllib reads, which knows TOML 1.0; and each key, element and table stands
-at the line at which it was written. Each failure is shown, then how many tables were read and what was answered of
-others, and the last line ends with `F failures` (Python 3.11 or newer).
+For each table there is also a document of any kind: PROGRAM has to accept it as TOML exactly if the check does. For
+both, the check has to read what was written, and what tomllib reads, which supports TOML 1.0; and each key, element and
+table has to have the line at which it was written. Each failure is shown, then the number of tables accepted and the
+faults of the others; the last line ends with `F failures` (Python 3.11 or newer).
 """
 import collections
 import copy
@@ -37,7 +37,7 @@ WORDS = ["SID", "COG", "Value", "list", "Status 2", "é", "日本", "a\"b", "a'b
          "# no comment", "'''", '"""', "]", "\t", "\u2028", "a.b", "\U0001F600", "\x1b", " "]
 KINDS = [Raw("1.5", 1.5), Raw("-0.0", -0.0), Raw("1_0e+2", 1000.0), Raw("inf", float("inf")), True, False, 3, "x", [], {},
          Raw("1979-05-27", "date"), Raw("07:32:00", "time"), [[1, "x"]], [{}], {"at": 0}, Raw("1979-05-27 07:32:00.5Z", "date")]
-# Spellings that are no TOML, and some that only seem to be none.
+# Spellings that are not valid TOML, and some that only look invalid.
 SPELLINGS = ["9223372036854775807", "9223372036854775808", "-9223372036854775808", "-9223372036854775809", "007", "1_", "_1",
              "1__0", "0x", "0x_1", "0xG", "0b2", "0o8", "+0x1", "1.", ".5", "1e", "1e400", "1.e5", "True", "yes", '"\\q"', '"\\u12"', '"\\uD800"', '"\\x4g"', "1979-13-01", "1979-02-30", "24:00:00", "07:32", "23:59:60",
              "0000-02-29", "[1 2]", "{a 1}", "[1,,2]", "{,}", "[,]", "1 2", '"a" "b"', "\"\x01\"", "nan", "0x8000000000000000",
@@ -58,8 +58,8 @@ def text(rng):
 # ---- Tables ----
 
 def field(rng, names, end, is_own, lookups, version, strings):
-    """A field of a message, or of a set of `end` bits; `strings` are the fixed places of the strings before it, and gain its
-    own where it is one."""
+    """A field of a message, or of a set of `end` bits; `strings` are the fixed places of the strings before it; its own
+    is added if it is a string."""
     newer = ["flags", "flags", "digits"] if version == 3 else []
     kind = rng.choice(["number"] * 5 + ["lookup"] * 2 + ["text", "bytes"] + newer)
     if kind in ("lookup", "flags") and not lookups:
@@ -106,7 +106,7 @@ def fields(rng, end, is_own, lookups, version, strings):
 
 
 def repeat(rng, lookups, version, strings):
-    """What repeats in a message with these strings."""
+    """The repeat of a message with these strings."""
     bits = 8 * rng.randint(0 if version == 3 and rng.random() < 0.5 else 1, rng.choice([2, 12]))
     made = {"at": 8 * rng.randint(0, 20), "bits": bits}
     after = rng.choice([None, *strings])
@@ -137,7 +137,7 @@ def small_table(rng):
 
 
 def part_of_n2k(rng, whole):
-    """Some messages of the common table, with the lookups that they name."""
+    """Some messages of the common table, with their lookups."""
     definitions = copy.deepcopy(rng.sample(whole["pgn"], rng.randint(1, 3)))
     named = {field["lookup"] for definition in definitions
              for field in definition["fields"] + definition.get("repeat", {"fields": []})["fields"] if "lookup" in field}
@@ -163,20 +163,21 @@ def at(tree, path):
 # ---- Changes ----
 
 class Change:
-    """What was changed: `keys`, paths of keys and elements, and `begins`, paths of tables, of which one is told."""
+    """What was changed: `keys`, paths of keys and elements, and `begins`, paths of tables; a fault names one of
+    them."""
 
     def __init__(self, *keys, begins=()):
         self.keys, self.begins = keys, begins
 
 
 def naming(tree, name):
-    """The paths of the fields' keys that name a lookup; a change of that shows at them."""
+    """The paths of the fields' keys that name a lookup; a change of the lookup shows at them."""
     return [path for path in places(tree) if path[-1] == "lookup" and len(path) > 1 and at(tree, path) == name]
 
 
 def of_strings(tree, paths):
-    """Where changes of fields, which may be strings, show too: in the fields of their lists, and in what repeats, as one of
-    that shows in the fields of the set."""
+    """Where changes of fields, which may be strings, show too: in the fields of their list, and in the repeat; a change
+    of a repeat shows in the fields of its set."""
     holders = {path[:len(path) - path[::-1].index("fields") - 1] if "fields" in path else path[:-1]
                for path in paths if "fields" in path or path[-2:-1] == ("repeat",)}
     return [path for path in places(tree) if path[-1] in ("after", "at", "bits") and
@@ -204,7 +205,7 @@ def another_spelling(rng, tree, path):
 
 
 def another_value(rng, tree, path):
-    """Another value that the key may have, or none in its range."""
+    """Another value for the key, allowed or out of range."""
     key = path[-1]
     holder = at(tree, path[:-1])
     shows = of_lookup(tree, path)
@@ -242,7 +243,7 @@ def another_value(rng, tree, path):
 
 
 def another_right_value(rng, tree, path):
-    """Another value that has most often no fault."""
+    """Another value, usually without a fault."""
     values = {"at": [8 * rng.randint(0, 30)], "bits": [8, 16, 32], "number": [rng.randrange(2**24)], "match": [0, 1, 255],
               "name": [f"{text(rng)} {rng.randrange(100)}"], "description": [text(rng)], "signed": [True, False],
               "resolution": ["1", "0.5", "60"], "kind": ["number", "single", "fast", "bytes"], "format": [1, 2, 3],
@@ -262,7 +263,7 @@ def without(rng, tree, path):
 
 
 def one_more_key(rng, tree, path):
-    """A key that is known at some place, or at none."""
+    """A key that is valid at some place, or at none."""
     tables = [(), *[other for other in places(tree) if isinstance(at(tree, other), dict)]]
     place = rng.choice(tables)
     holder = at(tree, place)
@@ -289,7 +290,7 @@ def renamed_key(rng, tree, path):
 
 
 def twice(rng, tree, path):
-    """A part of a list once more, or the name of another one."""
+    """Repeats a part of a list, or the name of another part."""
     lists = [other for other in places(tree) if isinstance(at(tree, other), list) and len(at(tree, other)) > 0]
     if not lists:
         return None
@@ -300,7 +301,7 @@ def twice(rng, tree, path):
 
 
 def mixed(rng, tree, path):
-    """A definition once more, of the other kind."""
+    """Repeats a definition with the other kind."""
     if not isinstance(tree.get("pgn"), list):
         return None
     definitions = [part for part in tree["pgn"] if isinstance(part, dict) and part.get("kind") in ("single", "fast")]
@@ -345,7 +346,7 @@ CHANGES = [another_value] * 14 + [another_right_value] * 10 + [another_kind, wit
 
 
 def changed(rng, tree):
-    """Makes one change; what it was."""
+    """Makes one change, and describes it."""
     while True:
         by_key = collections.defaultdict(list)
         for path in places(tree):
@@ -387,7 +388,7 @@ def any_document(rng):
     return tree
 
 
-# ---- What was read ----
+# ---- The results of reading ----
 
 def is_same(written, read):
     if isinstance(written, Raw):
@@ -415,7 +416,7 @@ def is_same_by_tomllib(read, other):
 
 
 def lines_read(tree, lines, path=()):
-    """The lines of keys and elements, and of tables, by path, as the check has them."""
+    """The lines of keys and elements, and of tables, by path, according to the check."""
     keys, begins = {}, {}
     if isinstance(tree, table_rules.Table):
         begins[path] = lines.line(tree.at)
@@ -441,7 +442,7 @@ class Judge:
         print(f"{name}: {what}")
 
     def answer(self, data):
-        """The class that the program answers, or nothing."""
+        """The class of the program's fault, or None."""
         with open(self.path, "wb") as file:
             file.write(data)
         done = subprocess.run([self.program, "decode", "--table", self.path, "/dev/null"], capture_output=True, text=True)
@@ -453,7 +454,7 @@ class Judge:
         return said[2]
 
     def table(self, name, data, expected):
-        """Judges a table; `expected` has the lines of which each fault tells one, or is None."""
+        """Judges a table; each fault has to name one of the lines in `expected`, unless it is None."""
         answer = self.answer(data)
         faults = table_rules.faults(data)
         if answer != (faults[0].name if faults else ""):
@@ -477,7 +478,7 @@ class Judge:
             self.fail(name, f"the program says {answer or 'nothing'}, the check {[*map(str, table_rules.faults(data))]}")
 
     def places(self, name, tree, writer, written):
-        """That what is read of a text is what was written, where it was written; and what tomllib reads."""
+        """Checks that a text is read as it was written, and at its lines, and as tomllib reads it."""
         data = written.encode()
         try:
             read = table_rules.tree(data)
@@ -500,7 +501,7 @@ class Judge:
                     self.fail(name, f"{path} is read in line {ours.get(path)}, and was written in {theirs.get(path)}")
 
     def by_tomllib(self, name, data, read, is_old):
-        """That tomllib reads the same, and reads it where it is TOML 1.0."""
+        """Checks that tomllib reads the same, if the text is TOML 1.0."""
         try:
             other = tomllib.loads(data.decode().removeprefix("\ufeff"))
         except ValueError as why:
@@ -513,7 +514,7 @@ class Judge:
 
 
 def expected_lines(writer, change):
-    """The lines at which one change may be told."""
+    """The lines at which one change may be reported."""
     lines = {line for path, line in writer.keys.items() if any(path[:len(key)] == key for key in change.keys)}
     lines |= {line for path in change.keys if path in writer.ends
               for line in range(writer.keys[path], writer.ends[path] + 1)}

@@ -1,24 +1,25 @@
 #!/usr/bin/env python3
-"""A season of the logger and of what it feeds, by a seed.
+"""A season of the logger and of what it feeds, from a seed.
 
     season.py PROGRAM [ROUNDS [SEED]]
 
-A round is a boat's log of some days in eight parts, on a file system of its own, an ext4 image. Between the parts are holes,
-and each ends in its way: the sender ends, the logger is stopped, some of its processes are killed, or the power is cut. Within a
-part the disk is full for a while, stamps are years ahead or days back, the table is replaced, or the server is away. Two `feed`
-send the files to SQLite and to a server made up of InfluxDB's interface.
+A round is a boat's log of several days in eight parts, on a file system of its own, an ext4 image. Between the parts
+are gaps, and each part ends in its own way: the sender ends, the logger is stopped, some of its processes are killed,
+or the power is cut. Within a part the disk is full for a while, timestamps are years ahead or days back, the table is
+replaced, or the server is away. Two `feed` processes send the files to SQLite and to a stand-in for InfluxDB's
+interface.
 
-In the end files are whole, no message is of two, none is there twice, no day is from the future, and no message is lost that
-docs/GUIDE.md doesn't allow to be: those with a frame in a hole, on its way at a kill, behind the last sync at a cut of the power,
-while the disk was full, and where the table was replaced those across midnight. Rows and points are those of the files, each once,
-and beside them only what a cut took from the files. On a full disk a logger waits, and where nothing else comes it goes on when
-there is room.
+In the end files are complete, no message has frames of two, none is repeated, no day is in the future, and only
+messages that docs/GUIDE.md allows are lost: those with a frame in a gap, being sent at a kill, after the last sync
+before a power cut, while the disk was full, and those across midnight if the table was replaced. Rows and points are
+those of the files, each once; the only others are those that a cut removed from the files. On a full disk a logger
+waits, and if it is not disturbed otherwise it continues when there is room.
 
-What is on its way, or synced, is not judged by the clock: before a disturbance the sender is held until its messages are there, and
-before a cut a sync is waited for.
+Whether lines have arrived, or are synced, does not depend on the clock: before a disturbance the sender is held until
+its messages have arrived, and before a cut the trial waits for a sync.
 
-The last line is `N faults`, after a line for each, and one of the parts. Status 77 says that no ext4
-image can be had here, and why.
+The last line is `N faults`, after a line for each, and one of the parts. Status 77 means that no ext4 image can be used
+here; the reason is printed.
 """
 import os
 import random
@@ -34,7 +35,7 @@ import logger_trials
 from logger_trials import Boat, Disk, Log, held, kill, left, message, tree
 
 SYNCED = 1  # seconds
-LATE = 3  # seconds that a logger may take for what it does between syncs, on a computer that has other work
+LATE = 3  # seconds that a logger may take between syncs, on a busy computer
 PARTS = 8
 HOW = ["alone", "alone", "stopped", "killed", "killed", "cut", "cut"]
 WHAT = ["nothing", "full", "ahead", "back", "server", "table", "feed"]
@@ -45,7 +46,7 @@ def is_in_part(line):
 
 
 class Fed:
-    """Both feeds and what they feed."""
+    """Both feeds, and their databases."""
 
     def __init__(self, room, folder, chance):
         self.room, self.folder, self.chance = room, folder, chance
@@ -69,9 +70,9 @@ class Fed:
         self.running = []
 
     def faults(self, texts, was_cut):
-        """What is wrong in the end with what was fed of these files."""
+        """The faults in the databases after these files were fed."""
         self.kill()
-        # Of a line that a cut left in part it says that it is no message.
+        # feed reports a truncated line, which is not a message.
         statuses = {0, 1} if any(is_in_part(it) for text in texts for it in text.splitlines()) else {0}
         for it in (self.server, self.base):
             if self.begin(it, "--once").wait(timeout=200) not in statuses:
@@ -95,7 +96,7 @@ class Fed:
 
 
 class Round:
-    """A boat, its log, and when it was disturbed."""
+    """A boat, its log, and the times of its disturbances."""
 
     def __init__(self, program, room, chance):
         self.room, self.chance = room, chance
@@ -107,11 +108,11 @@ class Round:
         self.table = f"{room}/table.toml"
         shutil.copy(logger_trials.TABLE, self.table)
         self.fed = Fed(room, self.boat.folder, chance)
-        # Of each line: its part and when it was sent. Of a disturbance: its part, the first line, and when it had ended.
+        # For each line: its part, and when it was sent. For a disturbance: its part, its first line, and when it ended.
         self.parts, self.times, self.disturbed, self.torn, self.was_cut, self.crossed = {}, {}, [], 0, False, set()
-        # How long a sync was waited for.
+        # How long the trial waited for syncs.
         self.waits = []
-        # The parts, and those whose logger did not get over a full disk.
+        # The parts, and those whose logger did not recover from a full disk.
         self.played, self.given_up = [], []
         self.filler = f"{self.disk.folder}/other"
 
@@ -128,7 +129,7 @@ class Round:
             self.part(part, begin, lines, how, what)
 
     def stamped(self, lines, what):
-        """The lines, where some have a stamp of another day."""
+        """The lines; some get a timestamp of another day."""
         at, count = self.chance.randrange(len(lines) // 2), self.chance.randrange(1, 40)
         add = {"ahead": 10 * 365 * 86400, "back": -self.chance.randrange(1, 4) * 86400}.get(what, 0)
         return [b"(%.6f%s" % (float(it[1:18]) + add, it[18:]) if at <= number < at + count and add else it for number, it in enumerate(lines)]
@@ -139,7 +140,7 @@ class Round:
             file.writelines(lines)
         open(told, "wb").close()
         command = [LOGGER, "--raw", f"--sync={SYNCED}", self.boat.folder, self.table, sys.executable, logger_trials.__file__, "timed", path, told]
-        # Some lines are to come when a logger that waited for room has surely seen it.
+        # Some lines remain to be sent after a logger that waited for room has certainly noticed it.
         command.append("13" if (what, how) == ("full", "alone") else "4")
         with open(f"{self.room}/said", "ab") as said:
             logger = Boat.logger = subprocess.Popen(command, env=self.boat.environment, stderr=said, start_new_session=True)
@@ -154,7 +155,7 @@ class Round:
                 if how == "cut":
                     sizes = {it: os.stat(it).st_size for it in self.boat.newest()}
                     waited = self.disk.synced(sizes, logger)
-                    # After a full disk it waits for room first.
+                    # After a full disk the logger waits for room first.
                     self.waits += [waited] if what != "full" and logger.poll() is None else []
         if how == "stopped":
             logger.terminate()
@@ -176,23 +177,23 @@ class Round:
         self.end(logger)
         if how == "cut":
             self.disk.again()
-            # Its removal may not have been synced.
+            # The removal of the file may not have been synced.
             if os.path.exists(self.filler):
                 os.remove(self.filler)
             self.tear(sizes)
         if not self.fed.running:
             self.fed.start()
-        # A part's lines that the sender has not come to were not sent; the next part begins behind them.
+        # Lines that the sender did not reach were not sent; the next part begins after them.
         count = self.sent(part, begin)
         if how != "alone":
-            # The last line of a sender that was stopped may not have been written.
+            # The last line of a stopped sender may not have been written.
             self.disturbed.append((part, begin + (count - 1 if safe is None else safe), time.monotonic()))
-        # Where there is room again before it has looked, it ends as it does where a file can't be written.
+        # If there is room again before the logger looks, it ends as if a file could not be written.
         if (how, what) == ("alone", "full") and count < len(lines) and logger.returncode != 3:
             self.given_up.append(part + 1)
 
     def sent(self, part, begin):
-        """Takes which lines of a part were sent, and when; gives how many."""
+        """Records which lines of a part were sent, and when; returns their number."""
         with open(f"{self.room}/times.{part}", encoding="utf-8") as its:
             times = its.read().split("\n")[:-1]
         for number, it in enumerate(times, begin):
@@ -200,7 +201,7 @@ class Round:
         return len(times)
 
     def held(self, part, begin):
-        """Holds the sender, once each message that is owed is there; gives how many lines of the part are sent."""
+        """Holds the sender, once each expected message has arrived; gives the number of sent lines of the part."""
 
         def missing(_):
             self.sent(part, begin)
@@ -209,14 +210,14 @@ class Round:
         return held(f"{self.room}/times.{part}", missing)
 
     def tear(self, synced):
-        """Other file systems may end a file within a line that was not synced."""
+        """On other file systems a file may end within a line that was not synced."""
         for it in self.boat.newest():
             if self.chance.randrange(2):
                 size = os.stat(it).st_size
                 os.truncate(it, max(min(size, synced.get(it, 0)), size - self.chance.randrange(200)))
 
     def fill(self, part, begin, how):
-        """Fills the disk for a while, of a logger that is let alone until it has seen that."""
+        """Fills the disk for a while; if the logger is left alone, until it has noticed."""
         with self.held(part, begin) as safe:
             at, times = time.monotonic(), self.short()
         try:
@@ -229,21 +230,21 @@ class Round:
         while how == "alone" and self.short() == times and Boat.logger.poll() is None and time.monotonic() < at + 10:
             time.sleep(0.05)
         time.sleep(0.5 + self.chance.random())
-        # What it has gzipped may have made room meanwhile.
+        # Its gzipped files may have made room in the meantime.
         if Boat.logger.poll() == 3 and not self.has_room():
             self.given_up.append(part + 1)
         os.remove(self.filler)
         self.torn += 1
-        # It looks for room every five seconds.
+        # The logger checks for room every five seconds.
         self.disturbed.append((part, begin + safe, time.monotonic() + 7))
 
     def short(self):
-        """How often loggers have begun to wait for room."""
+        """How often loggers have started to wait for room."""
         with open(f"{self.room}/said", "rb") as said:
             return said.read().count(b"disk full: ")
 
     def has_room(self):
-        """Whether there is as much room as a logger looks for."""
+        """Whether there is as much room as a logger requires."""
         try:
             with open(self.filler, "ab") as file:
                 file.write(bytes(100_000))
@@ -269,7 +270,7 @@ class Round:
             self.crossed.add(part)
 
     def end(self, logger):
-        """Waits until the logger has ended; what is left of one of which processes were killed ends with its sender."""
+        """Waits until the logger has ended; after a kill its remaining processes end with its sender."""
         try:
             logger.wait(timeout=20 if not self.torn else 8)
         except subprocess.TimeoutExpired:
@@ -283,7 +284,7 @@ class Round:
             kill(pids)
 
     def is_owed(self, places):
-        """Whether a message of these lines has to be there."""
+        """Whether a message of these lines must exist."""
         parts = {self.parts.get(it) for it in places}
         if None in parts or len(parts) > 1:
             return False
@@ -293,7 +294,7 @@ class Round:
         return not any({part} == parts and first <= it and self.times[it] <= end for it in places for part, first, end in self.disturbed)
 
     def owed(self, begin=0):
-        """The messages from a line on that have to be there."""
+        """The messages from a line on that must exist."""
         return [(key[0], self.log.data[key]) for key, places in self.log.places.items() if places[0] >= begin and self.is_owed(places)]
 
     def faults(self):

@@ -1,11 +1,11 @@
 #!/usr/bin/env python3
-"""Prints the classes of the faults of tables of format 1, 2 and 3; nothing where a table reads.
+"""Prints the classes of the faults of tables of format 1, 2 and 3; nothing for a valid table.
 
     tests/random/table_faults.py TABLE..
 
-The rules are those of tools/table_rules.py, which tools/table-check prints with their places. They were written from
-docs/PROFILE.md alone, apart from the program and from tools/from_canboat.py, so that their tables can be judged by a
-second reader (Python 3.11 or newer).
+The rules are those of tools/table_rules.py, which tools/table-check prints with their lines. They were written from
+docs/PROFILE.md alone, independent of the program and of tools/from_canboat.py, so that a second reader can judge their
+tables (Python 3.11 or newer).
 """
 import os
 import sys

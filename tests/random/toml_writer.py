@@ -1,4 +1,4 @@
-"""Writes trees as TOML in random spellings, and tells at which line each key, element and table stands; and damages texts.
+"""Writes trees as TOML in random spellings, and records the line of each key, element and table; and damages texts.
 
 For random_tables.py (Python 3.11 or newer).
 """
@@ -17,9 +17,9 @@ class Raw:
 
 
 class Writer:
-    """Writes one tree. `keys` has the lines of keys and elements by their path, `begins` those of tables.
+    """Writes one tree. `keys` contains the lines of keys and elements by their path, `begins` those of tables.
 
-    `wild` is how often a spelling is another than the plainest, 0 to 1; with `newest` it may be one of TOML 1.1.
+    `wild` is how often a spelling differs from the plainest, 0 to 1; with `newest` it may be one of TOML 1.1.
     """
 
     def __init__(self, rng, wild, newest):
@@ -56,7 +56,7 @@ class Writer:
             self.put(self.rng.choice(["", "  ", "#" + self.rng.choice(COMMENTS)]) + self.newline)
 
     def blank(self, usual=""):
-        """Between the parts of what may go over several lines."""
+        """A separator that may contain line breaks."""
         if self.is_wild():
             self.end_line() if self.rng.random() < 0.5 else self.spaces()
         else:
@@ -65,7 +65,7 @@ class Writer:
     # ---- Tables and pairs ----
 
     def table(self, table, path, parts):
-        """A table's pairs, and then the tables below it that have headers. `parts` are its key's parts and their paths."""
+        """A table's pairs, then the tables below it that have headers. `parts` are its key's parts and their paths."""
         pairs, below = {}, []
         for key in self.order(table):
             value = table[key]
@@ -119,7 +119,7 @@ class Writer:
                 self.end_line()
 
     def dotted(self, table, path, before, after):
-        """The pairs of a table that dotted keys make."""
+        """The pairs of a table that is written with dotted keys."""
         self.begins[path] = self.line
         for key, value in table.items():
             if isinstance(value, dict) and value and self.is_wild():
@@ -212,7 +212,7 @@ class Writer:
             self.put(f'"""{front}{inside}"""')
 
     def many_lines(self, text):
-        """With newlines as they are here and there."""
+        """A multi-line spelling; some newlines are written as such."""
         return "\n".join(self.escaped(line, '"') for line in text.split("\n")) if self.rng.random() < 0.5 else \
             self.escaped(text, '"')
 
@@ -249,7 +249,7 @@ class Writer:
         self.put("}")
 
     def comma_between(self, table, path, before):
-        """The pairs of a table that dotted keys make in an inline table."""
+        """The pairs of an inline table that is written with dotted keys."""
         self.begins[path] = self.line
         for at, key in enumerate(table):
             self.put(", " if at else "")
@@ -259,7 +259,7 @@ class Writer:
 # ---- Damage ----
 
 def damaged(rng, text):
-    """Damaged bytes, and the first and the last line that the damage is in; None where that is not one place."""
+    """Damaged bytes, and the first and last line of the damage; None if it is not in one place."""
     at = rng.randrange(len(text) + 1)
     line = text.count("\n", 0, at) + 1
     letter = rng.choice(list("\"'[]{}=,.#\\_+-:e0") + ["\n", "\t", " ", "\r", "\0", "\x7f", "é", '"""', "'''", "[[", "\ufeff"])

@@ -1,5 +1,5 @@
 #!/usr/bin/env python3
-"""A made-up bus, as `candump -L can0` writes it:
+"""A made-up bus, as `candump -L can0` prints it:
 
     bus.py boat SECONDS [START]                 a boat under way: nine devices, some 60 messages a second
     bus.py crowd LINES A_SECOND                 200 devices, with lines that are bad, groups that break, unknown PGNs, ships that
@@ -20,7 +20,7 @@ def frame(at, prio, pgn, sender, data):
 
 
 def fast(at, prio, pgn, sender, data, sequence):
-    """The frames of a fast packet, 0.5 ms one after another."""
+    """The frames of a fast packet, 0.5 ms apart."""
     data = bytes([len(data)]) + data
     return [frame(at + 0.0005 * place, prio, pgn, sender, bytes([sequence % 8 << 5 | place]) + data[7 * place:7 * place + 7].ljust(7, b"\xff"))
             for place in range((len(data) + 6) // 7)]
@@ -44,7 +44,8 @@ DEVICES = [
 
 
 def boat(seconds, start=START, stop=12):
-    """The engine is silent for 28 seconds from the second `stop` on; its alert begins two seconds before, and is over within."""
+    """The engine is silent for 28 seconds from the second `stop` on; its alert begins two seconds before, and ends
+    during the silence."""
     lines = []
     sequence = 0
     for tenth in range(int(seconds * 10)):
@@ -91,8 +92,8 @@ def boat(seconds, start=START, stop=12):
 
 
 def crowd(count, rate, start=START):
-    """200 devices in turns, each with ten PGNs of single frames and one fast packet; of 1,000 lines one is bad, one breaks a group,
-    and ten are of unknown PGNs. AIS has a new ship with each message."""
+    """200 devices in turn, each with ten PGNs of single frames and one fast packet; of 1,000 lines one is bad, one
+    breaks a group, and ten have unknown PGNs. Each AIS message is of a new ship."""
     single = [(127250, 2), (127251, 2), (127257, 3), (127508, 6), (128259, 2), (128267, 3), (129025, 2), (129026, 2), (130306, 2), (127245, 2)]
     for number in range(count):
         at = start + number / rate
@@ -100,14 +101,14 @@ def crowd(count, rate, start=START):
         if number % 1000 == 501:
             yield f"({at:.6f}) can0 09F8"
         elif number % 1000 in (502, 503):
-            # The same frame twice breaks its group.
+            # A repeated frame breaks its group.
             yield frame(at, 6, 129029, 201, bytes.fromhex("002B00D1067414FF"))
         elif number % 100 == 17:
             yield frame(at, 7, 65299 + number // 1000 % 3, sender, bytes(8))
         elif turn % 20 == 19:
             yield frame(at, 2, 127250, sender, struct.pack("<BHhhB", turn % 253, number % 62000, 0x7FFF, 785, 0xFD))
         elif turn % 20 > 15:
-            # A fast packet of three frames, and a ship that was not there before.
+            # A fast packet of three frames, and a new ship.
             place = turn % 20 - 16
             ship = bytes([18]) + struct.pack("<BIiiBHH", 1, 200000000 + number // 4000 * 200 + sender, 105314976 + turn, 548652841 + turn, 0x2C, 24100, 615)
             yield frame(at, 4, 129038, sender, bytes([turn // 20 % 8 << 5 | place]) + ship[7 * place:7 * place + 7].ljust(7, b"\xff"))
@@ -117,7 +118,7 @@ def crowd(count, rate, start=START):
 
 
 def flood(count, rate, start=START):
-    """241 devices in turns; each says of 110 engines, one after another, that one has to be checked."""
+    """241 devices in turn; each reports for 110 engines, one after another, that the engine has to be checked."""
     for number in range(count):
         sender, instance = number % 241, number // 241 % 110
         engine = struct.pack("<BHHHhhIHHBHHbb", instance, 4120, 0xFFFF, 35615, 1421, 62, 4215600, 0xFFFF, 0xFFFF, 0xFF, 1, 0, 0x7F, 0x7F)

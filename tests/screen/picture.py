@@ -1,22 +1,23 @@
 #!/usr/bin/env python3
-"""What a terminal shows as a picture (SVG), from what `tmux capture-pane -e -p` prints of it: picture.py COLUMNS [SCHEME] < screen
+"""Draws a terminal as a picture (SVG), from the output of `tmux capture-pane -e -p`: picture.py COLUMNS [SCHEME] <
+screen
 
-SCHEME is light or dark; without it the picture goes by the reader's own.
+SCHEME is light or dark; without it the picture follows the reader's own.
 """
 import html
 import re
 import sys
 
-# Of a cell: its width and height, and where in it the text stands.
+# The width and height of a cell, and the position of the text in it.
 WIDE, HIGH, BASE, MARGIN = 8, 17, 13, 10
 SGR = re.compile(r"\x1b\[([0-9;]*)m")
-# The eight colours as xterm has them; on a light ground the light ones a little darker, as terminals with such a ground do.
+# xterm's eight colours; on a light background the light ones are a little darker, as terminals show them.
 NAMED = ["#000000", "#cd0000", "#00a000", "#a08000", "#0000ee", "#cd00cd", "#00a0a0", "#c0c0c0"]
 GROUNDS = {"light": ("#ffffff", "#24292f", "#8a929a"), "dark": ("#0d1117", "#d5dce3", "#7d8790")}
 
 
 def colour(number):
-    """One of the 256 colours, as xterm has them."""
+    """One of xterm's 256 colours."""
     if number < 16:
         return NAMED[number % 8]
     if number > 231:
@@ -27,7 +28,7 @@ def colour(number):
 
 
 def pen_after(pen, words):
-    """The pen after the words of one sequence: its colour, and what else holds."""
+    """The pen after the numbers of one sequence: its colour and attributes."""
     pen, words = dict(pen), [int(it or 0) for it in words.split(";")]
     while words:
         word = words.pop(0)
@@ -52,7 +53,7 @@ def pen_after(pen, words):
 
 
 def runs(line, pen):
-    """Pieces of one look: column, text, pen; and the pen after the line."""
+    """Runs with one look: column, text, pen; and the pen after the line."""
     found, column, place = [], 0, 0
     for it in [*SGR.finditer(line), None]:
         text = line[place:it.start() if it else len(line)]
@@ -65,7 +66,7 @@ def runs(line, pen):
 
 
 def piece(row, column, text, pen):
-    """A piece as SVG."""
+    """A run as SVG."""
     x, y, width = MARGIN + WIDE * column, MARGIN + HIGH * row, WIDE * len(text)
     drawn = ""
     if pen.get("turned"):
@@ -73,7 +74,7 @@ def piece(row, column, text, pen):
     kinds = "back" if pen.get("turned") else "faint" if pen.get("dim") else "ink"
     kinds += " bold" if pen.get("bold") else ""
     own = f' style="fill:{pen["colour"]}"' if "colour" in pen and not pen.get("turned") else ""
-    # Each part has its place, so that it stands right in any font.
+    # Each part has its own place, so that it is right in any font.
     for part in re.finditer(r"\S+(?: \S+)*", text):
         left, length = x + WIDE * part.start(), WIDE * len(part[0])
         drawn += f'<text class="{kinds}"{own} x="{left}" y="{y + BASE}" textLength="{length}">{html.escape(part[0])}</text>'

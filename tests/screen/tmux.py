@@ -1,4 +1,4 @@
-"""A terminal of tmux to run the screen in, with a shell, and what stands there."""
+"""A terminal of tmux with a shell, to run the screen in and to read it."""
 import os
 import shlex
 import subprocess
@@ -6,16 +6,16 @@ import time
 
 import picture
 
-# A condition is waited for as long as .ci/tests lets a script run, less a minute in which it says what did not come.
+# A condition may take as long as .ci/tests lets a script run, less a minute for reporting what did not happen.
 END = time.monotonic() + float(os.environ.get("SCRIPT_SECONDS", "inf")) - 60
 
 
 class Failed(Exception):
-    """What was waited for did not come."""
+    """A condition was not met in time."""
 
 
 def wait(what, terminal=None):
-    """A pause in a wait for this."""
+    """Pauses in a wait for this."""
     if time.monotonic() > END:
         raise Failed(f"{what} does not come" + ("; there stands:\n" + "\n".join(terminal.lines()) if terminal else ""))
     time.sleep(0.04)
@@ -46,7 +46,8 @@ class Terminal:
         return subprocess.run(["tmux", "-S", self.socket, "-f", "/dev/null", *words], stdout=subprocess.PIPE, stderr=subprocess.PIPE, check=True, encoding="utf-8").stdout
 
     def shown(self, *how):
-        """What stands there. A picture is put from the first row to the last, where the hidden cursor stays: it is whole then."""
+        """The text on the screen. A picture is drawn from the first row to the last, where the hidden cursor stays:
+        then it is complete."""
         while True:
             at, _, text = self.tmux("display-message", "-p", "#{cursor_flag} #{cursor_y} #{pane_height}", ";", "capture-pane", "-p", *how).partition("\n")
             flag, row, height = map(int, at.split())
@@ -61,11 +62,11 @@ class Terminal:
         return self.lines()[at]
 
     def last(self):
-        """The last line that has something."""
+        """The last line that is not empty."""
         return next((it for it in reversed(self.lines()) if it), "")
 
     def pieces(self):
-        """What stands there with its look: pieces of each line."""
+        """The screen with its looks: the runs of each line."""
         found, pen = [], {}
         for line in self.shown("-e", "-N").split("\n"):
             pieces, pen = picture.runs(line, pen)
@@ -86,13 +87,13 @@ class Terminal:
         self.keys("Enter")
 
     def until(self, condition, what):
-        """Waits until this holds."""
+        """Waits until the condition holds."""
         while True:
             try:
                 if found := condition(self):
                     return found
             except (IndexError, TypeError):
-                # It is not there yet.
+                # It does not exist yet.
                 pass
             wait(what, self)
 
@@ -104,20 +105,20 @@ class Terminal:
         self.see("ENDED")
 
     def state(self):
-        """What a program may leave behind in a terminal."""
+        """The state that a program may leave in a terminal."""
         return self.tmux("display-message", "-p", "alternate #{alternate_on} cursor #{cursor_flag} keypad #{keypad_flag}#{keypad_cursor_flag} "
                          "insert #{insert_flag} wrap #{wrap_flag} mouse #{mouse_any_flag}").strip()
 
     def settings(self):
-        """What stty says in the shell."""
+        """The output of stty in the shell."""
         self.run("clear; stty -g; echo said")
         self.until(lambda it: "said" in it.lines(), "what stty says")
         return self.line(0)
 
 
 def processes(text, room, of=None):
-    """The ids of the processes whose command line has this text, and whose environment a terminal of this room has given them; of
-    all, or of one."""
+    """The processes whose command line contains this text, and whose environment is from a terminal of this room: of
+    all terminals, or of one."""
     found = []
     for process in map(int, [of] if of else filter(str.isdigit, os.listdir("/proc"))):
         try:

@@ -23,10 +23,10 @@ from screen.seen import CANDUMP, END, TIMESTAMP
 HOLE, PAUSE = 10.0, 2.0  # seconds
 WINDOW = 10  # seconds
 RATE = 250_000  # bits a second
-LONGEST = 6  # gaps that are kept of each flow, the longest ones
+LONGEST = 6  # the longest gaps kept of each flow
 MOST_FLOWS, MOST_LIST, MOST_LOADS = 4000, 1000, 720
 EDGE = 2  # seconds at the edges of a log and of a hole, where a message may be cut
-# What candump prints, as n2kdec reads it, in a block of lines.
+# The lines of candump in a block, as n2kdec reads them.
 FRAMES = re.compile(rb"^" + CANDUMP.pattern.replace(rb"(?: |\r?\Z)", rb"(?: [^\n]{0,1900}|\r?)$"), re.M)
 HEAD = re.compile(rb'\{"timestamp": ?"([^"\\]*)", ?"prio": ?\d+, ?"src": ?(\d+), ?"dst": ?(\d+), ?"pgn": ?(\d+),')
 REPORT = re.compile(r"line (\d+) (?:bad (B\d+)|broken pgn (\d+) src (\d+) dst (\d+) seq \d first (\d+))")
@@ -36,7 +36,8 @@ READ = {b"59904", b"60928", b"126992", b"126993", b"126996", b"126998", b"129029
 # PGNs that set an instance of another device, so that several devices may send them.
 COMMANDS = {126208, 127502, 128006, 128776, 130330, 130561}
 INSTANCES = ("Instance", "Battery Instance", "Bank Instance")
-# What an error frame says (linux/can/error.h): the bits of its class, and those of its byte 1 for the controller's state.
+# The meaning of an error frame (linux/can/error.h): the bits of its class, and the bits of its byte 1 for the
+# controller's state.
 ERRORS = {0x01: "transmit timeout", 0x02: "lost arbitration", 0x08: "protocol violation", 0x10: "transceiver fault", 0x20: "no acknowledgement",
           0x40: "bus off", 0x80: "bus error", 0x100: "controller restarted"}
 CONTROLLER = {0x01: "receive overflow", 0x02: "transmit overflow", 0x04: "many receive errors", 0x08: "many transmit errors", 0x10: "receive error passive",
@@ -98,7 +99,7 @@ class Flow:
         self.frames = self.messages = self.broken = self.cut = 0
         self.gaps = Gaps()
         self.steps = collections.Counter()
-        # The first time and the last: of messages that broke, and of steps over a message.
+        # The times of the first and the last broken message, and of the first and the last step over a message.
         self.lost, self.jumps = [], []
 
 
@@ -108,7 +109,7 @@ class Device:
     def __init__(self, sender):
         self.sender, self.frames, self.bits, self.window, self.messages = sender, 0, 0, 0, 0
         self.gaps, self.sequence, self.steps, self.jumps = Gaps(), None, collections.Counter(), []
-        self.era = 0  # another one where no step goes over: a claim, a pause
+        self.era = 0  # changes where no step counts: at a claim, after a pause
         self.product, self.installed, self.claim = {}, {}, {}
         self.heartbeat = None  # its last counter and time
 
@@ -158,16 +159,17 @@ class Facts:
         self.begin = self.at = None
         self.recorded = self.began = 0.0  # seconds outside of holes before this time
         self.frames = self.others = self.lines = self.all_lines = self.messages = self.errors = self.bits = 0
-        self.quiet = Gaps()  # the longest times without a line, of those over half a second
+        self.quiet = Gaps()  # the longest times without a line, if over half a second
         self.kinds_of_error, self.bad = collections.Counter(), collections.Counter()
         self.error_times = []
         self.holes, self.set_back, self.edges = [], [], set()
-        # The window that is counted now: its end and its bits; the greatest one with its begin and the bits of its senders.
+        # The current window: its end and its bits; the window with the most bits, with its beginning and the bits of
+        # its senders.
         self.window_end, self.window_bits, self.loads = 0.0, 0, Loads()
         self.most = (0, 0.0, {})
         self.requests, self.claims, self.names = collections.deque(maxlen=100), [], {}
         self.instances, self.clocks, self.restarts = {}, {}, []
-        # The stamps of the last lines, one for 16: a report names a line by its number.
+        # The timestamps of the last lines, one for every 16: a report names a line by its number.
         self.size = 1 << (window + 300000).bit_length() - 4
         self.stamps = array.array("d", bytes(8 * self.size))
         self.has_frames = self.has_wholes = self.has_messages = False
@@ -317,7 +319,7 @@ class Facts:
                     if len(word) == 8:
                         self.error(int(word, 16), unhex(digits))
                     else:
-                        # Of another protocol, with an identifier of 11 bits.
+                        # A frame of another protocol, with an identifier of 11 bits.
                         self.others += 1
                         bits = bits_of(word.decode(), unhex(digits))
                         self.bits += bits
@@ -506,7 +508,7 @@ class Facts:
         name = tuple(sorted((key, str(value)) for key, value in fields.items()))
         was_asked = any(0 <= at - then <= 2 and to in (255, sender) for then, to in self.requests)
         if len(self.claims) < MOST_LIST:
-            # Whether the device sent before; the claim's time has milliseconds alone.
+            # Whether the device sent before; the claim's time has only milliseconds.
             was_there = device.gaps.first is not None and device.gaps.first < at - 0.002
             self.claims.append((at, sender, was_asked, was_there))
         places = self.names.setdefault(name, {}) if len(self.names) < MOST_LIST else self.names.get(name, {})
@@ -529,7 +531,7 @@ class Facts:
             return True
         at = self.time_of(int(found[6]))
         flow = self.flow(int(found[4]), int(found[3]))
-        # What the begin of the log, or a hole, has cut is not lost.
+        # A message cut by the beginning of the log, or by a hole, is not lost.
         if int(at) in self.edges:
             flow.cut += 1
         else:

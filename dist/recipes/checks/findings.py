@@ -5,16 +5,16 @@ from screen import page
 from checks.facts import PAUSE, RATE, WINDOW, rounded
 from checks.text import lasts, many, seldom, share, text_of
 
-# From here on there is a finding.
+# The limits from which on there is a finding.
 LEAST_LOST, LEAST_SHARE = 3, 0.001  # fast packets of a device
 LEAST_MISSED, LEAST_MISSED_SHARE = 5, 0.01  # messages of one frame
 OVERLOAD = 0.8  # of the bus, in a window
 QUIET = 5.0  # seconds without a frame
 CLOCK = 5.0  # seconds by which a clock may be off
 LEAST_BAD, LEAST_BAD_SHARE = 10, 0.001  # lines
-WEEKS = 1024 * 7 * 86400  # seconds after which a GPS's number of the week is the same
+WEEKS = 1024 * 7 * 86400  # seconds after which a GPS's week number repeats
 YEAR_2000 = 946684800
-# The order of harm.
+# From most to least harmful.
 HARM = ["no power", "bus off", "no acknowledgement", "overload", "recording loses", "gone", "two names", "double name", "no address", "loss", "silence",
         "restart", "moved", "errors", "instance", "missed", "stopped", "paused", "device clock", "log clock", "clock jump", "set back", "hole", "bad", "no clock"]
 
@@ -121,7 +121,7 @@ class Findings:
             self.of.setdefault(sender, []).append(it)
         self.losses = {sender: Loss(it, self.of[sender]) for sender, it in facts.devices.items()}
         self.moved, self.silences = set(), {}
-        # When the whole bus was silent: that is no device's silence.
+        # The silences of the whole bus, which are not a device's.
         self.quiets = [(end - length, end) for length, end in facts.quiet.longest if length >= PAUSE]
         if facts.begin is not None:
             self.names()
@@ -232,7 +232,7 @@ class Findings:
             else:
                 text = f"{self.label(sender)} restarted {len(had)} times, first at {self.when(had[0])}, last at {self.when(had[-1])}."
             self.add("restart", text, sender, len(had), had[0], had[-1], count=len(had))
-        # All at once, after a time without a frame: no power.
+        # All at once after a time without a frame: no power.
         done = -math.inf
         for at, _, was_there in rounds:
             here = [it for it in rounds if abs(it[0] - at) <= 2]
@@ -265,7 +265,7 @@ class Findings:
             pauses = [(end - length, end) for length, end in device.gaps.longest if length > limit]
             count = sum(often for length, often in device.gaps.lengths.items() if length / 1000 > limit)
             since = device.gaps.newest
-            # After a short silence a restart says more.
+            # After a short silence, a restart explains more.
             has_restarted = [(begin, end) for begin, end in pauses if any(0 <= at - end <= 10 or begin <= at <= end + 1 for at in self.restarted.get(sender, ()))]
             self.silences[sender] = [*pauses, *([(since, facts.at)] if facts.at - since > limit else [])]
             if facts.at - since > limit:
@@ -312,7 +312,7 @@ class Findings:
         facts = self.facts
         sending = [sender for sender, it in self.losses.items() if it.complete >= 20]
         losing = [sender for sender in sending if self.losses[sender].is_found]
-        # A line that can't be read may have been a frame of any device.
+        # An unreadable line may have been a frame of any device.
         if facts.bad and sum(it.lost for it in self.losses.values()) <= sum(facts.bad.values()):
             return
         usual = math.inf
@@ -322,7 +322,7 @@ class Findings:
             self.add("recording loses", f"{len(losing)} of {len(sending)} devices lose fast packets, {share(lost / (lost + complete))} of all, from {self.when(begin)} on: "
                      "the recording computer loses frames (ip -s -d link show can0), or the bus is disturbed.", None, lost, begin, None, lost=lost, devices=losing)
         for sender, it in self.losses.items():
-            # Where most lose, those are named that lose much more.
+            # If most devices lose messages, only those that lose much more are named.
             if it.is_found and not it.share < 3 * usual < math.inf:
                 begin, end = min(it.times), max(it.times)
                 parts = [f"{it.broken:,} incomplete" if it.broken else "", f"{it.skipped:,} missing by the sequence numbers" if it.skipped else ""]
@@ -417,7 +417,7 @@ class Findings:
                      (f", and {many(len(facts.set_back) - 1, 'time')} more." if len(facts.set_back) > 1 else "."), None, before - after, before, after,
                      count=len(facts.set_back))
         holes = [it for it in sorted([*facts.holes, *self.quiets]) if it[1] - it[0] >= QUIET and not any(it[0] <= one["from"] + 1 and one["to"] <= it[1] + 4 for one in self.power)]
-        # A bus on which little comes has no holes.
+        # A quiet bus has no holes.
         if holes and facts.frames + facts.messages >= facts.recorded:
             begin, end = max(holes, key=lambda it: it[1] - it[0])
             told = f"No frame came for {lasts(end - begin)} from {self.when(begin)} on" if len(holes) == 1 else \

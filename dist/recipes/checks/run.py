@@ -7,7 +7,7 @@ import sys
 from checks.facts import Facts
 from screen.log import Decoder, kinds_of
 
-MOST_WAITING = 1 << 18  # bytes that wait for the decoder
+MOST_WAITING = 1 << 18  # bytes that may wait for the decoder
 
 
 class Failed(Exception):
@@ -69,7 +69,7 @@ def read(facts, log, command, output=None):
                 elif len(rest) < 1 << 20:
                     rest += piece
                 else:
-                    # A line without an end is bad, however it goes on.
+                    # A line without an end is bad, however it continues.
                     piece = b""
                 is_open, piece = bool(piece), None
                 if not is_open and decoder and not decoder.backlog:

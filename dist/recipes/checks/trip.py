@@ -177,7 +177,7 @@ class Trip:
             if speed is not None and (had is None and len(self.wind) < MOST_THINGS or had and speed > had[0]):
                 self.wind[reference] = speed, at, self.way.place(at), sender
         else:
-            # A device may leave out which of one engine or battery it speaks of.
+            # A device may omit the instance of its only engine or battery.
             name = str(get("Instance", ""))
             if pgn == 127488:
                 self.thing(self.speeds, name, Over).add(sender, at, amount(get("Speed")))
@@ -194,7 +194,7 @@ class Trip:
                     if name in self.batteries:
                         self.volts[name] = min(had[0], volts), max(had[1], volts)
 
-    # -- What came of it.
+    # -- Results.
 
     def sums(self):
         """All sums, for programs: miles, seconds, litres, ampere hours, m/s, m."""

@@ -6,7 +6,7 @@ from checks.findings import Findings
 from checks.text import many, share, wrapped
 from screen.views import View, fits
 
-EVERY = 2.0  # seconds from one judgement to the next, and at least twenty times what one takes
+EVERY = 2.0  # seconds between judgements; at least twenty times the duration of one
 
 
 class Health(View):

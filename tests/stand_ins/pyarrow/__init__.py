@@ -1,4 +1,4 @@
-"""Stands in for pyarrow, which Debian 12 does not have: tables of typed columns, of which each value is checked."""
+"""A stand-in for pyarrow, which Debian 12 lacks: tables of typed columns; each value is checked."""
 import collections
 
 __version__ = "0"

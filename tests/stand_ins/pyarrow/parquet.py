@@ -1,4 +1,4 @@
-"""Files of the tables of the pyarrow that stands in: a line of JSON with the schema, and one for each table."""
+"""Files of the stand-in's tables: a line of JSON with the schema, and one for each table."""
 import json
 
 

@@ -1,4 +1,4 @@
-"""Stands in for s3fs, which Debian 12 does not have: the store s3:// of fsspec, on boto3."""
+"""A stand-in for s3fs, which Debian 12 lacks: the store s3:// of fsspec, on boto3."""
 import boto3
 from botocore.exceptions import ClientError
 from fsspec import AbstractFileSystem
