@@ -1,21 +1,31 @@
--- The first element from a place on that passes a test.
-use Rattle.std.proofs.Common.{◌≡◌, ℕ, zero, suc, ◌+◌, Bool, true, false, List, [], ◌∷◌, drop, Option, Some, None, refl, ap, sym, ◌∙◌, arith}
-use Rattle.std.specs.List.{find, slice_get}
+-- The definitions that are meant, one after the other, each with its place.
+use Rattle.std.proofs.Common.{◌≡◌, ℕ, zero, suc, ◌+◌, Bool, true, false, List, [], ◌∷◌, map, drop, Some, None, refl, ap, add-one, arith}
+use Rattle.std.specs.List.{filter, slice_get, enumerate_from}
 
-pub find_end : {A : Type 0} → (p : A → Bool) (xs : List A) (k : ℕ) → slice_get xs k ≡ None → find p (drop k xs) ≡ None
-find_end p [] zero e = refl
-find_end p [] (suc k) e = refl
-find_end p (x ∷ xs) zero e = absurd cc
-find_end p (x ∷ xs) (suc k) e = find_end p xs k e
+drop_end : {A : Type 0} → (xs : List A) (k : ℕ) → slice_get xs k ≡ None → drop k xs ≡ []
+drop_end [] zero e = refl
+drop_end [] (suc k) e = refl
+drop_end (x ∷ xs) zero e = absurd cc
+drop_end (x ∷ xs) (suc k) e = drop_end xs k e
 
-pub find_here : {A : Type 0} → (p : A → Bool) (xs : List A) (k : ℕ) (x : A) → slice_get xs k ≡ Some x → p x ≡ true → find p (drop k xs) ≡ Some x
-find_here p [] zero x e t = absurd cc
-find_here p [] (suc k) x e t = absurd cc
-find_here p (y ∷ xs) zero x e t = grind (arith, e, t)
-find_here p (y ∷ xs) (suc k) x e t = find_here p xs k x e t
+drop_at : {A : Type 0} → (xs : List A) (k : ℕ) (x : A) → slice_get xs k ≡ Some x → drop k xs ≡ x ∷ drop (suc k) xs
+drop_at [] zero x e = absurd cc
+drop_at [] (suc k) x e = absurd cc
+drop_at (y ∷ xs) zero x e = grind (arith, e)
+drop_at (y ∷ xs) (suc k) x e = drop_at xs k x e
 
-pub find_next : {A : Type 0} → (p : A → Bool) (xs : List A) (k : ℕ) (x : A) → slice_get xs k ≡ Some x → p x ≡ false → find p (drop (suc k) xs) ≡ find p (drop k xs)
-find_next p [] zero x e t = absurd cc
-find_next p [] (suc k) x e t = absurd cc
-find_next p (y ∷ xs) zero x e t = grind (arith, e, t)
-find_next p (y ∷ xs) (suc k) x e t = find_next p xs k x e t
+module _ {A B : Type 0} (p : ℕ × A → Bool) (h : ℕ × A → B) (xs : List A) (k : ℕ) where
+  pub none_left : slice_get xs k ≡ None → map h (filter p (enumerate_from k (drop k xs))) ≡ []
+  none_left e = ap (λ ys. map h (filter p (enumerate_from k ys))) (drop_end xs k e)
+
+  pub left_out : (x : A) → slice_get xs k ≡ Some x → p (k, x) ≡ false
+      → map h (filter p (enumerate_from k (drop k xs))) ≡ map h (filter p (enumerate_from (k + 1) (drop (k + 1) xs)))
+  left_out x e other =
+      let here : drop k xs ≡ x ∷ drop (k + 1) xs = rw add-one (drop_at xs k x e) in
+      rw (here, other) refl
+
+  pub next_left : (x : A) → slice_get xs k ≡ Some x → p (k, x) ≡ true
+      → map h (filter p (enumerate_from k (drop k xs))) ≡ h (k, x) ∷ map h (filter p (enumerate_from (k + 1) (drop (k + 1) xs)))
+  next_left x e passes =
+      let here : drop k xs ≡ x ∷ drop (k + 1) xs = rw add-one (drop_at xs k x e) in
+      rw (here, passes) refl

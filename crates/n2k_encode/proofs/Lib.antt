@@ -1,9 +1,13 @@
+pub mod Befores
 pub mod Firsts
-pub mod Prefixes
+pub mod Laid
 pub mod Near
 pub mod NoObjects
+pub mod Pairs
 pub mod Pieces
 pub mod Places
+pub mod Prefixes
 pub mod Requests
 pub mod Scaling
+pub mod Sound
 pub mod Units

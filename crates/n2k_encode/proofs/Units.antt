@@ -1,5 +1,5 @@
 -- Numbers of units are no greater than what is scaled.
-use Rattle.std.proofs.Common.{◌≡◌, ℕ, ◌+◌, ◌*◌, ◌/◌, ◌≤◌, ◌<◌, ◌^◌, Bool, List, Option, Some, None, arith, refl}
+use Rattle.std.proofs.Common.{◌≡◌, ℕ, ◌+◌, ◌*◌, ◌≤◌, ◌^◌, Bool, List, Option, Some, None, arith, refl}
 use Rattle.std.proofs.Math.Nat.{div-le_self}
 use Rattle.fast_float.specs.Text.{scan}
 use Rattle.n2k_table.specs.declared.resolution.Resolution.{Resolution}

@@ -1,38 +1,25 @@
 -- Where the fields of a message are set in its data, and where the data may end: docs/PROFILE.md, JSON back to messages.
-use Rattle.std.specs.Prelude.{ℕ, ◌+◌, ◌/◌, nat_lt, nat_le, max, Bool, true, false, not, ◌&&◌, ◌||◌, List, [], ◌∷◌, length, replicate}
-use Rattle.std.specs.Prelude.{Option, Some, None, if◌then◌else◌}
-use Rattle.std.specs.List.{list_all}
+use Rattle.std.specs.Prelude.{ℕ, ◌+◌, ◌-◌, ◌/◌, nat_lt, nat_le, max, Bool, true, false, not, ◌&&◌, ◌||◌, List, [], ◌∷◌, length, replicate}
+use Rattle.std.specs.Prelude.{fold, Option, Some, None, Result, Ok, Err, if◌then◌else◌}
+use Rattle.std.specs.List.{list_all, find}
 use Rattle.std.specs.Option.{option_and_then}
 use Rattle.std.specs.Str.{bytes_eq}
+use Rattle.json.specs.Json.{Json, Items, no_items, item}
+use Rattle.n2k_wire.specs.Steps.{◌>>=◌, or_cause, holds_or}
 use Rattle.n2k_table.specs.declared.definition.Kind.{Kind}
 use Rattle.n2k_table.specs.declared.definition.Kind.TheVariants.{Single, Fast}
+use Rattle.n2k_table.specs.Definition.{DefinitionParts}
 use Rattle.n2k_table.specs.Field.{FieldParts, is_string}
-use Rattle.n2k_table.specs.Repeat.{RepeatParts, sets_in}
+use Rattle.n2k_table.specs.Repeat.{RepeatParts, from_first, sets_in}
 use Rattle.n2k_encode.specs.declared.coded.Layer.{Layer}
 use Rattle.n2k_encode.specs.declared.coded.Layer.TheVariants.{Reserved, Asked, Given}
+use Rattle.n2k_encode.specs.declared.draft.Draft.{Draft}
+use Rattle.n2k_encode.specs.declared.value.Style.{Style}
+use Rattle.n2k_encode.specs.Coded.{CodedParts, coded_all, coded_sets, is_given, is_reserved, is_same_layer}
+use Rattle.n2k_encode.specs.Given.{given_sets}
 use Rattle.n2k_encode.specs.Place.{put_bytes, put_code, end_of}
+use Rattle.n2k_encode.specs.Refusal.{CauseParts, is_size, size, none_shows}
 use Rattle.n2k_encode.specs.Value.{CodeParts, bits, bytes}
-
--- a field with what it is set to, and when
-pub record CodedParts : Type 0 where
-  pub field : FieldParts
-  pub layer : Layer
-  pub code : CodeParts
-
-abbrev pub is_given : Layer → Bool
-is_given Reserved = false
-is_given Asked = false
-is_given Given = true
-
-abbrev pub is_reserved : Layer → Bool
-is_reserved Reserved = true
-is_reserved Asked = false
-is_reserved Given = false
-
-abbrev pub is_same_layer : Layer → Layer → Bool
-is_same_layer Reserved own = is_reserved own
-is_same_layer Asked own = not (is_reserved own || is_given own)
-is_same_layer Given own = is_given own
 
 -- A field is set in its layer, and a string in the first one too, since others are placed by it.
 abbrev pub is_set_in : Layer → CodedParts → Bool
@@ -86,6 +73,10 @@ is_shorter width (bytes bs) = nat_lt (length bs) width
 abbrev pub is_cut : CodedParts → Bool
 is_cut c = is_given c.layer && is_shorter (c.field.bits / 8) c.code
 
+-- the end of the first such field
+abbrev pub short_end : List ℕ → List CodedParts → Option ℕ
+short_end payload cs = option_and_then (λ c. end_of c.field c.code payload) (find is_cut cs)
+
 -- data with the first of these sets at a byte, and the byte after it, if the set is there and fits
 abbrev pub with_set : List (List ℕ) → ℕ → List ℕ → List ℕ × Option ℕ
 with_set [] at payload = (payload, None)
@@ -95,6 +86,46 @@ with_set (set ∷ sets) at payload =
 abbrev pub with_next : RepeatParts → List ℕ → Option ℕ → List ℕ → List ℕ × Option ℕ
 with_next r room None payload = (payload, None)
 with_next r room (Some at) payload = with_set (sets_in r room) at payload
+
+-- Data with sets: where the last of them ends, if that is known, and whether in each of them no two given fields
+-- disagree about a bit.
+pub record SetsParts : Type 0 where
+  pub payload : List ℕ
+  pub end : Option ℕ
+  pub agree : Bool
+
+-- the data with one more set
+abbrev pub with_set_of : RepeatParts → SetsParts → List CodedParts → SetsParts
+with_set_of r all cs = record {
+  payload = (with_next r (put_all cs blank) all.end all.payload).0;
+  end = (with_next r (put_all cs blank) all.end all.payload).1;
+  agree = all.agree && agree (put_all cs blank) cs;
+}
+
+-- the data with all of these sets, one after the other, or the cause if a set has one
+abbrev pub laid_sets : RepeatParts → SetsParts → Result (List (List CodedParts)) CauseParts → Result SetsParts CauseParts
+laid_sets r start (Ok sets) = Ok (fold (with_set_of r) start sets)
+laid_sets r start (Err cause) = Err cause
+
+-- the data without sets, which end nowhere
+abbrev pub without_sets : List ℕ → SetsParts
+without_sets payload = record { payload = payload; end = Some 0; agree = true }
+
+-- the byte of the data at which the first set begins
+abbrev pub first_set : RepeatParts → List ℕ → ℕ
+first_set r payload = length payload - length (from_first r payload)
+
+abbrev pub is_none_given : Items → Bool
+is_none_given no_items = true
+is_none_given (item j js) = false
+
+-- the data with the sets that a line gives
+abbrev pub laid_repeat : Style → Option RepeatParts → Option Items → List ℕ → Result SetsParts CauseParts
+laid_repeat s None js payload = Ok (without_sets payload)
+laid_repeat s (Some r) None payload = Ok (without_sets payload)
+laid_repeat s (Some r) (Some js) payload =
+    if is_none_given js then Ok (without_sets payload)
+    else laid_sets r (record { payload = payload; end = Some (first_set r payload); agree = true }) (coded_sets s r.fields js)
 
 abbrev pub name_of_first : List FieldParts → List ℕ
 name_of_first [] = []
@@ -111,3 +142,26 @@ abbrev pub whole_end : Option ℕ → Kind → ℕ → ℕ
 whole_end (Some end) kind last = end
 whole_end None Single last = 8
 whole_end None Fast last = last
+
+-- The data by a definition for what a line gives, and where they may end. Values are looked at first, then the size, and
+-- then whether two given fields disagree about a bit.
+unfoldable pub draft_in : Style → DefinitionParts → Kind → Json → Result Draft CauseParts
+draft_in s d kind j = do
+  cs ← coded_all s j d.fields
+  sets ← laid_repeat s d.repeat (given_sets j) (put_all cs blank)
+  needed ← or_cause size (last_of (end_of_all false (put_all cs blank) 0 cs) sets.end)
+  last ← or_cause size (last_of (end_of_all true (put_all cs blank) 0 cs) sets.end)
+  few ← holds_or size (nat_le needed (most_data kind))
+  same ← holds_or (none_shows (name_of_first d.fields)) (agree (put_all cs blank) cs && sets.agree)
+  Ok (record { bytes = sets.payload; needed = needed; whole = whole_end (short_end (put_all cs blank) cs) kind last })
+
+-- a result, or another if the first is too long
+abbrev pub unless_long : Result Draft CauseParts → Result Draft CauseParts → Result Draft CauseParts
+unless_long (Ok made) other = Ok made
+unless_long (Err cause) other = if is_size cause then other else Err cause
+
+-- The draft of a line. If it is too long, strings have their shortest encodings.
+unfoldable pub draft_for : Bool → DefinitionParts → Kind → Json → Result Draft CauseParts
+draft_for nearest d kind j =
+    unless_long (draft_in (record { nearest = nearest; shortest = false }) d kind j)
+    (draft_in (record { nearest = nearest; shortest = true }) d kind j)

@@ -1,7 +1,9 @@
+pub mod Coded
 pub mod Draft
 pub mod Encoded
 pub mod Given
 pub mod Numeral
+pub mod Payload
 pub mod Place
 pub mod Reading
 pub mod Refusal

@@ -55,18 +55,17 @@ name_of (Value name) = name.now
 name_of Size = []
 name_of (Data name) = name.now
 
--- Causes that are possible only if all names are known: a value, the size, or no data that show everything given.
-abbrev pub is_late : CauseParts → Bool
-is_late long = false
-is_late not_json = false
-is_late member = false
-is_late unknown = false
-is_late address = false
-is_late description = false
-is_late (field name) = false
-is_late (value name) = true
-is_late size = true
-is_late (none_shows name) = true
+abbrev pub is_size : CauseParts → Bool
+is_size long = false
+is_size not_json = false
+is_size member = false
+is_size unknown = false
+is_size address = false
+is_size description = false
+is_size (field name) = false
+is_size (value name) = false
+is_size size = true
+is_size (none_shows name) = false
 
 -- this is true of the cause, unless memory was refused
 abbrev pub IfRefused : EncodeError → (CauseParts → Type 0) → Type 0

@@ -1,5 +1,7 @@
 -- Steps that may find no value, in sequence.
-use Rattle.std.specs.Prelude.{◌≡◌, Bool, Option, Some, None, Result, Ok, Err}
+use Rattle.std.specs.Prelude.{◌≡◌, ⊤, Bool, List, ◌++◌, Option, Some, None, Result, Ok, Err}
+use Rattle.n2k_encode.specs.declared.refusal.EncodeError.{EncodeError}
+use Rattle.n2k_encode.specs.declared.refusal.EncodeError.TheVariants.{Memory, Refused}
 use Rattle.n2k_encode.specs.declared.refusal.Refusal.{Refusal}
 use Rattle.n2k_encode.specs.Refusal.{CauseParts, cause}
 
@@ -17,6 +19,17 @@ is_some_with p (Some x) = p x
 abbrev pub Yields : {X Y E : Type 0} → (X → Y) → Result X E → Option Y → Type 0
 Yields view (Ok x) said = said ≡ Some (view x)
 Yields view (Err cause) said = said ≡ None
+
+-- What was answered is what the definition gives, a value or a cause, where memory was not refused.
+abbrev pub Gives : {X Y : Type 0} → (X → Y) → Result X EncodeError → Result Y CauseParts → Type 0
+Gives view (Ok x) said = said ≡ Ok (view x)
+Gives view (Err Memory) said = ⊤
+Gives view (Err (Refused refusal)) said = said ≡ Err (cause refusal)
+
+-- these elements before others, unless there is a cause
+abbrev pub before_all : {X : Type 0} → List X → Result (List X) CauseParts → Result (List X) CauseParts
+before_all prefix (Ok xs) = Ok (prefix ++ xs)
+before_all prefix (Err cause) = Err cause
 
 -- the first value, or the second if there is no first
 abbrev pub first_of : {A : Type 0} → Option A → Option A → Option A

@@ -1,10 +1,14 @@
 -- The bytes that the texts of fields are.
-use Rattle.std.specs.Prelude.{ℕ, ◌+◌, ◌-◌, ◌*◌, ◌==◌, nat_lt, nat_le, Bool, false, not, ◌&&◌, ◌||◌, List, [], ◌∷◌, ◌++◌, length}
-use Rattle.std.specs.Prelude.{replicate, slice_get, Option, Some, None, option_map, if◌then◌else◌}
+use Rattle.std.specs.Prelude.{ℕ, ◌+◌, ◌-◌, ◌*◌, ◌/◌, ◌%◌, ◌==◌, nat_lt, nat_le, Bool, false, not, ◌&&◌, ◌||◌, List, [], ◌∷◌, ◌++◌, length}
+use Rattle.std.specs.Prelude.{replicate, slice_get, flat_map, Option, Some, None, option_map, if◌then◌else◌}
+use Rattle.std.specs.Char.Escape.{encode_utf16}
+use Rattle.std.specs.Str.{chars, is_utf8}
 use Rattle.n2k_wire.specs.Steps.{some_if}
 use Rattle.n2k_table.specs.declared.string_place.Form.{Form}
 use Rattle.n2k_table.specs.declared.string_place.Form.TheVariants.{Lau, Lz}
 use Rattle.n2k_table.specs.Shown.{is_filling}
+use Rattle.n2k_table.specs.Strings.{is_filling_unit}
+use Rattle.n2k_table.specs.Text.{space}
 use Rattle.n2k_encode.specs.Steps.{◌>>=◌}
 
 -- the most bytes of a field that is not numeric: a string with its length
@@ -45,6 +49,29 @@ hex_byte high low = do
   b ← hex_digit low
   Some (16 * a + b)
 
+-- a byte, if there is one, before others
+abbrev pub byte_before : Option ℕ → Option (List ℕ) → Option (List ℕ)
+byte_before None rest = None
+byte_before (Some b) rest = before (b ∷ []) rest
+
+-- the bytes of pairs of upper hexadecimal digits with a space between them
+abbrev mutual
+  pub some_pairs : List ℕ → Option (List ℕ)
+  some_pairs [] = None
+  some_pairs (high ∷ text) = pairs_from high text
+
+  pub pairs_from : ℕ → List ℕ → Option (List ℕ)
+  pairs_from high [] = None
+  pairs_from high (low ∷ text) = byte_before (hex_byte high low) (later_pairs text)
+
+  pub later_pairs : List ℕ → Option (List ℕ)
+  later_pairs [] = Some []
+  later_pairs (between ∷ text) = if between == space then some_pairs text else None
+
+abbrev pub hex_bytes : List ℕ → Option (List ℕ)
+hex_bytes [] = Some []
+hex_bytes (b ∷ bs) = some_pairs (b ∷ bs)
+
 -- the value of a decimal digit
 abbrev pub digit : ℕ → Option ℕ
 digit b = if nat_le 48 b && nat_le b 57 then Some (b - 48) else None
@@ -55,6 +82,16 @@ digits_byte high low = do
   a ← digit high
   b ← digit low
   Some (10 * a + b)
+
+-- the bytes of pairs of decimal digits
+abbrev mutual
+  pub digit_pairs : List ℕ → Option (List ℕ)
+  digit_pairs [] = Some []
+  digit_pairs (high ∷ text) = digit_pairs_from high text
+
+  pub digit_pairs_from : ℕ → List ℕ → Option (List ℕ)
+  digit_pairs_from high [] = None
+  digit_pairs_from high (low ∷ text) = byte_before (digits_byte high low) (digit_pairs text)
 
 -- bytes padded with FF to a length; none if they are longer
 abbrev pub filled : ℕ → List ℕ → Option (List ℕ)
@@ -72,3 +109,39 @@ ends_full bs = is_full_end (slice_get bs (length bs - 1))
 abbrev pub narrow_string : Form → List ℕ → Option (List ℕ)
 narrow_string Lau cs = some_if (ends_full cs && nat_le (length cs) (most_bytes - 2)) ((length cs + 2) ∷ 1 ∷ cs)
 narrow_string Lz cs = some_if (ends_full cs && nat_le (length cs) (most_bytes - 1)) (length cs ∷ cs)
+
+-- a string of a byte for each character, which are not UTF-8 too
+abbrev pub latin1_string : Form → List ℕ → Option (List ℕ)
+latin1_string form text = do
+  cs ← within (latin1 text)
+  other ← some_if (not (is_utf8 cs)) cs
+  narrow_string form other
+
+-- a unit of UTF-16, low byte first
+abbrev pub unit_bytes : ℕ → List ℕ
+unit_bytes u = u % 256 ∷ u / 256 ∷ []
+
+-- a character in UTF-16
+abbrev pub wide_character : ℕ → List ℕ
+wide_character c = flat_map unit_bytes (encode_utf16 c)
+
+-- the last of some characters
+abbrev pub last_letter : List ℕ → Option ℕ
+last_letter cs = slice_get cs (length cs - 1)
+
+-- it does not fill a text up
+abbrev pub is_letter : Option ℕ → Bool
+is_letter None = false
+is_letter (Some c) = not (is_filling_unit c)
+
+abbrev pub ends_with_letter : List ℕ → Bool
+ends_with_letter cs = is_letter (last_letter cs)
+
+-- a string of UTF-16 after its length and the byte 0
+abbrev pub wide_string_of : List ℕ → Option (List ℕ)
+wide_string_of bs = within (Some ((length bs + 2) ∷ 0 ∷ bs))
+
+unfoldable pub utf16_string : List ℕ → Option (List ℕ)
+utf16_string text = do
+  letters ← some_if (ends_with_letter (chars text)) (chars text)
+  wide_string_of (flat_map wide_character letters)

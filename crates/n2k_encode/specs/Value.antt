@@ -1,6 +1,6 @@
 -- What a field is set to, to show a value that a line gives.
-use Rattle.std.specs.Prelude.{◌≡◌, ℕ, ℤ, pos, negsuc, neg_ℤ, ◌-ℤ◌, ◌+◌, ◌-◌, ◌*◌, ◌/◌, ◌^◌, ◌==◌, nat_lt, nat_le, Bool, not, ◌&&◌, ◌||◌, bit_or}
-use Rattle.std.specs.Prelude.{true, false, List, [], ◌∷◌, length, replicate, Option, Some, None, is_none, option_map, MatchOption, ⊤, if◌then◌else◌}
+use Rattle.std.specs.Prelude.{ℕ, ℤ, pos, negsuc, neg_ℤ, ◌-ℤ◌, ◌+◌, ◌-◌, ◌*◌, ◌/◌, ◌^◌, ◌==◌, nat_lt, nat_le, Bool, not, ◌&&◌, ◌||◌, bit_or}
+use Rattle.std.specs.Prelude.{false, List, [], ◌∷◌, length, replicate, Option, Some, None, is_none, option_map, if◌then◌else◌}
 use Rattle.std.specs.Int.RustNames.{unsigned_abs}
 use Rattle.std.specs.List.{find}
 use Rattle.std.specs.Option.{option_and_then}
@@ -19,8 +19,8 @@ use Rattle.n2k_table.specs.Lookup.{name_of_value}
 use Rattle.n2k_encode.specs.declared.value.Style.{Style}
 use Rattle.n2k_encode.specs.Numeral.{is_negative, digits_of, scaled, multiples}
 use Rattle.n2k_encode.specs.Request.{whole_number}
-use Rattle.n2k_encode.specs.Steps.{◌>>=◌}
-use Rattle.n2k_encode.specs.Texts.{latin1, filled, ends_full, narrow_string, within}
+use Rattle.n2k_encode.specs.Steps.{◌>>=◌, first_of}
+use Rattle.n2k_encode.specs.Texts.{latin1, filled, ends_full, hex_bytes, digit_pairs, narrow_string, latin1_string, utf16_string, within}
 
 -- how many of the greatest values of n bits say that none is there
 abbrev pub reserved : ℕ → ℕ
@@ -113,16 +113,42 @@ flags_raw entries n j = do
   raw ← flags_from entries n 0 js
   some_if (are_there n raw) raw
 
--- the bytes of a string, if UTF-8 shows the text
-abbrev pub IsString : Form → List ℕ → Option (List ℕ) → Type 0
-IsString form text found = MatchOption (narrow_string form text) ⊤ (λ bs. found ≡ Some bs)
-
 -- the bytes of a text, filled up
 unfoldable pub text_bytes : ℕ → List ℕ → Option (List ℕ)
 text_bytes width text = do
   bs ← within (latin1 text)
   full ← some_if (ends_full bs) bs
   filled width full
+
+-- the bytes of a field of bytes: all of them, or fewer if it may be short
+unfoldable pub plain_bytes : ℕ → Bool → List ℕ → Option (List ℕ)
+plain_bytes width short text = do
+  bs ← within (hex_bytes text)
+  some_if (length bs == width || (short && nat_lt (length bs) width)) bs
+
+-- the bytes of digits, of which there are some, filled up
+unfoldable pub digit_bytes : ℕ → List ℕ → Option (List ℕ)
+digit_bytes width text = do
+  bs ← within (digit_pairs text)
+  some ← some_if (nat_lt 0 (length bs)) bs
+  filled width some
+
+-- a string of UTF-16, which only one form has
+abbrev pub wide_string : Form → List ℕ → Option (List ℕ)
+wide_string Lau text = utf16_string text
+wide_string Lz text = None
+
+-- The first of the encodings of a string that shows a text: UTF-8, a byte for each character, and UTF-16.
+abbrev pub first_string : Form → List ℕ → Option (List ℕ)
+first_string form text = first_of (narrow_string form text) (first_of (latin1_string form text) (wide_string form text))
+
+-- The shortest. No other is shorter than that of a byte for each character.
+abbrev pub shortest_string : Form → List ℕ → Option (List ℕ)
+shortest_string form text =
+    first_of (latin1_string form text) (shorter_of (narrow_string form text) (wide_string form text))
+
+abbrev pub string_bytes : Bool → Form → List ℕ → Option (List ℕ)
+string_bytes shortest form text = if shortest then shortest_string form text else first_string form text
 
 -- the raw value, if the field asks for no other
 abbrev pub if_asked : Option ℕ → ℕ → Option ℕ
@@ -142,19 +168,18 @@ bits_for f (Some raw) = option_map bits (if_asked f.match_value raw)
 abbrev pub bytes_for : Option (List ℕ) → Option CodeParts
 bytes_for found = option_map bytes found
 
--- What is found is what a field of that meaning is set to, to show a value, if it can show the value. Of bytes, digits and
--- strings nothing is said here.
-abbrev pub IsCode : Style → FieldParts → Json → Meaning → Option CodeParts → Type 0
-IsCode s f j (means.number signed resolution) code =
-    code ≡ bits_for f (option_and_then (number_raw s.nearest signed f.bits resolution) (as_number j))
-IsCode s f j (means.shifted offset resolution) code =
-    code ≡ bits_for f (option_and_then (shifted_raw s.nearest f.bits offset resolution) (as_number j))
-IsCode s f j (means.named entries) code = code ≡ bits_for f (if_there entries f.bits (named_value entries j))
-IsCode s f j (means.flags entries) code = code ≡ bits_for f (flags_raw entries f.bits j)
-IsCode s f j means.text code = code ≡ bytes_for (option_and_then (text_bytes (f.bits / 8)) (as_str j))
-IsCode s f j means.bytes code = ⊤
-IsCode s f j means.digits code = ⊤
-IsCode s f j (means.string form) code = ⊤
+-- what a field of that meaning is set to, to show a value, if it can show the value
+abbrev pub code_for : Style → FieldParts → Json → Meaning → Option CodeParts
+code_for s f j (means.number signed resolution) =
+    bits_for f (option_and_then (number_raw s.nearest signed f.bits resolution) (as_number j))
+code_for s f j (means.shifted offset resolution) =
+    bits_for f (option_and_then (shifted_raw s.nearest f.bits offset resolution) (as_number j))
+code_for s f j (means.named entries) = bits_for f (if_there entries f.bits (named_value entries j))
+code_for s f j (means.flags entries) = bits_for f (flags_raw entries f.bits j)
+code_for s f j means.text = bytes_for (option_and_then (text_bytes (f.bits / 8)) (as_str j))
+code_for s f j means.bytes = bytes_for (option_and_then (plain_bytes (f.bits / 8) f.short) (as_str j))
+code_for s f j means.digits = bytes_for (option_and_then (digit_bytes (f.bits / 8)) (as_str j))
+code_for s f j (means.string form) = bytes_for (option_and_then (string_bytes s.shortest form) (as_str j))
 
 -- the empty string
 abbrev pub empty_string : Form → List ℕ

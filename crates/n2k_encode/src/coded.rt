@@ -1,7 +1,8 @@
 //! What fields are set to by what a line gives, and when.
-ghost use Rattle.std.specs.Prelude.{◌≡◌, true, IfErr};
-ghost use Rattle.n2k_encode.specs.Draft.{is_given, is_reserved};
-ghost use Rattle.n2k_encode.specs.Refusal.{is_late, IfRefused};
+ghost use Rattle.std.specs.Prelude.{◌≡◌, option_map};
+ghost use Rattle.json.specs.Value.{value_view};
+ghost use Rattle.n2k_encode.specs.Coded.{coded, coded_all, is_given, is_reserved};
+ghost use Rattle.n2k_encode.specs.Steps.{Gives};
 
 use crate::given::given;
 use crate::refusal::{EncodeError, Refusal};
@@ -28,7 +29,7 @@ pub(crate) struct Coded<'t> {
 }
 
 impl<'t> Model for Coded<'t> {
-    ghost use Rattle.n2k_encode.specs.Draft.{CodedParts};
+    ghost use Rattle.n2k_encode.specs.Coded.{CodedParts};
     ghost use Rattle.n2k_encode.specs.Views.{code_parts};
 
     ghost Value = { CodedParts };
@@ -53,7 +54,9 @@ impl<'t> Coded<'t> {
 }
 
 /// A field with what it is set to by what a line gives, if the field can show that.
-fn code_field<'t>(style: Style, field: &'t Field, value: Option<&Value<'_>>) -> Option<Coded<'t>> {
+fn code_field<'t>(style: Style, field: &'t Field, value: Option<&Value<'_>>) -> Option<Coded<'t>>
+    ensures { result ≡ coded style field.now (option_map (λ v. value_view v.now) value.entry) }
+{
     if let Some(value) = value {
         return Some(Coded {
             field,
@@ -76,13 +79,14 @@ fn code_field<'t>(style: Style, field: &'t Field, value: Option<&Value<'_>>) -> 
 }
 
 /// Fields with what they are set to by what a line gives.
+#[tactic(auto, using(crate::proofs::Befores::before_rules))]
 pub(crate) fn coded_fields<'t>(
     alloc: Global,
     style: Style,
     fields: &'t [Field],
     object: &Value<'_>,
 ) -> Result<Vec<Coded<'t>>, EncodeError<'t>>
-    ensures { IfErr result (λ error. IfRefused error (λ c. is_late c ≡ true)) }
+    ensures { Gives (λ all. all.items) result (coded_all style (value_view object.now) fields.now) }
 {
     let Ok(mut all) = Vec::with_capacity(alloc, fields.len()) else {
         return Err(EncodeError::Memory);

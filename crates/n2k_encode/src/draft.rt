@@ -1,8 +1,12 @@
 //! The data of a message by a definition, before it is asked whether they read back.
-ghost use Rattle.std.specs.Prelude.{◌≡◌, ◌≤◌, true, IfErr};
-ghost use Rattle.n2k_encode.specs.Draft.{agree, blank, end_of_all, end_with, has_code, is_cut, is_set_in, last_of, most_data};
-ghost use Rattle.n2k_encode.specs.Draft.{name_of_first, put_all, put_layer, whole_end, with_next};
-ghost use Rattle.n2k_encode.specs.Refusal.{is_late, IfRefused};
+ghost use Rattle.std.specs.Prelude.{◌≡◌, ◌≤◌, true, find, option_map, Some};
+ghost use Rattle.json.specs.Value.{value_view, items_view};
+ghost use Rattle.n2k_encode.specs.Coded.{coded_sets};
+ghost use Rattle.n2k_encode.specs.Draft.{agree, blank, draft_for, draft_in, end_of_all, end_with, has_code, is_cut, is_set_in, laid_repeat, is_none_given, laid_sets};
+ghost use Rattle.n2k_encode.specs.Draft.{last_of, most_data, name_of_first, put_all, put_layer, short_end, whole_end, with_next, SetsParts};
+ghost use Rattle.n2k_encode.specs.Given.{given_sets};
+ghost use Rattle.n2k_encode.specs.Refusal.{cause, is_size};
+ghost use Rattle.n2k_encode.specs.Steps.{Gives};
 
 use crate::coded::{Coded, Layer, coded_fields};
 use crate::given::given_sets;
@@ -16,7 +20,7 @@ use std::alloc::Global;
 /// Data, and where they may end.
 #[derive(Drop)]
 pub(crate) struct Draft {
-    pub(crate) data: [u8; MOST_DATA],
+    pub(crate) bytes: [u8; MOST_DATA],
     /// The byte after the last field that is given or asks for a value and after the last set.
     pub(crate) needed: usize,
     /// The byte after the last field and the last set.
@@ -128,14 +132,21 @@ fn is_cut(coded: &Coded<'_>) -> bool
     }
 }
 
-/// The end of the first field that is given fewer bytes than its width.
-fn short_end(fields: &[Coded<'_>], data: &[u8; MOST_DATA]) -> Option<usize> {
-    for coded in fields {
-        if is_cut(coded) {
-            return end_of(coded.field, &coded.code, data);
-        }
+/// The first field that is given fewer bytes than its width.
+fn first_cut<'c, 't>(fields: &'c [Coded<'t>]) -> Option<&'c Coded<'t>>
+    ensures { option_map (λ c. c.now) result ≡ find is_cut fields.now }
+{
+    fields.iter().find(|coded| is_cut(coded))
+}
+
+/// Its end.
+fn short_end(fields: &[Coded<'_>], data: &[u8; MOST_DATA]) -> Option<usize>
+    ensures { result ≡ short_end «data».now fields.now }
+{
+    match first_cut(fields) {
+        Some(coded) => end_of(coded.field, &coded.code, data),
+        None => None,
     }
-    None
 }
 
 /// Where sets end, if they fit, and whether in each of them no two given fields disagree about a bit.
@@ -172,6 +183,7 @@ fn append_set(
 }
 
 /// Appends sets to the data, those that fit.
+#[tactic(auto, using(crate::proofs::Laid::laid_rules))]
 fn put_sets<'t>(
     alloc: Global,
     style: Style,
@@ -180,7 +192,9 @@ fn put_sets<'t>(
     first: usize,
     data: &mut [u8; MOST_DATA],
 ) -> Result<Sets, EncodeError<'t>>
-    ensures { IfErr result (λ error. IfRefused error (λ c. is_late c ≡ true)) }
+    ensures { Gives (λ sets. record { payload = «data».new; end = sets.end; agree = sets.agree }) result
+        (laid_sets repeat.now (record { payload = «data».old; end = Some first; agree = true })
+        (coded_sets style repeat.now.fields (items_view sets.now))) }
 {
     let mut all = Sets {
         end: Some(first),
@@ -196,6 +210,14 @@ fn put_sets<'t>(
     Ok(all)
 }
 
+/// Whether there are no sets.
+#[tactic(auto, using(crate::proofs::Near::none_given))]
+fn is_none_given(sets: &[Value<'_>]) -> bool
+    ensures { result ≡ is_none_given (items_view sets.now) }
+{
+    sets.is_empty()
+}
+
 /// Appends the sets that a line gives.
 fn put_repeat<'t>(
     alloc: Global,
@@ -204,7 +226,8 @@ fn put_repeat<'t>(
     object: &Value<'_>,
     data: &mut [u8; MOST_DATA],
 ) -> Result<Sets, EncodeError<'t>>
-    ensures { IfErr result (λ error. IfRefused error (λ c. is_late c ≡ true)) }
+    ensures { Gives (λ sets. record { payload = «data».new; end = sets.end; agree = sets.agree }) result
+        (laid_repeat style (option_map (λ r. r.now) repeat.entry) (given_sets (value_view object.now)) «data».old) }
 {
     let Some(repeat) = repeat else {
         return Ok(NO_SETS);
@@ -212,7 +235,7 @@ fn put_repeat<'t>(
     let Some(sets) = given_sets(object) else {
         return Ok(NO_SETS);
     };
-    if sets.is_empty() {
+    if is_none_given(sets) {
         return Ok(NO_SETS);
     }
     let rest = repeat.from_first(data.as_slice());
@@ -249,20 +272,21 @@ fn whole_end(short: Option<usize>, kind: Kind, last: usize) -> usize
 }
 
 /// The data by a definition, for what a line gives.
-fn draft_of<'t>(
+#[tactic(auto, unfolding(crate::specs::Draft::draft_in))]
+fn draft_in<'t>(
     alloc: Global,
     style: Style,
     definition: &Definition<'t>,
     kind: Kind,
     object: &Value<'_>,
 ) -> Result<Draft, EncodeError<'t>>
-    ensures { IfErr result (λ error. IfRefused error (λ c. is_late c ≡ true)) }
+    ensures { Gives (λ draft. draft) result (draft_in style definition.now kind (value_view object.now)) }
 {
     let fields = coded_fields(alloc, style, definition.own_fields(), object)?;
     let mut own = blank();
     put_all(&fields, &mut own);
-    let mut data = own;
-    let sets = put_repeat(alloc, style, definition.repeated(), object, &mut data)?;
+    let mut bytes = own;
+    let sets = put_repeat(alloc, style, definition.repeated(), object, &mut bytes)?;
     let needed = last_of(end_of_all(false, &fields, &own), sets.end).ok_or(Refusal::Size)?;
     let last = last_of(end_of_all(true, &fields, &own), sets.end).ok_or(Refusal::Size)?;
     if needed > most_data(kind) {
@@ -273,21 +297,29 @@ fn draft_of<'t>(
     }
     let whole = whole_end(short_end(&fields, &own), kind, last);
     Ok(Draft {
-        data,
+        bytes,
         needed,
         whole,
     })
 }
 
+/// Whether a refusal says that data are too long.
+fn is_size(refusal: Refusal<'_>) -> bool
+    ensures { result ≡ is_size (cause refusal.entry) }
+{
+    matches!(refusal, Refusal::Size)
+}
+
 /// The data by a definition, for what a line gives. If they are too long, strings have their shortest encodings.
-pub(crate) fn shorter_draft<'t>(
+#[tactic(auto, unfolding(crate::specs::Draft::draft_for))]
+pub(crate) fn draft_for<'t>(
     alloc: Global,
     nearest: bool,
     definition: &Definition<'t>,
     kind: Kind,
     object: &Value<'_>,
 ) -> Result<Draft, EncodeError<'t>>
-    ensures { IfErr result (λ error. IfRefused error (λ c. is_late c ≡ true)) }
+    ensures { Gives (λ draft. draft) result (draft_for nearest definition.now kind (value_view object.now)) }
 {
     let first = Style {
         nearest,
@@ -297,9 +329,11 @@ pub(crate) fn shorter_draft<'t>(
         nearest,
         shortest: true,
     };
-    match draft_of(alloc, first, definition, kind, object) {
-        Err(EncodeError::Refused(Refusal::Size)) => {}
-        other => return other,
+    match draft_in(alloc, first, definition, kind, object) {
+        Ok(draft) => Ok(draft),
+        Err(EncodeError::Refused(refusal)) if is_size(refusal) => {
+            draft_in(alloc, shortest, definition, kind, object)
+        }
+        Err(error) => Err(error),
     }
-    draft_of(alloc, shortest, definition, kind, object)
 }

@@ -1,25 +1,29 @@
 //! A line of JSON as a message.
-ghost use Rattle.std.specs.Prelude.{◌≡◌, ◌<◌, ◌≤◌, true, filter, find, length, option_map, is_some, None, Err, IfErr, IfOk, IfSome};
+ghost use Rattle.std.specs.Prelude.{◌≡◌, ◌<◌, ◌≤◌, true, codes, length, option_map, unwrap_or, is_some, Some, Err, IfErr, IfOk, IfSome};
+ghost use Rattle.json.specs.Find.{as_str};
 ghost use Rattle.json.specs.Value.{value_view};
+ghost use Rattle.std.specs.Option.{option_and_then};
 ghost use Rattle.n2k_wire.specs.Packet.{is_stamp};
-ghost use Rattle.n2k_table.specs.Table.{choice, is_of};
-ghost use Rattle.n2k_encode.specs.Encoded.{longest_request, is_data, is_meant, is_unmatched, reads_as, reads_by, reads_unmatched};
-ghost use Rattle.n2k_encode.specs.Encoded.{definitions_of, is_chosen, matches_at};
-ghost use Rattle.n2k_encode.specs.Encoded.{data_cause, first_cause, object_cause, IsCause, IsEncoded, IsEncodedLine, IsLineCause, IsNoObject, IsObjectOf};
-ghost use Rattle.n2k_encode.specs.Given.{first_unknown, wrong_names};
-ghost use Rattle.n2k_encode.specs.Refusal.{cause, field, is_late, not_json, IfRefused};
+ghost use Rattle.n2k_table.specs.declared.definition.Kind.{Kind};
+ghost use Rattle.n2k_table.specs.Table.{kind as kind_of};
+ghost use Rattle.n2k_encode.specs.Encoded.{longest_request, IsEncodedLine, IsLineCause, IsNoObject, IsObjectOf};
+ghost use Rattle.n2k_encode.specs.Given.{given};
+ghost use Rattle.n2k_encode.specs.Payload.{culprit, cut, data_by, data_in, definitions_of, encoded, is_chosen, is_meant, is_unmatched};
+ghost use Rattle.n2k_encode.specs.Payload.{given_data, matched, matches_at, payload_for, sized, unmatched};
+ghost use Rattle.n2k_encode.specs.Refusal.{cause, description, not_json, IfRefused};
+ghost use Rattle.n2k_encode.specs.Steps.{first_of, Gives};
 ghost use Rattle.n2k_encode.specs.Views.{request_parts};
 
-use crate::draft::{Draft, first_name, most_data, shorter_draft};
+use crate::draft::{Draft, draft_for, first_name, most_data};
 use crate::given::{check_names, given, unknown_beside};
+use crate::place::MOST_DATA;
 use crate::reading::Reading;
 use crate::refusal::{EncodeError, Refusal};
 use crate::request::{Request, request_of};
-use crate::shows::is_hex;
-use crate::texts::hex_bytes;
+use crate::texts::{FieldBytes, are_pairs, hex_bytes};
 use arrayvec::ArrayVec;
 use json::{Error, Scratch, Value};
-use n2k_table::{Definition, KnownPgn, Table};
+use n2k_table::{Definition, Kind, KnownPgn, Table};
 use n2k_wire::{Packet, join_id};
 use std::alloc::{AllocError, Global};
 
@@ -66,65 +70,31 @@ fn is_meant(definition: &Definition<'_>, description: Option<&str>) -> bool
     }
 }
 
-/// Whether data read back as what a line gives, under a definition.
-fn reads_by(
-    definition: &Definition<'_>,
-    reading: Reading,
-    request: &Request<'_, '_>,
-    data: &[u8],
-) -> bool
-    ensures { result ≡ true → reads_by reading.nearest definition.now (request_parts request.now) «data».now ≡ true }
-{
-    is_meant(definition, request.description)
-        && check_names(definition, request.fields).is_ok()
-        && reading.shows_all(definition, request.fields, data)
-}
-
-/// The data of these bytes, if they are few enough and read back as what a line gives.
-fn read_back(
-    known: &KnownPgn<'_>,
-    reading: Reading,
-    request: &Request<'_, '_>,
-    bytes: &[u8],
-) -> Option<Payload>
-    ensures { IfSome result (λ payload. reads_as reading.nearest
-        (choice known.now.table known.now.pgn payload.items) (request_parts request.now) payload.items ≡ true) }
-{
-    let mut payload = Payload::new();
-    for byte in bytes {
-        if payload.is_full() {
-            return None;
-        }
-        payload.push(*byte);
-    }
-    let definition = known.choose(payload.as_slice())?;
-    if reads_by(&definition, reading, request, payload.as_slice()) {
-        Some(payload)
-    } else {
-        None
-    }
-}
-
-/// The first so many bytes of a draft, if they read back by the definition at a place.
+/// The first so many bytes of a draft by the definition at a place, if they read back.
+#[allow(clippy::too_many_arguments)]
 fn cut(
     known: &KnownPgn<'_>,
+    kind: Kind,
     place: usize,
+    definition: &Definition<'_>,
     reading: Reading,
-    request: &Request<'_, '_>,
-    draft: &Draft,
+    fields: &Value<'_>,
+    bytes: &[u8; MOST_DATA],
     length: usize,
 ) -> Option<Payload>
-    ensures { IfSome result (λ payload. reads_as reading.nearest
-        (choice known.now.table known.now.pgn payload.items) (request_parts request.now) payload.items ≡ true) }
+    ensures { option_map (λ payload. payload.items) result
+        ≡ cut (definitions_of known.now) kind place definition.now reading (value_view fields.now) bytes.now length }
 {
-    if length > most_data(known.kind()) {
+    if length > most_data(kind) {
         return None;
     }
-    let data = draft.data.get(..length)?;
-    if !is_chosen(known, place, data) {
+    let data = &bytes[..length];
+    if !(is_chosen(known, place, data) && reading.shows_all(definition, fields, data)) {
         return None;
     }
-    read_back(known, reading, request, data)
+    let mut payload = Payload::new();
+    payload.try_extend_from_slice(data).ok()?;
+    Some(payload)
 }
 
 /// The name that is reported if no data of a draft read back: that of the first field that shows something else than what
@@ -132,138 +102,159 @@ fn cut(
 fn culprit<'t>(
     definition: &Definition<'t>,
     reading: Reading,
-    object: &Value<'_>,
+    fields: &Value<'_>,
     draft: &Draft,
-) -> &'t str {
-    let data = draft.data.get(..draft.whole).unwrap_or(&[]);
-    let fields = definition.own_fields();
-    match reading.first_wrong(fields, object, data) {
+) -> &'t str
+    ensures { result.now ≡ culprit definition.now reading (value_view fields.now) draft.now }
+{
+    let data = draft.bytes.get(..draft.whole).unwrap_or(&draft.bytes);
+    match reading.first_wrong(definition.own_fields(), fields, data) {
         Some(field) => field.name(),
         None => first_name(definition),
     }
 }
 
-/// The data by the definition at a place, or why there are none, if its names are known.
-fn by_definition<'a>(
+/// The data by the definition at a place, or why there are none.
+#[tactic(auto, unfolding(crate::specs::Payload::data_by))]
+fn data_by<'a>(
     alloc: Global,
     known: &KnownPgn<'_>,
+    kind: Kind,
     place: usize,
     definition: &Definition<'a>,
     reading: Reading,
-    request: &Request<'_, '_>,
+    request: &Request<'_, 'a>,
 ) -> Result<Payload, EncodeError<'a>>
-    ensures reads { IfOk result (λ payload. reads_as reading.nearest
-        (choice known.now.table known.now.pgn payload.items) (request_parts request.now) payload.items ≡ true) }
-    ensures refused { IfErr result (λ error. IfRefused error (λ c. is_late c ≡ true)) }
+    ensures { Gives (λ payload. payload.items) result
+        (data_by (definitions_of known.now) kind reading (request_parts request.now) place definition.now) }
 {
-    let (nearest, fields) = (reading.nearest, request.fields);
-    let draft = shorter_draft(alloc, nearest, definition, known.kind(), fields)?;
-    if let Some(payload) = cut(known, place, reading, request, &draft, draft.whole) {
+    let fields = request.fields;
+    check_names(definition, fields)?;
+    let draft = draft_for(alloc, reading.nearest, definition, kind, fields)?;
+    if let Some(payload) = cut(
+        known,
+        kind,
+        place,
+        definition,
+        reading,
+        fields,
+        &draft.bytes,
+        draft.whole,
+    ) {
         return Ok(payload);
     }
-    if let Some(payload) = cut(known, place, reading, request, &draft, draft.needed) {
-        return Ok(payload);
+    match cut(
+        known,
+        kind,
+        place,
+        definition,
+        reading,
+        fields,
+        &draft.bytes,
+        draft.needed,
+    ) {
+        Some(payload) => Ok(payload),
+        None => Err(EncodeError::Refused(Refusal::Data(culprit(
+            definition, reading, fields, &draft,
+        )))),
     }
-    Err(EncodeError::Refused(Refusal::Data(culprit(definition, reading, fields, &draft))))
 }
 
-/// The data by the first definition that gives some.
-fn first_data(
-    alloc: Global,
-    known: &KnownPgn<'_>,
-    reading: Reading,
-    request: &Request<'_, '_>,
-) -> Result<Option<Payload>, AllocError>
-    ensures { IfOk result (λ found. IfSome found (λ payload. reads_as reading.nearest
-        (choice known.now.table known.now.pgn payload.items) (request_parts request.now) payload.items ≡ true)) }
+/// The earlier of two refusals.
+fn earlier<'a>(first: Option<Refusal<'a>>, next: Refusal<'a>) -> Refusal<'a>
+    ensures { Some (cause result) ≡ first_of (option_map cause first.entry) (Some (cause next.entry)) }
 {
-    for place in 0..usize::MAX {
-        let Some(definition) = known.definition(place) else {
-            break;
-        };
-        if is_meant(&definition, request.description)
-            && check_names(&definition, request.fields).is_ok()
-        {
-            match by_definition(alloc, known, place, &definition, reading, request) {
-                Ok(payload) => return Ok(Some(payload)),
-                Err(EncodeError::Memory) => return Err(AllocError),
-                Err(EncodeError::Refused(_)) => {}
-            }
-        }
+    match first {
+        Some(kept) => kept,
+        None => next,
     }
-    Ok(None)
 }
 
-/// Why the definition at a place gives no data.
-fn cause_by<'a>(
-    alloc: Global,
-    known: &KnownPgn<'a>,
-    place: usize,
-    definition: &Definition<'a>,
-    reading: Reading,
-    request: &Request<'_, 'a>,
-) -> EncodeError<'a>
-    ensures { IfRefused result (IsCause (wrong_names definition.now (request_parts request.now).fields)) }
+/// The first refusal, or that no definition has the description.
+fn last_refusal<'a>(first: Option<Refusal<'a>>) -> Refusal<'a>
+    ensures { cause result ≡ unwrap_or (option_map cause first.entry) description }
 {
-    if let Err(refusal) = check_names(definition, request.fields) {
-        return EncodeError::Refused(refusal);
-    }
-    match by_definition(alloc, known, place, definition, reading, request) {
-        Ok(_) => EncodeError::Refused(Refusal::Data(first_name(definition))),
-        Err(error) => error,
+    match first {
+        Some(refusal) => refusal,
+        None => Refusal::Description,
     }
 }
 
-/// Why no definition gives data: the cause of the first that is meant.
-fn first_cause<'a>(
+/// The data by the first definition that gives some. If none does, why the first that is meant gives none.
+fn data_in<'a>(
     alloc: Global,
     known: &KnownPgn<'a>,
+    kind: Kind,
     reading: Reading,
     request: &Request<'_, 'a>,
-) -> EncodeError<'a>
-    ensures { IfRefused result (IsCause (first_cause (find (is_meant (request_parts request.now).description)
-        (filter (is_of known.now.pgn) known.now.table.definitions)) (request_parts request.now))) }
+) -> Result<Payload, EncodeError<'a>>
+    ensures { Gives (λ payload. payload.items) result
+        (data_in (definitions_of known.now) kind reading (request_parts request.now)) }
 {
+    let mut first = None;
     for place in 0..usize::MAX {
         let Some(definition) = known.definition(place) else {
-            return EncodeError::Refused(Refusal::Description);
+            return Err(EncodeError::Refused(last_refusal(first)));
         };
-        if is_meant(&definition, request.description) {
-            return cause_by(alloc, known, place, &definition, reading, request);
+        if !is_meant(&definition, request.description) {
+            continue;
+        }
+        match data_by(alloc, known, kind, place, &definition, reading, request) {
+            Ok(payload) => return Ok(payload),
+            Err(EncodeError::Memory) => return Err(EncodeError::Memory),
+            Err(EncodeError::Refused(refusal)) => first = Some(earlier(first, refusal)),
         }
     }
-    EncodeError::Memory
+    Err(EncodeError::Memory)
+}
+
+/// The text of the one field of a message that no definition matches.
+fn data_text<'v, 'a>(fields: &'v Value<'a>) -> Option<&'v str>
+    ensures { option_map (λ text. text.now) result ≡ option_and_then as_str (given (codes "Data") (value_view fields.now)) }
+{
+    match given(fields, DATA) {
+        Some(value) => value.as_str(),
+        None => None,
+    }
+}
+
+/// Its bytes.
+fn given_data<'a>(fields: &Value<'_>) -> Result<FieldBytes, EncodeError<'a>>
+    ensures { Gives (λ bytes. bytes.items) result (sized (given_data (value_view fields.now))) }
+{
+    let Some(text) = data_text(fields) else {
+        return Err(EncodeError::Refused(Refusal::Value(DATA)));
+    };
+    match hex_bytes(text.as_bytes()) {
+        Some(bytes) => Ok(bytes),
+        None if are_pairs(text.as_bytes()) => Err(EncodeError::Refused(Refusal::Size)),
+        None => Err(EncodeError::Refused(Refusal::Value(DATA))),
+    }
 }
 
 /// The data that a line gives as they are, for a message that no definition matches.
-fn unmatched<'a>(known: &KnownPgn<'a>, request: &Request<'_, 'a>) -> Result<Payload, Refusal<'a>>
-    requires { is_unmatched (request_parts request.now).description ≡ true }
-    ensures reads { IfOk result (λ payload. (choice known.now.table known.now.pgn payload.items ≡ None)
-        × (reads_unmatched (request_parts request.now) payload.items ≡ true)) }
-    ensures refused { IfErr result (λ refusal. IsCause
-        (option_map field (first_unknown is_data (request_parts request.now).fields)) (cause refusal)) }
+#[tactic(auto, unfolding(crate::specs::Payload::unmatched))]
+fn unmatched<'a>(
+    known: &KnownPgn<'a>,
+    kind: Kind,
+    request: &Request<'_, 'a>,
+) -> Result<Payload, EncodeError<'a>>
+    requires { known.now.pgn ≡ request.now.id.pgn }
+    ensures { Gives (λ payload. payload.items) result (unmatched known.now.table kind (request_parts request.now)) }
 {
     if let Some(name) = unknown_beside(DATA, request.fields) {
-        return Err(Refusal::Field(name));
+        return Err(EncodeError::Refused(Refusal::Field(name)));
     }
-    let value = given(request.fields, DATA).ok_or(Refusal::Value(DATA))?;
-    let text = value.as_str().ok_or(Refusal::Value(DATA))?;
-    let bytes = hex_bytes(text.as_bytes()).ok_or(Refusal::Value(DATA))?;
-    if bytes.len() > most_data(known.kind()) {
-        return Err(Refusal::Size);
+    let bytes = given_data(request.fields)?;
+    if bytes.len() > most_data(kind) {
+        return Err(EncodeError::Refused(Refusal::Size));
     }
     let mut payload = Payload::new();
-    for byte in bytes.as_slice() {
-        if payload.is_full() {
-            return Err(Refusal::Size);
-        }
-        payload.push(*byte);
-    }
-    if !is_hex(payload.as_slice(), value) {
-        return Err(Refusal::Value(DATA));
+    if payload.try_extend_from_slice(bytes.as_slice()).is_err() {
+        return Err(EncodeError::Refused(Refusal::Size));
     }
     if known.choose(payload.as_slice()).is_some() {
-        return Err(Refusal::Data(DATA));
+        return Err(EncodeError::Refused(Refusal::Data(DATA)));
     }
     Ok(payload)
 }
@@ -278,22 +269,18 @@ fn is_unmatched(description: Option<&str>) -> bool
     }
 }
 
-/// The data that a line asks for: those that show exactly what is given, or, if there are none, those to which the values
-/// are added that a definition asks for.
-fn payload_of<'a>(
+/// The data that show exactly what is given, or, if there are none, those to which the values are added that a definition
+/// asks for.
+fn matched<'a>(
     alloc: Global,
     known: &KnownPgn<'a>,
+    kind: Kind,
     nearest: bool,
     request: &Request<'_, 'a>,
 ) -> Result<Payload, EncodeError<'a>>
-    requires { known.now.pgn ≡ request.now.id.pgn }
-    ensures reads { IfOk result (λ payload. reads_as nearest
-        (choice known.now.table known.now.pgn payload.items) (request_parts request.now) payload.items ≡ true) }
-    ensures refused { IfErr result (λ error. IfRefused error (IsCause (data_cause known.now.table (request_parts request.now)))) }
+    ensures { Gives (λ payload. payload.items) result
+        (matched (definitions_of known.now) kind nearest (request_parts request.now)) }
 {
-    if is_unmatched(request.description) {
-        return Ok(unmatched(known, request)?);
-    }
     let exactly = Reading {
         nearest,
         adding: false,
@@ -302,14 +289,30 @@ fn payload_of<'a>(
         nearest,
         adding: true,
     };
-    for reading in [exactly, adding] {
-        match first_data(alloc, known, reading, request) {
-            Ok(Some(payload)) => return Ok(payload),
-            Ok(None) => {}
-            Err(AllocError) => return Err(EncodeError::Memory),
-        }
+    match data_in(alloc, known, kind, exactly, request) {
+        Ok(payload) => Ok(payload),
+        Err(EncodeError::Memory) => Err(EncodeError::Memory),
+        Err(EncodeError::Refused(_)) => data_in(alloc, known, kind, adding, request),
     }
-    Err(first_cause(alloc, known, adding, request))
+}
+
+/// The data that a line asks for.
+fn payload_for<'a>(
+    alloc: Global,
+    known: &KnownPgn<'a>,
+    nearest: bool,
+    request: &Request<'_, 'a>,
+) -> Result<Payload, EncodeError<'a>>
+    requires { known.now.pgn ≡ request.now.id.pgn }
+    ensures { (kind : Kind) → kind_of known.now.table known.now.pgn ≡ Some kind → Gives (λ payload. payload.items) result
+        (payload_for known.now.table kind nearest (request_parts request.now)) }
+{
+    let kind = known.kind();
+    if is_unmatched(request.description) {
+        unmatched(known, kind, request)
+    } else {
+        matched(alloc, known, kind, nearest, request)
+    }
 }
 
 /// The message of a request with these data.
@@ -326,21 +329,21 @@ fn packet_of(request: &Request<'_, '_>, data: &[u8]) -> Option<Packet>
 }
 
 /// The message that an object asks for.
+#[tactic(auto, unfolding(crate::specs::Payload::encoded))]
 fn encode_object<'a>(
     alloc: Global,
     table: &'a Table,
     nearest: bool,
     object: &Value<'a>,
 ) -> Result<Packet, EncodeError<'a>>
-    ensures encoded { IfOk result (λ packet. IsEncoded table.now nearest (value_view object.now) packet) }
-    ensures refused { IfErr result (λ error. IfRefused error (IsCause (object_cause table.now (value_view object.now)))) }
+    ensures { Gives (λ packet. packet) result (encoded table.now nearest (value_view object.now)) }
 {
     let request = request_of(object)?;
     let known = table.find(request.id.pgn).ok_or(Refusal::Unknown)?;
     if join_id(&request.id).is_none() {
         return Err(EncodeError::Refused(Refusal::Address));
     }
-    let payload = payload_of(alloc, &known, nearest, &request)?;
+    let payload = payload_for(alloc, &known, nearest, &request)?;
     match packet_of(&request, payload.as_slice()) {
         Some(packet) => Ok(packet),
         None => Err(EncodeError::Refused(Refusal::Member)),
@@ -386,7 +389,7 @@ pub fn encode_line<'a>(
 ) -> Result<Packet, EncodeError<'a>>
     ensures reads_back { IfOk result (λ packet. IsEncodedLine table.now nearest line.now packet) }
     ensures long { longest_request < length line.now → result ≡ Err (EncodeError.Refused Refusal.Long) }
-    ensures refused { length line.now ≤ longest_request → IfErr result (λ error. IfRefused error (IsLineCause table.now line.now)) }
+    ensures refused { length line.now ≤ longest_request → IfErr result (λ error. IfRefused error (IsLineCause table.now nearest line.now)) }
 {
     if line.len() > LONGEST_REQUEST {
         return Err(EncodeError::Refused(Refusal::Long));

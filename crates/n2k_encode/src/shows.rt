@@ -154,7 +154,7 @@ fn has_later_pairs(bytes: &[u8], text: &[u8]) -> bool
 }
 
 /// Whether a text is these bytes as pairs of hexadecimal digits, with a space between them.
-pub(crate) fn has_pairs(bytes: &[u8], text: &[u8]) -> bool
+fn has_pairs(bytes: &[u8], text: &[u8]) -> bool
     ensures { result ≡ has_pairs bytes.now text.now }
 {
     let Some((first, later)) = bytes.split_first() else {
@@ -290,7 +290,7 @@ fn is_wide(bytes: &[u8], value: &Value<'_>) -> bool
 }
 
 /// Whether a value is a text of pairs of hexadecimal digits.
-pub(crate) fn is_hex(bytes: &[u8], value: &Value<'_>) -> bool
+fn is_hex(bytes: &[u8], value: &Value<'_>) -> bool
     ensures { result ≡ is_some_with (has_pairs bytes.now) (as_str (value_view value.now)) }
 {
     match value.as_str() {

@@ -1,6 +1,8 @@
 //! Texts of fields as bytes.
-ghost use Rattle.std.specs.Prelude.{◌≡◌, ◌<◌, ◌≤◌, ◌++◌, [], ◌∷◌, Some, None, replicate, option_map, length, IfSome};
-ghost use Rattle.n2k_encode.specs.Texts.{digit, digits_byte, ends_full, filled, hex_byte, hex_digit, latin1, most_bytes, narrow_string, within};
+ghost use Rattle.std.specs.Prelude.{◌≡◌, ◌<◌, ◌≤◌, ◌++◌, [], ◌∷◌, Some, None, replicate, flat_map, option_map, is_some, length, IfSome};
+ghost use Rattle.std.specs.Str.{chars, is_utf8};
+ghost use Rattle.n2k_encode.specs.Texts.{digit, digits_byte, digit_pairs, ends_full, ends_with_letter, filled, hex_byte, hex_bytes, hex_digit};
+ghost use Rattle.n2k_encode.specs.Texts.{last_letter, latin1, latin1_string, most_bytes, narrow_string, some_pairs, utf16_string, wide_character, within};
 
 use arrayvec::ArrayVec;
 use n2k_table::Form;
@@ -68,19 +70,65 @@ fn hex_byte(high: u8, low: u8) -> Option<u8>
     Some(16 * hex_digit(high)? + hex_digit(low)?)
 }
 
-/// The bytes that pairs of upper hexadecimal digits with a space between them spell.
-pub(crate) fn hex_bytes(text: &[u8]) -> Option<FieldBytes> {
+/// The bytes that pairs of upper hexadecimal digits with a space between them spell, at least one pair.
+#[tactic(auto, using(crate::proofs::Prefixes::prefix_rules))]
+fn some_pairs(text: &[u8]) -> Option<FieldBytes>
+    ensures { option_map (λ bytes. bytes.items) result ≡ within (some_pairs text.now) }
+{
     let mut bytes = FieldBytes::new();
-    let [high, low, following @ ..] = text else {
-        return if text.is_empty() { Some(bytes) } else { None };
-    };
-    push(hex_byte(*high, *low)?, &mut bytes)?;
-    let mut rest = following;
-    while let [b' ', high, low, more @ ..] = rest {
+    let mut rest = text;
+    while let [high, following @ ..] = rest {
+        let [low, more @ ..] = following else {
+            return None;
+        };
         push(hex_byte(*high, *low)?, &mut bytes)?;
-        rest = more;
+        let [between, next @ ..] = more else {
+            let _count = bytes.len();
+            return Some(bytes);
+        };
+        if *between != b' ' {
+            return None;
+        }
+        rest = next;
     }
-    if rest.is_empty() { Some(bytes) } else { None }
+    None
+}
+
+/// The bytes that pairs of upper hexadecimal digits with a space between them spell.
+pub(crate) fn hex_bytes(text: &[u8]) -> Option<FieldBytes>
+    ensures { option_map (λ bytes. bytes.items) result ≡ within (hex_bytes text.now) }
+{
+    if text.is_empty() {
+        return Some(FieldBytes::new());
+    }
+    some_pairs(text)
+}
+
+/// Whether a text is such pairs, however many.
+#[tactic(auto, using(crate::proofs::Prefixes::prefix_rules))]
+pub(crate) fn are_pairs(text: &[u8]) -> bool
+    ensures { result ≡ is_some (hex_bytes text.now) }
+{
+    if text.is_empty() {
+        return true;
+    }
+    let mut rest = text;
+    while let [high, following @ ..] = rest {
+        let [low, more @ ..] = following else {
+            return false;
+        };
+        if hex_byte(*high, *low).is_none() {
+            return false;
+        }
+        let [between, next @ ..] = more else {
+            return true;
+        };
+        if *between != b' ' {
+            return false;
+        }
+        rest = next;
+    }
+    false
 }
 
 /// The value of a decimal digit.
@@ -102,14 +150,21 @@ fn digits_byte(high: u8, low: u8) -> Option<u8>
 }
 
 /// The bytes that pairs of decimal digits spell.
-pub(crate) fn digit_pairs(text: &[u8]) -> Option<FieldBytes> {
+#[tactic(auto, using(crate::proofs::Prefixes::prefix_rules))]
+pub(crate) fn digit_pairs(text: &[u8]) -> Option<FieldBytes>
+    ensures { option_map (λ bytes. bytes.items) result ≡ within (digit_pairs text.now) }
+{
     let mut bytes = FieldBytes::new();
     let mut rest = text;
-    while let [high, low, following @ ..] = rest {
+    while let [high, following @ ..] = rest {
+        let [low, more @ ..] = following else {
+            return None;
+        };
         push(digits_byte(*high, *low)?, &mut bytes)?;
-        rest = following;
+        rest = more;
     }
-    if rest.is_empty() { Some(bytes) } else { None }
+    let _count = bytes.len();
+    Some(bytes)
 }
 
 /// Bytes after others.
@@ -176,49 +231,92 @@ pub(crate) fn narrow_string(form: Form, characters: &[u8]) -> Option<FieldBytes>
     }
 }
 
+/// Whether bytes are valid UTF-8.
+#[tactic(auto, using(crate::proofs::Prefixes::utf8_rules))]
+fn is_utf8(bytes: &[u8]) -> bool
+    ensures { result ≡ is_utf8 bytes.now }
+{
+    match std::str::from_utf8(bytes) {
+        Ok(_) => true,
+        Err(_) => false,
+    }
+}
+
 /// A string of one byte for each character, which must not be UTF-8 by chance.
-pub(crate) fn latin1_string(form: Form, text: &str) -> Option<FieldBytes> {
+pub(crate) fn latin1_string(form: Form, text: &str) -> Option<FieldBytes>
+    ensures { option_map (λ bytes. bytes.items) result ≡ latin1_string form text.now }
+{
     let bytes = latin1(text.as_bytes())?;
-    if std::str::from_utf8(bytes.as_slice()).is_ok() {
+    if is_utf8(bytes.as_slice()) {
         return None;
     }
     narrow_string(form, bytes.as_slice())
 }
 
-/// Appends a unit of UTF-16, low byte first.
-fn push_unit(unit: u32, bytes: &mut FieldBytes) -> Option<()> {
-    push(u8::try_from(unit % 256).ok()?, bytes)?;
-    push(u8::try_from(unit / 256).ok()?, bytes)
-}
-
-/// Appends a character in UTF-16.
-fn push_wide(code: u32, bytes: &mut FieldBytes) -> Option<()> {
-    match code.checked_sub(0x1_0000) {
-        None => push_unit(code, bytes),
-        Some(rest) => {
-            push_unit((rest / 0x400).checked_add(0xd800)?, bytes)?;
-            push_unit(0xdc00 + rest % 0x400, bytes)
-        }
+/// Appends a character in UTF-16, low byte first.
+fn push_wide(letter: char, bytes: &mut FieldBytes) -> Option<()>
+    ensures { option_map (λ _. bytes.new.items) result ≡ within (Some (bytes.old.items ++ wide_character letter)) }
+{
+    let code = u32::from(letter);
+    if code < 0x1_0000 {
+        let unit = [(code % 256) as u8, (code / 256) as u8];
+        return bytes.try_extend_from_slice(&unit).ok();
     }
+    let high = 0xd800 + (code - 0x1_0000) / 0x400;
+    let low = 0xdc00 + (code - 0x1_0000) % 0x400;
+    let units = [
+        (high % 256) as u8,
+        (high / 256) as u8,
+        (low % 256) as u8,
+        (low / 256) as u8,
+    ];
+    bytes.try_extend_from_slice(&units).ok()
 }
 
-/// The units of UTF-16 of a text, low byte first. `None` if the last fills a text up.
-fn wide_units(text: &str) -> Option<FieldBytes> {
+/// The characters of a text in UTF-16.
+fn wide_characters(text: &str) -> Option<FieldBytes>
+    ensures { option_map (λ bytes. bytes.items) result ≡ within (Some (flat_map wide_character (chars text.now))) }
+{
     let mut bytes = FieldBytes::new();
-    let mut last = 0;
     for letter in text.chars() {
-        last = u32::from(letter);
-        push_wide(last, &mut bytes)?;
+        push_wide(letter, &mut bytes)?;
     }
-    if last == 0 || last == 0xffff || last == 0x40 || last == 0x20 {
-        return None;
-    }
+    let _count = bytes.len();
     Some(bytes)
 }
 
+/// The last character of a text.
+fn last_letter(text: &str) -> Option<char>
+    ensures { result ≡ last_letter (chars text.now) }
+{
+    let mut last = None;
+    for letter in text.chars() {
+        last = Some(letter);
+    }
+    last
+}
+
+/// Whether a text ends with a character that does not fill a text up.
+fn ends_with_letter(text: &str) -> bool
+    ensures { result ≡ ends_with_letter (chars text.now) }
+{
+    match last_letter(text) {
+        None => false,
+        Some(last) => last != '\0' && last != '\u{ffff}' && last != '@' && last != ' ',
+    }
+}
+
 /// A string of UTF-16, with a byte of the length and one of the encoding.
-pub(crate) fn utf16_string(text: &str) -> Option<FieldBytes> {
-    let units = wide_units(text)?;
-    let length = u8::try_from(units.len()).ok()?.checked_add(2)?;
-    joined(&[length, 0], units.as_slice())
+#[tactic(auto, unfolding(crate::specs::Texts::utf16_string))]
+pub(crate) fn utf16_string(text: &str) -> Option<FieldBytes>
+    ensures { option_map (λ bytes. bytes.items) result ≡ utf16_string text.now }
+{
+    if !ends_with_letter(text) {
+        return None;
+    }
+    let letters = wide_characters(text)?;
+    if letters.len() > 253 {
+        return None;
+    }
+    joined(&[letters.len() as u8 + 2, 0], letters.as_slice())
 }

@@ -4,10 +4,10 @@ ghost use Rattle.json.specs.Find.{as_number, as_str};
 ghost use Rattle.json.specs.Value.{value_view, items_view};
 ghost use Rattle.n2k_table.specs.Bits.{greatest};
 ghost use Rattle.std.specs.Option.{option_and_then};
-ghost use Rattle.n2k_encode.specs.Value.{bytes as byte_code, IsCode, IsString, all_ones, bits_for, bytes_for, empty_string};
-ghost use Rattle.n2k_encode.specs.Value.{flags_from, flags_raw, if_there, is_there, named_value, not_available, number_raw};
-ghost use Rattle.n2k_encode.specs.Value.{raw_number, reserved, shifted_raw, shorter_of, text_bytes, units_of, unnamed};
-ghost use Rattle.n2k_encode.specs.Value.{whole_raw, with_flag, with_sign};
+ghost use Rattle.n2k_encode.specs.Value.{bytes as byte_code, all_ones, bits_for, bytes_for, code_for, digit_bytes, empty_string};
+ghost use Rattle.n2k_encode.specs.Value.{first_string, flags_from, flags_raw, if_there, is_there, named_value, not_available, number_raw};
+ghost use Rattle.n2k_encode.specs.Value.{plain_bytes, raw_number, reserved, shifted_raw, shorter_of, shortest_string, string_bytes};
+ghost use Rattle.n2k_encode.specs.Value.{text_bytes, units_of, unnamed, whole_raw, wide_string, with_flag, with_sign};
 ghost use Rattle.n2k_encode.specs.Views.{code_parts};
 
 use crate::numeral::{is_negative, multiples, scaled};
@@ -272,7 +272,10 @@ fn text_bytes(width: usize, value: &Value<'_>) -> Option<FieldBytes>
 }
 
 /// The bytes of a field of bytes: all of them, or fewer if it may be short.
-fn plain_bytes(width: usize, short: bool, value: &Value<'_>) -> Option<FieldBytes> {
+#[tactic(auto, unfolding(crate::specs::Value::plain_bytes))]
+fn plain_bytes(width: usize, short: bool, value: &Value<'_>) -> Option<FieldBytes>
+    ensures { option_map (λ bytes. bytes.items) result ≡ option_and_then (plain_bytes width short) (as_str (value_view value.now)) }
+{
     let text = value.as_str()?;
     let bytes = hex_bytes(text.as_bytes())?;
     if bytes.len() == width || short && bytes.len() < width {
@@ -283,8 +286,10 @@ fn plain_bytes(width: usize, short: bool, value: &Value<'_>) -> Option<FieldByte
 }
 
 /// The bytes of digits, filled up.
+#[tactic(auto, unfolding(crate::specs::Value::digit_bytes))]
 fn digit_bytes(width: usize, value: &Value<'_>) -> Option<FieldBytes>
     requires { width ≤ 255 }
+    ensures { option_map (λ bytes. bytes.items) result ≡ option_and_then (digit_bytes width) (as_str (value_view value.now)) }
 {
     let text = value.as_str()?;
     let bytes = digit_pairs(text.as_bytes())?;
@@ -295,7 +300,9 @@ fn digit_bytes(width: usize, value: &Value<'_>) -> Option<FieldBytes>
 }
 
 /// A string of UTF-16, if the form has one.
-fn wide_string(form: Form, text: &str) -> Option<FieldBytes> {
+fn wide_string(form: Form, text: &str) -> Option<FieldBytes>
+    ensures { option_map (λ bytes. bytes.items) result ≡ wide_string form text.now }
+{
     match form {
         Form::Lau => utf16_string(text),
         Form::Lz => None,
@@ -322,7 +329,7 @@ fn shorter_of(utf8: Option<FieldBytes>, wide: Option<FieldBytes>) -> Option<Fiel
 
 /// A string of the first encoding that shows a text.
 fn first_string(form: Form, text: &str) -> Option<FieldBytes>
-    ensures { IsString form text.now (option_map (λ bytes. bytes.items) result) }
+    ensures { option_map (λ bytes. bytes.items) result ≡ first_string form text.now }
 {
     if let Some(bytes) = narrow_string(form, text.as_bytes()) {
         return Some(bytes);
@@ -334,7 +341,9 @@ fn first_string(form: Form, text: &str) -> Option<FieldBytes>
 }
 
 /// A string of the shortest encoding that shows a text.
-fn shortest_string(form: Form, text: &str) -> Option<FieldBytes> {
+fn shortest_string(form: Form, text: &str) -> Option<FieldBytes>
+    ensures { option_map (λ bytes. bytes.items) result ≡ shortest_string form text.now }
+{
     if let Some(bytes) = latin1_string(form, text) {
         return Some(bytes);
     }
@@ -345,7 +354,9 @@ fn shortest_string(form: Form, text: &str) -> Option<FieldBytes> {
 }
 
 /// A string, if the value is a text.
-fn string_value(shortest: bool, form: Form, value: &Value<'_>) -> Option<FieldBytes> {
+fn string_bytes(shortest: bool, form: Form, value: &Value<'_>) -> Option<FieldBytes>
+    ensures { option_map (λ bytes. bytes.items) result ≡ option_and_then (string_bytes shortest form) (as_str (value_view value.now)) }
+{
     let text = value.as_str()?;
     if shortest {
         shortest_string(form, text)
@@ -374,7 +385,7 @@ fn bytes_for(found: Option<FieldBytes>) -> Option<Code>
 
 /// What a field is set to, to show a value.
 pub(crate) fn code_of(style: Style, field: &Field, value: &Value<'_>) -> Option<Code>
-    ensures { IsCode style field.now (value_view value.now) field.now.meaning (option_map code_parts result) }
+    ensures { option_map code_parts result ≡ code_for style field.now (value_view value.now) field.now.meaning }
 {
     let bits = field.bits();
     let width = bits as usize / 8;
@@ -399,7 +410,7 @@ pub(crate) fn code_of(style: Style, field: &Field, value: &Value<'_>) -> Option<
         Coding::Text => bytes_for(text_bytes(width, value)),
         Coding::Bytes => bytes_for(plain_bytes(width, field.is_short(), value)),
         Coding::Digits => bytes_for(digit_bytes(width, value)),
-        Coding::String(form) => bytes_for(string_value(style.shortest, form, value)),
+        Coding::String(form) => bytes_for(string_bytes(style.shortest, form, value)),
     }
 }
 

@@ -23,7 +23,7 @@ Gives t nearest line (encoded p) =
     (length line ≤ longest_request) × (is_skipped line ≡ false) × IsEncodedLine t nearest line p
 Gives t nearest line (refused c) =
     ((longest_request < length line) × (c ≡ long))
-    ⊎ ((length line ≤ longest_request) × (is_skipped line ≡ false) × IsLineCause t line c)
+    ⊎ ((length line ≤ longest_request) × (is_skipped line ≡ false) × IsLineCause t nearest line c)
 
 -- each of these lines has its outcome
 abbrev pub GiveAll : TableParts → Bool → List (List ℕ) → List Outcome → Type 0

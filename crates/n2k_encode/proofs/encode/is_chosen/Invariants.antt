@@ -1,5 +1,5 @@
 use Rattle.std.proofs.Common.{◌≡◌}
-use Rattle.n2k_encode.specs.Encoded.{definitions_of, none_before}
+use Rattle.n2k_encode.specs.Payload.{definitions_of, none_before}
 use Rattle.n2k_encode.proofs.encode.is_chosen.Given as goal
 
 -- the data match none of the definitions so far
