@@ -242,7 +242,7 @@ def _read(source: Union[BinaryIO, Iterable[Data], Bytes]) -> Iterator[Data]:
 
 
 class _Input(NamedTuple):
-    """The part of the log that was handed in and is not fed yet."""
+    """The part of the log that was passed in and is not fed yet."""
 
     #: How many bytes and frames were handed in so far.
     received: int
@@ -258,7 +258,7 @@ def _input(received: int, rest: Bytes = b"") -> _Input:
 
 
 class _Moved(NamedTuple):
-    """Lines that the library printed or reported, and the call that moves the next ones into a room."""
+    """Lines that the library printed or reported, and the call that moves the next lines into a room."""
 
     lines: collections.deque[str]
     room: ctypes.Array[ctypes.c_char]
@@ -272,7 +272,7 @@ def _moved(lines: Iterable[str], room: ctypes.Array[ctypes.c_char]) -> _Moved:
 
 
 class _Output:
-    """The lines that one call moves out of the library, until they are handed on."""
+    """The lines that one call moves out of the library, until they are returned."""
 
     def __init__(self, call: Callable[..., int]) -> None:
         self._call = call
@@ -296,7 +296,7 @@ class _Output:
         self.now = _moved(itertools.chain(now.lines, more), now.room)
 
     def lines(self) -> collections.deque[str]:
-        """The lines that are not handed on yet."""
+        """The lines that are not returned yet."""
         if self.now.lines and self.now.lines[0] is self.handed_on:
             self.now.lines.popleft()
         self.handed_on = None
@@ -369,7 +369,7 @@ class Decoder:
             _check(_ENDED)
 
     def _feed_piece(self) -> bool:
-        """Feeds a piece of the input, and says whether there was one. A small piece has few messages."""
+        """Feeds a piece of the input; returns whether there was one. A small piece has few messages."""
         now = self._input
         if now.arrived and (frame := _frame_in(now.arrived[0])):
             if not now.fed:
@@ -514,7 +514,7 @@ class Decoder:
         return self._yielded(source, decimals, on_report, closes)
 
     def _read_piece(self, source: Iterator[Data]) -> bool:
-        """Reads from the files that were named, and then from the source; says whether there was something."""
+        """Reads from the named files, and then from the source; returns whether there was something."""
         arrived = self._input.arrived
         while self._files and not arrived:
             arrived.extend(itertools.islice(_read(self._files[0]), 1))
@@ -526,7 +526,7 @@ class Decoder:
 
     def _yielded(self, source: Optional[Source], decimals: bool, on_report: Optional[Callable[[str], object]],
                  closes: bool) -> Iterator[Message]:
-        """The messages that were not handed on yet, and those of the named files and of the source, which ends the log."""
+        """The messages that were not yielded yet, and those of the named files and of the source, which ends the log."""
         read = (_exact if decimals else _plain).raw_decode
         ends = source is not None
         more = iter(()) if source is None or isinstance(source, (str, os.PathLike)) else _read(source)

@@ -36,7 +36,7 @@ def definitions_of(toml: bytes, pgn: int) -> tuple[list[dict[str, Any]], dict[st
 
 
 def type_of(field: dict[str, Any], lookups: dict[str, list[Any]]) -> Any:
-    """What a field's column has: numbers, categories, or the texts and numbers of the JSON line."""
+    """The type of a field's column: numbers, categories, or the texts and numbers of the JSON line."""
     if field["kind"] == "number":
         mantissa, _, decimals = field.get("resolution", "1").partition(".")
         if decimals:
@@ -51,7 +51,7 @@ def type_of(field: dict[str, Any], lookups: dict[str, list[Any]]) -> Any:
 
 
 def types_of(toml: bytes, pgn: int, fields: Optional[Sequence[str]]) -> dict[str, Any]:
-    """The type of each column that is asked for. ArgumentError if no message of the PGN has such a field."""
+    """The type of each requested column. ArgumentError if no message of the PGN has such a field."""
     definitions, lookups = definitions_of(toml, pgn)
     if not definitions:
         raise n2kdec.ArgumentError(f"the table has no PGN {pgn}")
@@ -70,7 +70,7 @@ def types_of(toml: bytes, pgn: int, fields: Optional[Sequence[str]]) -> dict[str
 
 
 def stamps_of(stamps: list[str]) -> Any:
-    """The times of stamps; what is no time is missing."""
+    """The times of timestamps; a timestamp that is not a time is missing."""
     numpy, pandas = import_module("numpy"), import_module("pandas")
     texts = [f"{it[1]}-{it[2]}-{it[3]}T{it[4]}" if (it := STAMP.fullmatch(text)) else "NaT" for text in stamps]
     try:
@@ -81,7 +81,7 @@ def stamps_of(stamps: list[str]) -> Any:
 
 
 def text_of(value: Any, its: Any) -> Optional[str]:
-    """A value as a text: flags with commas between, the sets of a message that repeats as its line has them."""
+    """A value as a text: flags separated by commas, sets as in the line."""
     if value is None or isinstance(value, str):
         return value
     if its == "sets":
@@ -188,7 +188,7 @@ def frame(logs: Any, pgn: int, fields: Optional[Sequence[str]], table: Any, divi
 
 
 def starts_of(boat: Boat) -> list[Any]:
-    """When the days of a boat begin, and when the last one ends; nothing if its log has no days."""
+    """The beginnings of the days of a boat, and the end of the last one; nothing if its log has no days."""
     pandas = import_module("pandas")
     if not boat.has_days:
         return []

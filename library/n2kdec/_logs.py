@@ -1,4 +1,4 @@
-"""The logs of boats: which files they are, what marks a change of a file, and what the files contain.
+"""The logs of boats: their files, the marks that show changes of the files, and their contents.
 
 A boat's log is one file, or a folder with a file a day, as `n2k-logger --raw` writes them. A file may be compressed by gzip
 or zstd. A name with `://` is one of fsspec, as s3://bucket/boat. n2k-fleet and `n2kdec.frame` use this module; its names may
@@ -51,7 +51,7 @@ class LogError(OSError):
 
 
 def said(error: BaseException, file: str) -> str:
-    """What an error says, with the name of the file, once."""
+    """The text of an error, with the name of the file, once."""
     text = getattr(error, "strerror", None) or str(error) or type(error).__name__
     if isinstance(error, FileNotFoundError):
         text = os.strerror(errno.ENOENT)
@@ -129,12 +129,12 @@ def boat_of(path: str) -> Boat:
 
 
 def faults_of(name: str) -> tuple[type[Exception], ...]:
-    """What reading may raise. Each store has errors of its own."""
+    """The errors that reading may raise. Each store has its own."""
     return (Exception,) if is_remote(name) else (OSError, EOFError, zlib.error)
 
 
 def names_of(name: str) -> list[str]:
-    """The files and folders of a name, which may have stars: a shell does not expand those of a store."""
+    """The files and folders of a name, which may contain stars: a shell does not expand names of a store."""
     if name.startswith("file://"):
         name = name[7:]
     has_stars = re.search(r"[*?\[]", name) is not None
@@ -176,7 +176,7 @@ def boats_of(paths: Sequence[str]) -> list[Boat]:
 
 
 class Zstd(io.RawIOBase):
-    """What is in a file of zstd. A file that ends early is an EOFError, which zstandard's own reader does not raise."""
+    """The contents of a zstd file. A file that ends early raises EOFError, which zstandard's own reader does not."""
 
     def __init__(self, file: BinaryIO) -> None:
         try:
@@ -203,7 +203,7 @@ class Zstd(io.RawIOBase):
         return count
 
     def decompressed(self, piece: bytes) -> bytes:
-        """What a piece of the file gives: of the frame that is open, and of whole frames after it."""
+        """The contents of a piece of the file: of the open frame, and of whole frames after it."""
         texts = []
         try:
             while piece:
@@ -254,7 +254,7 @@ class Chain:
         self.decoder: Optional[n2kdec.Decoder] = None
 
     def begin(self, state: Optional[bytes] = None) -> None:
-        """What is decoded next begins a log, or goes on from a state."""
+        """Begins a log, or continues from a state."""
         self.end()
         toml, its_state, decoder = getattr(self.kept, "it", (None, None, None))
         if (toml, its_state) == (self.toml, state):
@@ -275,8 +275,8 @@ class Chain:
         self.decoder = None
 
     def decode(self, log: Log) -> Iterator[tuple[bytes, list[str]]]:
-        """What `n2kdec decode --in-order` prints and reports of a part, as it comes. LogError if the part cannot be read, or
-        is the first and no line of it is one of a log; the decoder is closed then."""
+        """The output and the reports of `n2kdec decode --in-order` for a part, as they come. LogError if the part cannot be read,
+        or is the first part and has no line of a log; the decoder is closed then."""
         if self.decoder is None:
             self.begin()
         decoder = self.decoder
