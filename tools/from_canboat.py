@@ -328,7 +328,7 @@ class Layout:
         cause = self.behind or self.no_place(given, at, is_last)
         if cause is None:
             try:
-                self.say(given, at, is_last)
+                self.add_to_table(given, at, is_last)
             except LeftOut as why:
                 cause = why.args[0]
         if cause and given.kind in STRINGS:
@@ -367,7 +367,7 @@ class Layout:
         if given.kind not in UNNAMED or given.has_match:
             self.notes[f"Left out, {cause}"].append(given.called + (f" ({given.odd})" if given.odd else ""))
 
-    def say(self, given, at, is_last):
+    def add_to_table(self, given, at, is_last):
         """Adds the field to those of the table."""
         if given.kind in UNNAMED and not given.has_match:
             return

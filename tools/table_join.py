@@ -53,7 +53,7 @@ class Part:
     def of_kind(self, definition, what):
         return self.lines.line(definition.keys_at["kind"]), f"{table_rules.of_definition(definition, 0)}: {what}"
 
-    def told(self, what):
+    def in_file(self, what):
         return f"{self.name}:{what}"
 
 
@@ -128,13 +128,13 @@ class Joined:
                     f"{quoted(other['description'])} of {os.path.basename(its.name)}{more}"
 
     def faults(self):
-        return [one.told(fault) for one in self.parts for fault in sorted(one.faults, key=lambda fault: fault.line)]
+        return [one.in_file(fault) for one in self.parts for fault in sorted(one.faults, key=lambda fault: fault.line)]
 
     def notes(self):
         """Notes that are printed on each run, at most a few lines for each file."""
         for one in self.own:
             found = sorted([*self.hides(one), *one.other_kinds()])
-            yield from (one.told(f"{line}: {what}") for line, what in found[:MOST_NOTES])
+            yield from (one.in_file(f"{line}: {what}") for line, what in found[:MOST_NOTES])
             if found[MOST_NOTES:]:
                 yield f"{one.name}: {len(found) - MOST_NOTES} more such definitions, which n2kdec-table-check --also names"
 
@@ -143,7 +143,7 @@ class Joined:
         paragraphs = [["# Joined by n2k --also: the definitions of one's own stand before the others, and the first that matches is chosen.",
                        "format = 3"]]
         for one in self.parts:
-            paragraphs += standing(one) or [table_text.definition_lines(with_units(definition, one)) for definition in one.definitions()]
+            paragraphs += unchanged(one) or [table_text.definition_lines(with_units(definition, one)) for definition in one.definitions()]
         paragraphs += [table_text.lookup_lines(name, names) for name, names in self.lookups.items()]
         return table_text.text_of(paragraphs)
 
@@ -158,7 +158,7 @@ def with_units(definition, one):
     return {**definition, "fields": fields(definition["fields"]), **sets}
 
 
-def standing(one):
+def unchanged(one):
     """The unchanged definitions of a table in format 3, with their comments; None unless each is a header with its
     lines."""
     arrays = [one.top[key] for key in ("pgn", "lookup") if key in one.top]

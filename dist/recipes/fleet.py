@@ -105,14 +105,14 @@ class Job(NamedTuple):
     has_parquet: bool = False
 
     def key(self, before: str, log: Log) -> str:
-        """What a part is made of: the parts before it, its log, the table, the program and the columns."""
+        """The inputs of a part: the parts before it, its log, the table, the program and the columns."""
         own = [before, log.mark, digest_of(self.toml), self.program.digest, *self.columns, *["parquet"][:self.has_parquet]]
         return hashlib.sha256("\n".join(own).encode()).hexdigest()
 
 
 class Done(NamedTuple):
-    """The result of a boat: the number of parts made, the counts after the last one, the lines and seconds of this call, the
-    parts that cannot be read, and why and from where on the others are not made."""
+    """The result of a boat: the number of finished parts, the counts after the last one, the lines and seconds of this
+    call, the parts that cannot be read, and why and from which part on the others are missing."""
 
     boat: str
     days: int
@@ -124,7 +124,7 @@ class Done(NamedTuple):
 
 
 class Lost(Exception):
-    """The scheduler does not answer, or no longer answers."""
+    """The scheduler does not respond, or no longer responds."""
 
 
 class Busy(Exception):
@@ -151,7 +151,7 @@ def program() -> Program:
 
 
 def difference(job: Job) -> str:
-    """Why this computer cannot do such a job, or nothing."""
+    """The reason why this computer cannot do such a job, or an empty text."""
     wanted = job.program
     try:
         own = program()
@@ -176,7 +176,7 @@ class Folder:
         return os.path.join(self.name, name)
 
     def names(self, folder: str) -> set[str]:
-        """What is in a folder of it, which may not be there."""
+        """The contents of one of its folders, which may not exist."""
         try:
             return set(os.listdir(self.path(folder)))
         except FileNotFoundError:
@@ -193,7 +193,7 @@ class Folder:
 
     @contextlib.contextmanager
     def new(self, name: str, is_kept: bool = True) -> Iterator[BinaryIO]:
-        """A file that gets its name when it is whole; if `is_kept`, a power cut after that does not undo it."""
+        """A file that gets its name when it is complete; if `is_kept`, a power cut after that does not undo it."""
         new = self.path(unfinished(name))
         for it in (new, self.path(name)):
             os.makedirs(os.path.dirname(it), exist_ok=True)
@@ -213,7 +213,7 @@ class Folder:
             os.unlink(self.path(name))
 
     def clean(self) -> None:
-        """Removes the files that a process which was killed has left."""
+        """Removes the files that a killed process has left."""
         for name in filter(UNFINISHED.fullmatch, self.names(OWN)):
             self.remove(f"{OWN}/{name}")
 
@@ -244,7 +244,7 @@ class Folder:
 
 
 class RemoteFolder(Folder):
-    """A folder of a store that fsspec knows."""
+    """A folder in a store of fsspec."""
 
     def __init__(self, name: str) -> None:
         super().__init__(name.rstrip("/"))
@@ -299,7 +299,7 @@ class RemoteFolder(Folder):
 
     @contextlib.contextmanager
     def held(self, call: str) -> Iterator[None]:
-        """A store has no locks: what another call has written there counts, if its process may still be there."""
+        """A store has no locks: the lock of another call counts if its process may still exist."""
         name = f"{OWN}/lock"
         lock = self.read(name)
         if lock and not has_ended(lock):
@@ -355,7 +355,7 @@ def holder_of(lock: Optional[bytes]) -> str:
 
 
 class Record:
-    """What the files of a boat were made of: of each part its key, its counts and the names of its tables."""
+    """The inputs of a boat's files: for each part its key, its counts and the names of its tables."""
 
     def __init__(self, folder: Folder, name: str) -> None:
         self.folder, self.name = folder, f"{OWN}/{name}.json"
@@ -366,12 +366,12 @@ class Record:
         self.saved = 0.0
 
     def counts(self, part: str, key: str) -> Optional[n2kdec.Counts]:
-        """The counts of a part if it was made of this."""
+        """The counts of a part, if it was made from these inputs."""
         known, counts, _ = self.parts.get(part, ("", None, ()))
         return n2kdec.Counts(*counts) if known == key else None
 
     def forget(self, part: str) -> None:
-        """A part is made anew: while its files change, the record does not name them."""
+        """A part is made again: while its files change, the record does not name them."""
         if old := self.parts.pop(part, None):
             self.save()
             for name in old[2]:
@@ -403,7 +403,7 @@ def packed(file: BinaryIO) -> gzip.GzipFile:
 
 
 def check_call(folder: Folder, call: str) -> None:
-    """OSError if another call has begun to work in the folder: then nothing more gets a name for this call."""
+    """OSError if another call has begun to work in the folder: then no further file gets its name in this call."""
     with contextlib.suppress(ValueError):
         if json.loads(folder.read(f"{OWN}/lock") or b"{}").get("call", call) != call:
             raise OSError(f"{folder.name}: another call works there now")
@@ -426,7 +426,7 @@ class Work:
         self.tables: list[str] = []
 
     def base(self, log: Log) -> str:
-        """What the names of a part's files begin with."""
+        """The beginning of the names of a part's files."""
         own = [OWN][:self.job.has_parquet]
         return "/".join([*own, *[self.boat.name][:self.boat.has_days], log.part])
 
@@ -450,12 +450,12 @@ class Work:
 
 
 def stop_of(error: Exception, where: str) -> tuple[str, str]:
-    """Why a boat's work ends, and from where on: the same cause has the same words."""
+    """Why a boat's work ends, and at which part: the same cause gives the same text."""
     return (error.strerror if isinstance(error, OSError) and error.strerror else str(error)), where
 
 
 def decode_boat(boat: Boat, job: Job, may_work: bool = True) -> Optional[Done]:
-    """Makes the files of a boat that are not made yet; None if there are some and it may not work."""
+    """Makes the missing files of a boat; None if there are some and it may not work."""
     work, key, before, names = Work(boat, job), "", "", None
     try:
         for log in boat.logs:
@@ -508,7 +508,7 @@ def decode_part(work: Work, log: Log, base: str, before: str) -> n2kdec.Counts:
 
 @contextlib.contextmanager
 def messages_file(work: Work, log: Log) -> Iterator[Callable[[bytes], Any]]:
-    """Takes the lines of a part, of which the files get their names at the end."""
+    """Takes the lines of a part; its files get their names at the end."""
     if work.job.has_parquet:
         with Tables(work, log) as tables:
             yield tables.put
@@ -560,7 +560,7 @@ class Tables:
                     self.write(max(self.rows, key=lambda it: len(self.rows[it])))
 
     def write(self, pgn: int) -> None:
-        """Writes the rows of a PGN that wait."""
+        """Writes the waiting rows of a PGN."""
         rows, types = self.rows.pop(pgn), types_of(self.work.job.toml, pgn, None)
         self.waiting -= len(rows)
         if pgn not in self.writers:
@@ -585,7 +585,7 @@ class Tables:
         return name
 
     def finish(self) -> None:
-        """Writes what waits; the files get their names."""
+        """Writes the waiting rows; the files get their names."""
         for pgn in list(self.rows):
             self.write(pgn)
         self.files.close()
@@ -604,7 +604,7 @@ def when(stamp: str) -> tuple[Optional[int], str]:
 
 @functools.lru_cache(None)
 def convert() -> Any:
-    """The recipe that makes CSV: beside this file, or as it was sent to a worker."""
+    """The recipe that makes CSV: beside this file, or the text that was sent to a worker."""
     module = types.ModuleType("n2k_convert")
     module.__file__ = str(HERE / "convert")
     exec(compile(CONVERT or (HERE / "convert").read_text(encoding="utf-8"), module.__file__, "exec"), module.__dict__)
@@ -625,7 +625,7 @@ class Rows:
 
 
 def tabulate_boat(boat: Boat, job: Job, may_work: bool = True) -> Optional[Done]:
-    """Makes NAME.csv and NAME.reports of a boat if they are not made yet; None if they are not and it may not work."""
+    """Makes NAME.csv and NAME.reports of a boat if they are missing; None if they are and it may not work."""
     work, key = Work(boat, job), ""
     for log in boat.logs:
         key = job.key(key, log)
@@ -649,7 +649,7 @@ def tabulate_boat(boat: Boat, job: Job, may_work: bool = True) -> Optional[Done]
 
 
 def tabulate_parts(work: Work, out: BinaryIO, reports: BinaryIO) -> None:
-    """Writes rows and reports of all parts of a boat. A part that cannot be read leaves none."""
+    """Writes rows and reports of all parts of a boat; none of a part that cannot be read."""
     rows = Rows(work.job.columns)
     out.write(rows.head.encode("utf-8", "surrogateescape"))
     for log in work.boat.logs:
@@ -670,7 +670,7 @@ def tabulate_parts(work: Work, out: BinaryIO, reports: BinaryIO) -> None:
 
 
 def work_on(boat: Boat, job: Job) -> Done:
-    """Makes what a call makes of a boat."""
+    """Makes a call's results for a boat."""
     done = (tabulate_boat if job.columns else decode_boat)(boat, job)
     assert done
     return done
@@ -694,13 +694,13 @@ def join(boats: Sequence[str], folder: Folder) -> None:
 
 
 def shipped(name: str) -> pathlib.Path:
-    """A file that is installed above the recipes; in the sources it has another folder."""
+    """The path of a file that is installed above the recipes; in the sources it is in another folder."""
     places = HERE.parent / name, HERE.parents[1] / "tables" / name, HERE.parents[1] / "tools" / name
     return next((it for it in places if it.exists()), places[0])
 
 
 def bag(logs: Sequence[str], table: Any = None) -> Any:
-    """A Dask bag of the messages of logs, as dicts: a partition a boat. Workers need the library alone."""
+    """A Dask bag of the messages of logs, as dicts: a partition for each boat. Workers need only the library."""
     import dask
     import dask.bag
     boats, toml = boats_of(logs), dask.delayed(pathlib.Path(table or shipped("n2k.toml")).read_bytes())
@@ -712,7 +712,7 @@ def say(text: str) -> None:
 
 
 def table_text(done: Sequence[Done], seconds: float) -> str:
-    """The table at the end: a row a boat, and their sum."""
+    """The table at the end: a row for each boat, and the total."""
     head = ("boat", "days", "lines", "messages", "bad", "broken", "unknown", "seconds", "lines/s")
 
     def row(name: str, all_of: Sequence[Done], took: float) -> tuple[str, ...]:
@@ -738,7 +738,7 @@ def run_child(writer: multiprocessing.connection.Connection, boat: Boat, job: Jo
 
 
 def on_this_computer(boats: Sequence[Boat], job: Job) -> Iterator[Done]:
-    """The result of each boat. A boat whose process died gets another, three in all."""
+    """The result of each boat. If a boat's process died it gets another, three in all."""
     # fsspec has threads, and a process with threads cannot be forked.
     is_plain = not any(map(is_remote, [job.folder, *(log.file for boat in boats for log in boat.logs)]))
     context: Any = multiprocessing.get_context("fork" if is_plain else "spawn")
@@ -772,8 +772,8 @@ def on_this_computer(boats: Sequence[Boat], job: Job) -> Iterator[Done]:
 
 
 def by_worker(boat: bytes, handed: tuple[str, str, str, tuple[Any, ...]]) -> tuple[Any, ...]:
-    """What a worker of a cluster runs: this file, which is sent as a text, since a worker has the library alone. This function is
-    sent by its code: it uses nothing of this file."""
+    """The call on a worker of a cluster: it runs this file, which is sent as text, since a worker has only the library.
+    This function is sent as code and uses nothing of this file."""
     import sys
     import types
     name, source, convert, job = handed
@@ -786,7 +786,8 @@ def by_worker(boat: bytes, handed: tuple[str, str, str, tuple[Any, ...]]) -> tup
 
 
 def work_for(boat: bytes, plain: tuple[Any, ...]) -> tuple[Any, ...]:
-    """The result of a boat, or the worker and what it lacks. The boat is pickled: a worker may have no module that knows it."""
+    """The result of a boat, or the worker and what it lacks. The boat is pickled, since a worker may lack the module
+    that defines it."""
     job = Job(*plain)._replace(program=Program(*plain[1]))
     if text := difference(job):
         import distributed
@@ -795,7 +796,8 @@ def work_for(boat: bytes, plain: tuple[Any, ...]) -> tuple[Any, ...]:
 
 
 def on_cluster(address: str, boats: Sequence[Boat], job: Job) -> Iterator[Done]:
-    """The result of each boat. A boat whose worker died goes to another worker. Lost if the scheduler does not answer."""
+    """The result of each boat. A boat whose worker died goes to another worker. Lost if the scheduler does not
+    respond."""
     import distributed
     # A lost scheduler, which Dask logs, is reported here in one sentence.
     logging.disable(logging.CRITICAL)
@@ -858,7 +860,7 @@ def fault_of(boat: Boat, error: BaseException) -> str:
 
 
 def scheduler_of(asked: Optional[str]) -> str:
-    """The address of the scheduler: the one that was asked for, or that of Dask's configuration, if there is one."""
+    """The address of the scheduler: the requested one, or that of Dask's configuration, if there is one."""
     if asked is None:
         try:
             import dask.config
@@ -892,7 +894,7 @@ def parsed(words: Sequence[str]) -> argparse.Namespace:
 
 
 def table_of(options: argparse.Namespace) -> bytes:
-    """The table, with those of --also. ValueError says what is wrong with it."""
+    """The table, with those of --also. ValueError gives its fault."""
     toml = pathlib.Path(options.table).read_bytes()
     if options.also:
         joined = subprocess.run([sys.executable, shipped("table_join.py"), options.table, *options.also], capture_output=True, check=False)
@@ -942,11 +944,11 @@ def main(words: Sequence[str]) -> int:
 
 
 def decode_all(boats: Sequence[Boat], job: Job, folder: Folder, options: argparse.Namespace, start: float) -> int:
-    """Makes everything that is not made yet, and reports the results."""
+    """Makes all missing results, and reports them."""
     done: dict[str, Done] = {}
 
     def look() -> list[Boat]:
-        """The boats that are not made yet."""
+        """The boats without results."""
         for boat in boats:
             if boat.name not in done:
                 made = failed(boat, boat.fault) if boat.fault else (tabulate_boat if job.columns else decode_boat)(boat, job, may_work=False)
@@ -976,7 +978,7 @@ def decode_all(boats: Sequence[Boat], job: Job, folder: Folder, options: argpars
 
 
 def judged(done: Sequence[Done], lost: str, count: int) -> int:
-    """Names each fault once. The status."""
+    """Reports each fault once. The status."""
     for it in done:
         for fault in it.faults:
             say(fault)

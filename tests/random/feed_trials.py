@@ -52,7 +52,7 @@ class Server:
             def log_message(self, *_):
                 pass
 
-            def answer(self, status, text=""):
+            def respond(self, status, text=""):
                 self.send_response(status)
                 self.send_header("Content-Length", str(len(text)))
                 self.end_headers()
@@ -66,21 +66,21 @@ class Server:
                 body = self.rfile.read(int(self.headers["Content-Length"] or 0))
                 if path == "/query" and query["q"] == 'CREATE DATABASE "boat"':
                     server.has_database = True
-                    return self.answer(200, "{}")
+                    return self.respond(200, "{}")
                 if server.version == 2 and self.headers["Authorization"] != f"Token {TOKEN}":
-                    return self.answer(401, "no")
+                    return self.respond(401, "no")
                 if server.version == 1 and not server.has_database:
-                    return self.answer(404, '{"error":"database not found: \\"boat\\""}')
+                    return self.respond(404, '{"error":"database not found: \\"boat\\""}')
                 wanted = {"db": "boat", "precision": "ns"} if server.version == 1 else {"org": "o", "bucket": "b", "precision": "ns"}
                 if path != ("/write" if server.version == 1 else "/api/v2/write") or query != wanted:
-                    return self.answer(400, "wrong words")
+                    return self.respond(400, "wrong words")
                 if server.chance.random() < 0.1:
-                    return self.answer(server.chance.choice([429, 500, 503]), "not now")
+                    return self.respond(server.chance.choice([429, 500, 503]), "not now")
                 if len(body) > 200_000:
-                    return self.answer(413, "too large")
-                if not server.taken(body) or server.chance.random() < 0.05:
+                    return self.respond(413, "too large")
+                if not server.store(body) or server.chance.random() < 0.05:
                     return self.connection.close()
-                return self.answer(204)
+                return self.respond(204)
 
         class Listener(http.server.ThreadingHTTPServer):
             # Closing waits for pending answers, so that nothing of a killed feed arrives after what the next feed
@@ -93,7 +93,7 @@ class Server:
         self.running = Listener(("127.0.0.1", self.port), Handler)
         threading.Thread(target=self.running.serve_forever, args=(0.05,), daemon=True).start()
 
-    def taken(self, body):
+    def store(self, body):
         """Stores the points, and returns whether to send the answer."""
         with self.lock:
             for line in body.decode().splitlines():
@@ -105,7 +105,7 @@ class Server:
         self.running.shutdown()
         self.running.server_close()
 
-    def words(self, room):
+    def arguments(self, room):
         where = ["--database", "boat"] if self.version == 1 else ["--org", "o", "--bucket", "b"]
         return ["--influx", f"http://127.0.0.1:{self.port}", "--state", f"{room}/state", *where]
 
@@ -144,8 +144,8 @@ bind-address = "127.0.0.1:{free_port()}"
         self.running.kill()
         self.running.wait()
 
-    def words(self, room):
-        return Server.words(self, room)
+    def arguments(self, room):
+        return Server.arguments(self, room)
 
     version = 1
 
@@ -180,7 +180,7 @@ class Base:
         self.other = sqlite3.connect(self.file, timeout=3600, isolation_level=None)
         self.other.execute("BEGIN IMMEDIATE")
 
-    def words(self, _):
+    def arguments(self, _):
         return ["--sqlite", self.file]
 
     def has(self):
@@ -292,7 +292,7 @@ def trial(name, room, chance):
     folder, lines = Folder(room, chance), [*messages(chance, 6000, 3)]
     for line in lines[:10]:
         folder.add(line)
-    command = [FEED, *server.words(room), "--every", "0.1", folder.path]
+    command = [FEED, *server.arguments(room), "--every", "0.1", folder.path]
     environment = {**os.environ, "INFLUX_TOKEN": TOKEN}
     said = open(f"{room}/said", "ab")
 
@@ -379,13 +379,13 @@ class Ending(Server):
         # Never refuses or disconnects at random.
         self.chance.random = lambda: 1
 
-    def taken(self, body):
+    def store(self, body):
         self.asked += 1
         if self.asked == 2:
             self.feed.terminate()
             self.feed.wait()
             return False
-        return super().taken(body)
+        return super().store(body)
 
 
 def ended(_, room, __):
@@ -394,7 +394,7 @@ def ended(_, room, __):
     lines = [f'{{"timestamp":"2025-07-04T06:00:00.000Z","prio":3,"src":1,"dst":255,"pgn":128267,"description":"Depth","fields":{{"Depth":{it}.00}}}}\n'
              for it in range(3)]
     os.mkdir(f"{room}/boat")
-    command = [FEED, *server.words(room), "--every", "0.05", f"{room}/boat"]
+    command = [FEED, *server.arguments(room), "--every", "0.05", f"{room}/boat"]
     server.start()
     with open(file, "w", encoding="utf-8", buffering=1) as folder:
         folder.write(lines[0])

@@ -140,7 +140,7 @@ class Judge:
         self.program, self.path = program, os.path.join(room, "table.toml")
         self.faults = 0
 
-    def program_says(self):
+    def program_fault(self):
         """The fault that the program reports for the table, or None."""
         words = [self.program, "decode", "--table", self.path, "/dev/null"]
         done = subprocess.run(words, capture_output=True, text=True)
@@ -153,7 +153,7 @@ class Judge:
         read, _, faults = table_rules.judged(made.encode())
         with open(self.path, "w", encoding="utf-8", newline="") as file:
             file.write(made)
-        for fault in [*faults, *filter(None, [self.program_says()])]:
+        for fault in [*faults, *filter(None, [self.program_fault()])]:
             self.fault(name, fault)
         return read
 

@@ -441,7 +441,7 @@ class Judge:
         self.counts["failures"] += 1
         print(f"{name}: {what}")
 
-    def answer(self, data):
+    def fault_of_program(self, data):
         """The class of the program's fault, or None."""
         with open(self.path, "wb") as file:
             file.write(data)
@@ -455,7 +455,7 @@ class Judge:
 
     def table(self, name, data, expected):
         """Judges a table; each fault has to name one of the lines in `expected`, unless it is None."""
-        answer = self.answer(data)
+        answer = self.fault_of_program(data)
         faults = table_rules.faults(data)
         if answer != (faults[0].name if faults else ""):
             self.fail(name, f"the program says {answer or 'nothing'}, the check {[*map(str, faults)]}")
@@ -472,7 +472,7 @@ class Judge:
         self.counts["of one change"] += bool(faults)
 
     def document(self, name, data):
-        answer = self.answer(data)
+        answer = self.fault_of_program(data)
         is_toml = not any(fault.name == "NotToml" for fault in table_rules.faults(data))
         if (answer == "NotToml") == is_toml:
             self.fail(name, f"the program says {answer or 'nothing'}, the check {[*map(str, table_rules.faults(data))]}")

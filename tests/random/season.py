@@ -61,7 +61,7 @@ class Fed:
     def begin(self, it, *words):
         environment = {**os.environ, "INFLUX_TOKEN": feed_trials.TOKEN}
         with open(f"{self.room}/fed", "ab") as said:
-            return subprocess.Popen([feed_trials.FEED, *it.words(self.room), *words, self.folder], env=environment, stderr=said)
+            return subprocess.Popen([feed_trials.FEED, *it.arguments(self.room), *words, self.folder], env=environment, stderr=said)
 
     def kill(self):
         for it in self.running:

@@ -65,7 +65,7 @@ def runs(line, pen):
     return found, pen
 
 
-def piece(row, column, text, pen):
+def svg_of(row, column, text, pen):
     """A run as SVG."""
     x, y, width = MARGIN + WIDE * column, MARGIN + HIGH * row, WIDE * len(text)
     drawn = ""
@@ -99,7 +99,7 @@ def picture(screen, columns, scheme=None):
     drawn, pen = [], {}
     for row, line in enumerate(lines):
         found, pen = runs(line, pen)
-        drawn.append("".join(piece(row, *it) for it in found))
+        drawn.append("".join(svg_of(row, *it) for it in found))
     return (f'<svg xmlns="http://www.w3.org/2000/svg" viewBox="0 0 {width} {height}" width="{width}" height="{height}">'
             f'<style>{style(scheme)}</style><rect class="back" width="{width}" height="{height}" rx="6"/>\n' + "\n".join(it for it in drawn if it) + "\n</svg>\n")
 

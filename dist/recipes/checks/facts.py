@@ -104,7 +104,7 @@ class Flow:
 
 
 class Device:
-    """What one address sends."""
+    """The data of one address."""
 
     def __init__(self, sender):
         self.sender, self.frames, self.bits, self.window, self.messages = sender, 0, 0, 0, 0
@@ -115,7 +115,7 @@ class Device:
 
 
 class Lane:
-    """An identifier: its flow and device, and the last two sequence numbers there, of an era of its device."""
+    """An identifier: its flow and device, and the last two sequence numbers, within an era of its device."""
 
     __slots__ = ("flow", "device", "identifier", "is_fast", "is_claim", "sequence", "before", "last", "era")
 
@@ -125,7 +125,8 @@ class Lane:
 
 
 class Loads:
-    """The load over time, at most MOST_LOADS pieces: of each piece the bits and the greatest window. Pieces grow with the log."""
+    """The load over time, in at most MOST_LOADS parts: the bits and the busiest window of each. Parts grow with the
+    log."""
 
     def __init__(self):
         self.width, self.pieces, self.window = 1, {}, None
@@ -182,7 +183,7 @@ class Facts:
         self.at, self.lines = None, 0
 
     def jump(self, at):
-        """The stamps jump to this time: a hole, a clock that was set back, or the beginning of a log."""
+        """The timestamps jump to this time: a hole, a clock that was set back, or the beginning of a log."""
         if self.at is None:
             self.begin = at if self.begin is None else self.begin
         elif at < self.at:
@@ -197,7 +198,7 @@ class Facts:
         self.window_end = (at // WINDOW + 1) * WINDOW
 
     def close(self, at):
-        """Ends everything that is under way: gaps, sequences, the window."""
+        """Ends everything that is open: gaps, sequences, the window."""
         if at is None:
             return
         self.finish_window()
@@ -235,7 +236,7 @@ class Facts:
     # -- Lines.
 
     def block(self, block):
-        """Whole lines of a log."""
+        """Takes complete lines of a log."""
         found = FRAMES.findall(block)
         if len(found) == block.count(b"\n"):
             self.take(found)
@@ -256,7 +257,7 @@ class Facts:
                 self.stamps[self.lines >> 4 & self.size - 1] = self.at or 0.0
 
     def kind(self, pgn):
-        """The kind of a PGN in the table. All are asked for at once: each question takes a run of the program."""
+        """The kind of a PGN in the table. All are requested at once: each request takes a run of the program."""
         if self.known is None:
             self.known = self.kinds([of << 16 | low for of in range(4) for low in (*range(0, 0xF000, 256), *range(0xF000, 0x10000))])
         return self.known.get(pgn, "unknown")
@@ -278,7 +279,7 @@ class Facts:
         return found
 
     def lane(self, word):
-        """The lane of an identifier; False if it is not that of a message."""
+        """The lane of an identifier; False if it is not a message's."""
         number = int(word, 16)
         if len(word) == 3 or number >> 29:
             return False
@@ -289,7 +290,7 @@ class Facts:
         return lane
 
     def take(self, found):
-        """Frames, each with stamp, identifier and data."""
+        """Frames, each with timestamp, identifier and data."""
         lanes, stamps, mask, bits_of, unhex = self.lanes, self.stamps, self.size - 1, self.bits_of.bits, binascii.unhexlify
         self.has_frames = True
         number, now, window_end = self.lines, self.at, self.window_end
@@ -364,7 +365,7 @@ class Facts:
         lane.before, lane.sequence, lane.last, device.sequence = lane.sequence, sequence, at, sequence
 
     def restarted(self, device):
-        """The device counts anew, as after a claim of its address."""
+        """The device starts counting again, as after a claim of its address."""
         device.sequence = None
         device.era += 1
 
@@ -421,7 +422,8 @@ class Facts:
     # -- Messages.
 
     def message(self, line, is_of_log=False, it=None):
-        """A line of JSON: its time, or None if it is not a message. It may be a line of the log itself. `it` is the parsed line, if that is known."""
+        """A line of JSON: its time, or None if it is not a message. It may be a line of the log itself. `it` is the
+        parsed line, if it is known."""
         head = HEAD.match(line)
         if not head:
             return None
@@ -473,7 +475,7 @@ class Facts:
                     break
 
     def clock(self, at, sender, ahead):
-        """A device sends the time: how far that is ahead of the log."""
+        """A device sends the time: how far the time is ahead of the log."""
         had = self.clocks.get(sender)
         if had is None:
             self.clocks[sender] = [1, ahead, ahead, ahead, at]
@@ -493,7 +495,7 @@ class Facts:
         device.heartbeat = counter, at
 
     def instance(self, key, sender, at):
-        """A device sends of this thing. Devices that take turns have one instance."""
+        """A device sends values of this thing. Devices that alternate share one instance."""
         had = self.instances.get(key)
         if had is None:
             if len(self.instances) < MOST_FLOWS:
@@ -518,7 +520,7 @@ class Facts:
     # -- Reports.
 
     def time_of(self, line):
-        """The stamp of a line, by its number, or of one that follows within 16."""
+        """The timestamp of a line, by its number, or of a line up to 16 later."""
         return self.stamps[line >> 4 & self.size - 1] if line > self.lines - 16 * (self.size - 1) else self.begin or 0.0
 
     def report(self, text):

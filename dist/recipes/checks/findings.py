@@ -67,7 +67,7 @@ class Judged:
 
 
 def within(begin, end, times):
-    """Whether more than half of a time is within one of these."""
+    """Whether more than half of an interval is within one of these."""
     return any(min(end, to) - max(begin, since) > 0.5 * (end - begin) for since, to in times)
 
 
@@ -157,7 +157,7 @@ class Findings:
         return f"{text_of(flow.description)} ({flow.pgn})" if flow.description else f"PGN {flow.pgn}"
 
     def span(self, begin, end):
-        """From when to when, or "on" if it goes on to about the end."""
+        """From when to when, or "on" if it lasts until about the end."""
         if begin == end:
             return f"at {self.when(begin)}"
         goes_on = self.facts.at - end <= max(60.0, 0.1 * (self.facts.at - begin))
@@ -200,8 +200,8 @@ class Findings:
                          max(devices.values()))
 
     def restarts(self):
-        """Claims that nobody asked for, of devices that were there. If three devices or more claim at once, the bus was asked or
-        had no power; a device that claims regularly does so by habit."""
+        """Claims that were not requested, of devices that were there. If three devices or more claim at once, the bus
+        was asked or had no power; a device that claims regularly does so by habit."""
         facts, alone, rounds, regular = self.facts, [], [], set()
         unasked = sorted(it for it in facts.claims if not it[2])
         by_sender = {}
@@ -341,7 +341,7 @@ class Findings:
                          of=missed + sent, pgn=worst.flow.pgn)
 
     def missed(self, it):
-        """The messages that are missing of a flow, without those of a restart, or of a time when the whole bus was silent."""
+        """The missing messages of a flow, except at a restart or while the whole bus was silent."""
         restarts = self.restarted.get(it.flow.sender, ())
         return it.missed - sum(max(0, round(length / it.usual) - 1) for length, end in it.flow.gaps.longest
                                if length <= it.limit and (any(end - length <= at <= end + 1 for at in restarts) or within(end - length, end, self.quiets)))

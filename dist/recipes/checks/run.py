@@ -21,7 +21,8 @@ def facts_of(command):
 
 
 def read(facts, log, command, output=None):
-    """Reads a log to its end: a file, one that is open already (/dev/fd/N), or standard input (-). Its messages go to `output` too, a line each."""
+    """Reads a log to its end: a file, an open one (/dev/fd/N), or standard input (-). Its messages go to `output` too,
+    one on each line."""
     file = 0 if log == "-" else int(log[8:]) if re.fullmatch(r"/dev/fd/\d+", log) else os.open(log, os.O_RDONLY)
     try:
         first = os.read(file, 1 << 16)

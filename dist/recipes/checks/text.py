@@ -1,9 +1,9 @@
-"""Texts, times and shares in words, and lines of some width."""
+"""Texts, times and shares in words, and lines of a given width."""
 from screen import page
 
 
 def text_of(value, most=40):
-    """A text of the bus in one line, without control characters, and cut."""
+    """A text from the bus on one line, without control characters, and cut."""
     text = " ".join(page.CONTROLS.sub(" ", "".join(it if it.isprintable() else " " for it in str(value))).split())
     return text if len(text) <= most else text[:most - 1] + "…"
 
@@ -36,7 +36,7 @@ def many(count, one, more=None):
 
 
 def wrapped(text, width, first="", rest=None):
-    """A text in lines of this width, cut between words, and within those that are too long."""
+    """A text in lines of this width, cut between words, and inside words that are too long."""
     rest = " " * len(first) if rest is None else rest
     line, lines = first, []
     for word in text.split():
