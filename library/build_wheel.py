@@ -1,4 +1,4 @@
-"""Makes the wheel that `pip install ./library` installs, and the sdist (PEP 517): the package n2kdec, with its table and the library that it calls.
+"""Makes the wheel that `pip install ./library` installs, and the sdist (PEP 517): the package n2kdec, with the library that it calls.
 
 The library is the file that the variable N2KDEC_LIBRARY names; otherwise the one that library/build makes, if the command rt of the
 Rattle kit is installed. Without both the wheel contains no library, and the package calls the system's libn2kdec.so.1; if that is
@@ -29,13 +29,9 @@ def _version():
 
 
 def _package():
-    """The files of the package, by name. In the repository the table is elsewhere."""
+    """The files of the package, by name."""
     names = [*sorted(it.name for it in HERE.glob("n2kdec/*.py")), "py.typed"]
-    files = {f"n2kdec/{name}": (HERE / "n2kdec" / name).read_bytes() for name in names}
-    tables = [it for it in (HERE / "n2kdec/n2k.toml", HERE.parent / "tables/n2k.toml") if it.exists()]
-    if not tables:
-        raise SystemExit(f"{HERE}/n2kdec/n2k.toml is missing: copy tables/n2k.toml of the repository there")
-    return {**files, "n2kdec/n2k.toml": tables[0].read_bytes()}
+    return {f"n2kdec/{name}": (HERE / "n2kdec" / name).read_bytes() for name in names}
 
 
 def _platform(library):

@@ -12,6 +12,20 @@ export interface Message {
   fields: { [field: string]: Value };
 }
 
+/** A CAN frame, with the members that a channel of the package `socketcan` gives. */
+export interface CanFrame {
+  id: number;
+  data: Uint8Array;
+  /** Its time since 1970 in UTC: seconds, and the microseconds after them. */
+  ts_sec: number;
+  ts_usec: number;
+  /** Whether the identifier has 29 bits; by default true. */
+  ext?: boolean;
+  /** Whether it is a remote or an error frame, which is skipped. */
+  rtr?: boolean;
+  err?: boolean;
+}
+
 /** The options of `n2kdec decode`. */
 export interface Options {
   /** The table's file; by default that of the installed program. */
@@ -40,11 +54,11 @@ export class N2kdecError extends Error {
 }
 
 /**
- * Decodes a log: the name of a file, or a stream such as the standard output of `candump -L can0`.
+ * Decodes a log: the name of a file, a stream such as the standard output of `candump -L can0`, or anything that gives CAN frames.
  * Each message comes as soon as its last line has been read. If the loop is left, the program is ended.
  * Numbers are those of JavaScript; `lines` gives them exactly.
  */
-export function decode(log: string | AsyncIterable<Uint8Array | string>, options?: Options): AsyncGenerator<Message, void, undefined>;
+export function decode(log: string | AsyncIterable<Uint8Array | string | CanFrame>, options?: Options): AsyncGenerator<Message, void, undefined>;
 
 /** As `decode`, with each message as its line of JSON. */
-export function lines(log: string | AsyncIterable<Uint8Array | string>, options?: Options): AsyncGenerator<string, void, undefined>;
+export function lines(log: string | AsyncIterable<Uint8Array | string | CanFrame>, options?: Options): AsyncGenerator<string, void, undefined>;

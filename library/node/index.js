@@ -35,6 +35,19 @@ function argumentsOf(log, { table = installedTable(), window, inOrder, empty, wh
   return typeof log === "string" ? [...words, "--", log] : words;
 }
 
+/** The line that `candump -L` prints of a frame. What it prints of a remote or an error frame is skipped. */
+function lineOf({ id, data, ts_sec, ts_usec, ext = true, rtr = false, err = false }) {
+  const hex = (number, size) => number.toString(16).toUpperCase().padStart(size, "0");
+  const identifier = err ? hex(0x20000000 + id, 8) : hex(id, ext ? 8 : 3);
+  const time = `${String(ts_sec).padStart(10, "0")}.${String(ts_usec).padStart(6, "0")}`;
+  return `(${time}) can0 ${identifier}#${rtr ? "R" : Array.from(data, (byte) => hex(byte, 2)).join("")}\n`;
+}
+
+/** The text of a log that may contain frames. */
+async function* textsOf(log) {
+  for await (const it of log) yield typeof it === "string" || it instanceof Uint8Array ? it : lineOf(it);
+}
+
 /** Gives the lines of a stream of text as they come. */
 async function* linesOf(stream) {
   let rest = "";
@@ -67,7 +80,7 @@ async function* lines(log, options = {}) {
   // If the program ends first, its own fault tells more than the broken pipe. If reading the log fails, what came before is decoded.
   let fault;
   if (typeof log !== "string") {
-    pipeline(log, child.stdin).catch((error) => {
+    pipeline(log, textsOf, child.stdin).catch((error) => {
       if (error.code !== "EPIPE" && error.code !== "ERR_STREAM_PREMATURE_CLOSE") fault = error;
     });
   }

@@ -37,6 +37,20 @@ test("lines and reports are those of the program", async () => {
   }
 });
 
+test("frames print what their lines print", async () => {
+  const frame = /^\((\d+)\.(\d{6})\) can0 ([0-9A-F]{8})#([0-9A-F]*)$/;
+  const log = readFileSync(trip, "utf8").split("\n").slice(0, -1).map((line) => {
+    const [, seconds, micros, id, data] = frame.exec(line) ?? [];
+    return id ? { id: parseInt(id, 16), data: Buffer.from(data, "hex"), ts_sec: Number(seconds), ts_usec: Number(micros) } : `${line}\n`;
+  });
+  const [first] = log.filter((it) => typeof it !== "string");
+  const others = [{ ...first, ext: false, id: 0x123 }, { ...first, rtr: true }, { ...first, err: true, id: 4 }];
+  const reports = [];
+  const printed = await all(lines(Readable.from([...others, ...log]), { table, program, onReport: (line) => reports.push(line) }));
+  assert.deepStrictEqual(printed, ofProgram(trip).printed);
+  assert.deepStrictEqual(reports, ["lines 123 messages 48 bad 0 unknown 1 broken 0 open 0"]);
+});
+
 test("messages are objects", async () => {
   const depths = (await all(decode(trip, { table, program, inOrder: true }))).filter((it) => it.pgn === 128267);
   assert.deepStrictEqual(depths.map((it) => [it.timestamp, it.fields.Depth]), [["2025-07-04T06:00:00.160Z", 3.42], ["2025-07-04T06:00:00.660Z", 4.22]]);

@@ -332,14 +332,18 @@ class Decoding(unittest.TestCase):
             n2kdec.decode(b"", table="no such table")
 
     def test_decoders_go_from_thread_to_thread_in_random_pieces_and_frames_and_from_states(self):
-        """N2KDEC_RUNS is the number of passes over a log: eight decoders, each step by another one of four threads."""
+        """N2KDEC_RUNS is the number of passes over a log: eight decoders, each step by another one of four threads.
+
+        N2KDEC_LOGS is a folder of other logs.
+        """
         logs = [TRIP, ROOT / "examples/two-sources.log", ROOT / "examples/repeat-breaks.log", ROOT / "examples/ten-lines-eight-bad.log"]
+        if "N2KDEC_LOGS" in os.environ:
+            logs = sorted(pathlib.Path(os.environ["N2KDEC_LOGS"]).glob("*.log"))
         wanted = {log: program("decode", "--table", SAMPLE, log) for log in logs}
 
         def differs(seed):
             """Yields None after each step, and at the end whether something differs."""
-            chance = random.Random(seed)
-            log = chance.choice(logs)
+            chance, log = random.Random(seed), logs[seed % len(logs)]
             data, most, at = log.read_bytes(), 1 << chance.randrange(1, 14), 0
             decoder, printed, reports = n2kdec.Decoder(SAMPLE), b"", []
             while at < len(data):

@@ -27,7 +27,7 @@ fn an_iterator_gives_every_message() {
     let mut decoder = Decoder::new(&table, Settings { empty: true, ..Settings::default() }).unwrap();
     let log = fs::File::open(at("examples/trip.log")).unwrap();
     let printed: Vec<_> = decoder.decode(log).map(Result::unwrap).collect();
-    assert_eq!(printed, of_program(&["--empty"], "tables/n2k.toml", "examples/trip.log").0);
+    assert_eq!(printed, of_program(&["--empty"], "tables/n2k.toml", &at("examples/trip.log")).0);
     // The log has ended.
     assert!(matches!(decoder.feed(b"x"), Err(Error::Refused(7, _))));
 }

@@ -1,10 +1,11 @@
 //! Decoders that go from thread to thread, by random pieces and frames, saved and continued, print what the program prints.
-//! $N2KDEC_RUNS is how many times a log is decoded.
+//! $N2KDEC_RUNS is how many times a log is decoded; $N2KDEC_LOGS is a folder of other logs.
 mod common;
 
 use common::{at, of_program};
 use n2kdec::{Counts, Decoder, Settings};
 use std::collections::VecDeque;
+use std::path::PathBuf;
 use std::sync::Mutex;
 use std::{env, fs, thread};
 
@@ -55,8 +56,7 @@ struct Run<'a> {
 
 impl<'a> Run<'a> {
     fn new(seed: usize, logs: &'a [Log]) -> Self {
-        let mut chance = Chance(seed as u64 + 1);
-        let log = &logs[chance.below(logs.len())];
+        let (chance, log) = (Chance(seed as u64 + 1), &logs[seed % logs.len()]);
         let decoder = Decoder::new(&log.table, IN_ORDER).unwrap();
         Run { chance, log, decoder, begin: 0, printed: Vec::new(), reported: Vec::new() }
     }
@@ -108,8 +108,12 @@ fn threads() -> usize {
 
 #[test]
 fn any_thread_may_call_and_none_is_made() {
-    let logs = ["examples/trip.log", "examples/two-sources.log", "examples/repeat-breaks.log", "tests/logs/messages.log"]
-        .map(|it| Log { bytes: fs::read(at(it)).unwrap(), table: fs::read(at(TABLE)).unwrap(), wanted: of_program(&["--in-order"], TABLE, it) });
+    let names = match env::var("N2KDEC_LOGS") {
+        Ok(folder) => fs::read_dir(folder).unwrap().map(|it| it.unwrap().path()).filter(|it| it.extension() == Some("log".as_ref())).collect(),
+        Err(_) => ["examples/trip.log", "examples/two-sources.log", "examples/repeat-breaks.log", "tests/logs/messages.log"].map(at).to_vec(),
+    };
+    let log = |it: PathBuf| Log { bytes: fs::read(&it).unwrap(), table: fs::read(at(TABLE)).unwrap(), wanted: of_program(&["--in-order"], TABLE, &it) };
+    let logs: Vec<_> = names.into_iter().map(log).collect();
     let runs = env::var("N2KDEC_RUNS").map_or(12, |it| it.parse().unwrap());
     let (before, next) = (threads(), Mutex::new(0..runs));
     let idle: Mutex<VecDeque<Run>> = Mutex::new((0..8).filter_map(|_| next.lock().unwrap().next()).map(|it| Run::new(it, &logs)).collect());

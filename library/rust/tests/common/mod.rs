@@ -1,6 +1,6 @@
 //! The files of the repository, and the program, which $N2KDEC_PROGRAM names.
 use std::env;
-use std::path::PathBuf;
+use std::path::{Path, PathBuf};
 use std::process::Command;
 
 pub fn at(path: &str) -> PathBuf {
@@ -8,9 +8,9 @@ pub fn at(path: &str) -> PathBuf {
 }
 
 /// What the program prints and reports of a log, with a table.
-pub fn of_program(words: &[&str], table: &str, log: &str) -> (Vec<String>, Vec<String>) {
+pub fn of_program(words: &[&str], table: &str, log: &Path) -> (Vec<String>, Vec<String>) {
     let program = env::var_os("N2KDEC_PROGRAM").expect("N2KDEC_PROGRAM names the program");
-    let ran = Command::new(program).arg("decode").args(words).arg("--table").arg(at(table)).arg(at(log)).output().unwrap();
+    let ran = Command::new(program).arg("decode").args(words).arg("--table").arg(at(table)).arg(log).output().unwrap();
     let lines = |bytes: &[u8]| std::str::from_utf8(bytes).unwrap().split_terminator('\n').map(str::to_owned).collect::<Vec<_>>();
     (lines(&ran.stdout), lines(&ran.stderr))
 }
