@@ -105,7 +105,7 @@ rising-first : (n : ℕ) (f : Frame) (fs : List Frame) → 0 < n → map (λ (g 
 rising-first zero f fs some numbers = absurd (omega arith)
 rising-first (suc n) f fs some numbers = cc
 
-some-from : (h : List Frame) → 0 < length h → has_from 0 h ≡ true
+pub some-from : (h : List Frame) → 0 < length h → has_from 0 h ≡ true
 some-from [] some = absurd (omega (arith, some))
 some-from (f ∷ h) some = or_left _ _ (le-leb 0 f.number (omega arith))
 

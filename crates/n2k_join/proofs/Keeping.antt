@@ -134,6 +134,13 @@ log-push n fs x log at number = grind (arith, all-zip (λ (f : Frame). (1 ≤ f.
 
 -- ---- the step
 
+step-log : (kind : ℕ → Option Kind) (s : State) (e : Entry) → 0 < s.window.lines → AreOpen s.counts.lines s.groups → IsLog (next_line s) (step_frames kind s e)
+step-log kind s e some are = grind (arith, held-log, kept-open kind s e some are, append-nil, log-wider, log-push, frame_in-line, frame_in-number)
+
+-- after a line the open groups can be open
+pub step-groups_open : (kind : ℕ → Option Kind) (s : State) (e : Entry) → 0 < s.window.lines → AreOpen s.counts.lines s.groups → AreOpen (next_line s) (step_groups kind s e)
+step-groups_open kind s e some are = open_within-open s.window (next_line s) some (step_frames kind s e) (step-log kind s e some are)
+
 -- a line gives at most one of a message, a cause and an unknown PGN
 one_of : (kind : ℕ → Option Kind) (e : Entry) → one_if (is_some (alone kind e)) + one_if (is_some (cause_in kind e)) + one_if (is_unknown kind e) ≤ 1
 one_of kind e = grind arith
@@ -153,9 +160,6 @@ module _ (kind : ℕ → Option Kind) (s : State) (e : Entry) (is : IsState s) w
 
   step-open : AreOpen s.counts.lines (kept s)
   step-open = kept-open kind s e window-some is.groups
-
-  step-log : IsLog (next_line s) (step_frames kind s e)
-  step-log = grind (arith, held-log, step-open, append-nil, log-wider, log-push, frame_in-line, frame_in-number)
 
   kept-parts : AllByRecursion HasParts (kept s)
   unfolding waiting
@@ -195,7 +199,7 @@ module _ (kind : ℕ → Option Kind) (s : State) (e : Entry) (is : IsState s) w
   -- after one more line the state is again one that a join can have
   pub step-keeps : IsEntry e → s.counts.lines < most_lines → IsState (step_after kind s e)
   unfolding step_after waiting
-  step-keeps valid below = grind (arith, step-once, open_within-open, step-log, all-filter, open_groups-parts, within-ends, step-parts)
+  step-keeps valid below = grind (arith, step-once, step-groups_open kind s e window-some is.groups, all-filter, open_groups-parts, within-ends, step-parts)
 
 -- after one more line, no group's window has ended
 pub step-waits : (kind : ℕ → Option Kind) (s : State) (e : Entry) → AreWaiting (step_after kind s e)

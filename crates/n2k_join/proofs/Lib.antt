@@ -1,5 +1,6 @@
 pub mod Advanced
 pub mod Agreeing
+pub mod AnyLine
 pub mod Apart
 pub mod Arriving
 pub mod BadLines

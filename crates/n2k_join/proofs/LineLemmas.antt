@@ -1,5 +1,5 @@
 -- The code's result of a line and the groups after it are the step's, if no group is overdue.
-use Rattle.std.proofs.Common.{◌≡◌, ◌<◌, ◌+◌, ℕ, Bool, true, List, [], ◌∷◌, ◌++◌, length, map, refl, sym, ap, ◌∙◌, subst, arith, ◌≤◌, Option, Some, None, IfSome, filter_map, is_some}
+use Rattle.std.proofs.Common.{◌≡◌, ◌<◌, ◌+◌, ℕ, Bool, true, List, [], ◌∷◌, ◌++◌, length, map, refl, sym, ap, ◌∙◌, subst, arith, ◌≤◌, Option, Some, None, IfSome, filter_map, is_some, append-nil}
 use Rattle.std.specs.List.{AllByRecursion}
 use Rattle.n2k_wire.specs.declared.entry.Entry.{Entry}
 use Rattle.n2k_table.specs.declared.definition.Kind.{Kind}
@@ -15,10 +15,9 @@ use Rattle.n2k_join.specs.Open.{Group, is_waiting, ended}
 use Rattle.n2k_join.specs.State.{State, Given, held_of, next_line, overdue, one_if, step_after, IsOpen, AreOpen, IsState, step_given}
 use Rattle.n2k_join.specs.Inner.Stored.{rejects, taken, opened, of_the_key, groups_after, gained, gives_by, leaves_by}
 use Rattle.n2k_join.proofs.Advanced.{advanced, taken as advanced-taken, opened as advanced-opened}
-use Rattle.n2k_join.proofs.BrokenGroups.{told_if, breaks}
 use Rattle.n2k_join.proofs.Overdue.{one-broken}
-use Rattle.n2k_join.proofs.Rising.{find-all, all-zip, all-map}
-use Rattle.n2k_join.proofs.Steps.{StepsTo, kept, frame_message, only_frame, step-none, step-frame}
+use Rattle.n2k_join.proofs.Rising.{find-all, all-zip, all-map, all_with}
+use Rattle.n2k_join.proofs.Steps.{StepsTo, kept, kept-open, kept-wait, frame_message, only_frame, step-none, step-frame}
 use Rattle.n2k_join.proofs.Windows.{waiting-all, waits-ends, misfits-rejects}
 use Rattle.n2k_join.specs.Window.{Window}
 use Rattle.n2k_join.specs.Counts.{most_lines}
@@ -56,45 +55,39 @@ unfolding ended
 none-overdue w line [] e = tt
 none-overdue w line (g ∷ gs) e = grind (arith, none-overdue w line gs)
 
--- The step on a state whose groups can be open and none of which is overdue.
-line-steps : (kind : ℕ → Option Kind) (s : State) (e : Entry) → 0 < s.window.lines → AreOpen s.counts.lines s.groups → overdue s ≡ []
-    → let o = frame_in kind (next_line s) e in StepsTo kind s e (gives_by s.window.in_order (alone kind e) (cause_in kind e) s.groups o) (leaves_by s.window.in_order s.groups o)
-line-steps kind s e some are none_over = by (frame_in kind (next_line s) e) refl
-  where
-    wait : AllByRecursion (λ (g : Group). is_waiting s.window (next_line s) g ≡ true) s.groups
-    wait = none-overdue s.window (next_line s) s.groups none_over
+module _ (kind : ℕ → Option Kind) (s : State) (e : Entry) (some : 0 < s.window.lines) (are : AreOpen s.counts.lines s.groups) where
+  -- the groups whose window ends are broken, then the groups that wait give this for a frame, or none
+  abbrev pub gives_all : Option Frame → Given
+  gives_all o =
+      let x = gives_by s.window.in_order (alone kind e) (cause_in kind e) (kept s) o in
+      record { message = x.message; cause = x.cause; broken = map as_broken (overdue s) ++ x.broken }
 
-    kept_is : kept s ≡ s.groups
-    kept_is = waiting-all s.window (next_line s) s.groups wait
+  steps_by : (o : Option Frame) → frame_in kind (next_line s) e ≡ o → StepsTo kind s e (gives_all o) (leaves_by s.window.in_order (kept s) o)
+  steps_by None none = subst (λ g. StepsTo kind s e g (kept s)) (λ i. record { message = alone kind e; cause = cause_in kind e; broken = sym (append-nil (map as_broken (overdue s))) i }) (step-none kind s e some are none)
+  steps_by (Some x) found =
+      let w = s.window in
+      let opens = kept-open kind s e some are in
+      let at : next_line s ≡ x.line = sym (only_frame kind (next_line s) e x found).line in
+      let wait : AllByRecursion (λ (g : Group). is_waiting w x.line g ≡ true) (kept s) = subst (λ l. AllByRecursion (λ (g : Group). is_waiting w l g ≡ true) (kept s)) at (kept-wait kind s e some are) in
+      let earlier : AllByRecursion (λ (g : Group). g.first < x.line) (kept s) = all-map (λ (g : Group). g.first ≤ s.counts.lines) (λ (g : Group). g.first < x.line) (kept s) (λ g l. omega (arith, l, at)) opens.begun in
+      let fit : AllByRecursion (WaitsAt w x.line) (kept s) =
+      all_with IsOpen (λ (g : Group). (is_waiting w x.line g ≡ true) × (g.first < x.line)) (WaitsAt w x.line) (λ g p q. (p, q.0, q.1)) (kept s) opens.each (all-zip (λ (g : Group). is_waiting w x.line g ≡ true) (λ (g : Group). g.first < x.line) (kept s) wait earlier) in
+      let broken = one-broken w some x (kept s) opens.each wait earlier opens.apart in
+      let message = frame-message w x (kept s) (of_the_key x.key (kept s)) refl (found-fit w x (kept s) fit (of_the_key x.key (kept s)) refl) in
+      subst (StepsTo kind s e (gives_all (Some x))) (same-groups w x (kept s) fit)
+      (subst (λ g. StepsTo kind s e g (advanced (within w) (kept s) x)) (λ i. record { message = message i; cause = None; broken = map as_broken (overdue s) ++ broken i }) (step-frame kind s e some are x found))
 
-    earlier : AllByRecursion (λ (g : Group). g.first < next_line s) s.groups
-    earlier = all-map (λ (g : Group). g.first ≤ s.counts.lines) (λ (g : Group). g.first < next_line s) s.groups (λ g l. omega (arith, l)) are.begun
+  -- The step on a state whose groups can be open.
+  pub all-steps : StepsTo kind s e (gives_all (frame_in kind (next_line s) e)) (leaves_by s.window.in_order (kept s) (frame_in kind (next_line s) e))
+  all-steps = steps_by (frame_in kind (next_line s) e) refl
 
-    fit : AllByRecursion (WaitsAt s.window (next_line s)) s.groups
-    fit =
-        all-map (λ (g : Group). (IsOpen g × (is_waiting s.window (next_line s) g ≡ true)) × (g.first < next_line s)) (WaitsAt s.window (next_line s)) s.groups (λ g h. (h.0.0, h.0.1, h.1))
-        (all-zip (λ (g : Group). IsOpen g × (is_waiting s.window (next_line s) g ≡ true)) (λ (g : Group). g.first < next_line s) s.groups (all-zip IsOpen (λ (g : Group). is_waiting s.window (next_line s) g ≡ true) s.groups are.each wait) earlier)
-
-    told_none : map as_broken (overdue s) ≡ []
-    told_none = ap (map as_broken) none_over
-
-    change : (g h : Given) (a b : List Group) → g ≡ h → a ≡ b → StepsTo kind s e g a → StepsTo kind s e h b
-    change g h a b p q steps = subst (λ gs. StepsTo kind s e h gs) q (subst (λ g. StepsTo kind s e g a) p steps)
-
-    by : (o : Option Frame) → frame_in kind (next_line s) e ≡ o → StepsTo kind s e (gives_by s.window.in_order (alone kind e) (cause_in kind e) s.groups o) (leaves_by s.window.in_order s.groups o)
-    by None none = change _ _ _ _ (ap (λ b. record { message = alone kind e; cause = cause_in kind e; broken = b }) told_none) kept_is (step-none kind s e some are none)
-    by (Some x) found =
-        let at : next_line s ≡ x.line = sym (only_frame kind (next_line s) e x found).line in
-        let fit_x : AllByRecursion (WaitsAt s.window x.line) s.groups = subst (λ l. AllByRecursion (WaitsAt s.window l) s.groups) at fit in
-        let wait_x : AllByRecursion (λ (g : Group). is_waiting s.window x.line g ≡ true) s.groups = subst (λ l. AllByRecursion (λ (g : Group). is_waiting s.window l g ≡ true) s.groups) at wait in
-        change _ _ _ _
-        (λ i. record {
-          message = (ap (frame_message s.window x) kept_is ∙ frame-message s.window x s.groups (of_the_key x.key s.groups) refl (found-fit s.window x s.groups fit_x (of_the_key x.key s.groups) refl)) i;
-          cause = None;
-          broken = (ap (λ bs. bs ++ filter_map (told_if s.window some (breaks s.window some x)) (kept s)) told_none ∙ ap (filter_map (told_if s.window some (breaks s.window some x))) kept_is ∙ one-broken s.window some x s.groups are.each wait_x (subst (λ l. AllByRecursion (λ (g : Group). g.first < l) s.groups) at earlier) are.apart) i;
-        })
-        (ap (λ gs. advanced (within s.window) gs x) kept_is ∙ same-groups s.window x s.groups fit_x)
-        (step-frame kind s e some are x found)
+  -- the same if no group is overdue
+  line-steps : overdue s ≡ [] → let o = frame_in kind (next_line s) e in StepsTo kind s e (gives_by s.window.in_order (alone kind e) (cause_in kind e) s.groups o) (leaves_by s.window.in_order s.groups o)
+  line-steps none_over =
+      let o = frame_in kind (next_line s) e in
+      let x = gives_by s.window.in_order (alone kind e) (cause_in kind e) (kept s) o in
+      subst (λ gs. StepsTo kind s e (gives_by s.window.in_order (alone kind e) (cause_in kind e) gs o) (leaves_by s.window.in_order gs o)) (waiting-all s.window (next_line s) s.groups (none-overdue s.window (next_line s) s.groups none_over))
+      (subst (λ g. StepsTo kind s e g (leaves_by s.window.in_order (kept s) o)) (λ i. record { message = x.message; cause = x.cause; broken = map as_broken (none_over i) ++ x.broken }) all-steps)
 
 -- an entry that was taken as a message has one
 pub own_counted : (t : TableParts) (known : Option KnownParts) (own : Option PacketParts) → IsOwn t known own → is_some (message_in (is_some known) own) ≡ is_some known

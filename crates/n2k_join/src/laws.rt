@@ -19,8 +19,9 @@ ghost use Rattle.n2k_join.specs.Resumed.{resumed};
 ghost use Rattle.n2k_join.specs.Rules.{HasShape, RulesAreOne};
 ghost use Rattle.n2k_join.specs.declared.fault.StateFault.TheVariants.{WindowDiffers};
 ghost use Rattle.n2k_join.specs.Saved.{IsId, state_text};
-ghost use Rattle.n2k_join.specs.State.{State, IsState, AreFast, AreWaiting, state, step_after};
+ghost use Rattle.n2k_join.specs.State.{State, IsState, AreFast, AreWaiting, state, step_given, step_after};
 ghost use Rattle.n2k_join.specs.Window.{Window, IsWindow};
+ghost use Rattle.n2k_join.specs.AnyLine.{CanContinue, IsMoved, StepsMoved, state_from, AreEnough};
 ghost use Rattle.n2k_join.specs.Arrival.{PiecesJoin, FillsAllFrames, ArriveWhole, ComesNext, LeavesZero, Heals};
 ghost use Rattle.n2k_join.specs.Consecutive.{GroupsConsecutive, ComesOfConsecutive};
 ghost use Rattle.n2k_join.specs.Bounds.{HasWindow, HoldsFew};
@@ -201,4 +202,23 @@ pub fn few_resumed()
     ensures after_a_line { (kind : ℕ → Option Kind) (id : List ℕ) (window : Window) (bytes : List ℕ) (s : State)
         (e : Entry) → IsWindow window.lines → IsId id → resumed kind id window bytes ≡ Ok s → IsEntry e
         → s.counts.lines < most_lines → HoldsFew (step_after kind s e) }
+{}
+
+/// Only distances between lines matter. From a state with the window and the open groups of another state, in key,
+/// frames and distance to the next line, each entry gives the same message, cause and broken groups, with lines counted
+/// from each state's own number, and adds the same to the counts. Each state of a join or of a log can continue.
+pub fn moved_states()
+    ensures moved { (d : ℕ) (kind : ℕ → Option Kind) (s t : State) (e : Entry) → CanContinue s → CanContinue t
+        → IsMoved d s t → StepsMoved d kind s t e }
+    ensures any { (s : State) → IsState s → CanContinue s }
+    ensures logs { (id : List ℕ) (window : Window) (kind : ℕ → Option Kind) (es : List Entry) → IsWindow window.lines
+        → CanContinue (state id window kind es) }
+{}
+
+/// In order, a message depends only on the lines of one window. After at least W - 1 lines, for a window of W lines, two
+/// runs give the same messages, whatever states they began with.
+pub fn from_any_line()
+    ensures { (kind : ℕ → Option Kind) (s t : State) (last : List Entry) (e : Entry) → CanContinue s → CanContinue t
+        → s.window ≡ t.window → AreEnough s.window last
+        → (step_given kind (state_from kind s last) e).message ≡ (step_given kind (state_from kind t last) e).message }
 {}

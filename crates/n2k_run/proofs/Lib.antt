@@ -1,3 +1,4 @@
+pub mod AnyLine
 pub mod Answering
 pub mod Calls
 pub mod Counting

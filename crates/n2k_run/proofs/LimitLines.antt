@@ -31,7 +31,7 @@ by_feed (b ∷ bs) = go (is_line_feed b) refl (by_feed bs)
     go false is (inl none) = inl (All-cons (λ byte. is_line_feed byte ≡ false) b bs is none)
     go false is (inr f) = inr (record { chunk = b ∷ f.chunk; rest = f.rest; none = All-cons (λ byte. is_line_feed byte ≡ false) b f.chunk is f.none; bytes_are = ap (λ x. b ∷ x) f.bytes_are })
 
-ends_on : (prefix bytes : List ℕ) → IsEmptyOrEndsWith prefix line_feed → IsEmptyOrEndsWith bytes line_feed → IsEmptyOrEndsWith (prefix ++ bytes) line_feed
+pub ends_on : (prefix bytes : List ℕ) → IsEmptyOrEndsWith prefix line_feed → IsEmptyOrEndsWith bytes line_feed → IsEmptyOrEndsWith (prefix ++ bytes) line_feed
 ends_on prefix [] first last = subst (λ x. IsEmptyOrEndsWith x line_feed) (sym (append-nil prefix)) first
 ends_on prefix (y ∷ ys) first last = grind (arith, length-append, get_or-append_right)
 

@@ -1,3 +1,4 @@
+pub mod AnyLine
 pub mod Blocks
 pub mod Decoded
 pub mod Device

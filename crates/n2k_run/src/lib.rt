@@ -32,8 +32,8 @@
 //!   `MemorySink` for tests, whose calls can be short and can fail.
 //! - `read_bytes` reads a source whole, up to a limit; `write_all` writes a text whole. `bad_text` and `broken_text`
 //!   are the reports of a line.
-//! - `laws` has theorems: what is printed of messages that were scattered over a log, or written and then read, and, if
-//!   the window is in order, what each printed line shows.
+//! - `laws` has theorems: what is printed of messages that were scattered over a log, or written and then read; if the
+//!   window is in order, what each printed line shows, and which lines before a part of a log are enough.
 //!
 //! A run that returns Ok has written exactly the texts and reports of the log's lines, in their order. A run that
 //! returns a fault has written a prefix of them, the reports first: the fault names the one device whose call failed,
