@@ -240,11 +240,14 @@ class Decoding(unittest.TestCase):
         self.assertEqual((len(messages), messages[0]["timestamp"], messages[0]["fields"]["SOG"]), (1, "2025-07-04T06:00:00.114Z", 0.5))
         self.assertEqual(reports, ["line 6 bad B2 stamp"])
         self.assertEqual(reports, wanted.stderr.decode().splitlines()[:-1])
-        try:
-            import can
-        except ImportError:
-            print("left out for want of python3-can: frames of its bus", file=sys.stderr)
-            return
+        # Debian's python3-can warns as it is imported by Python 3.11.
+        with warnings.catch_warnings():
+            warnings.simplefilter("ignore")
+            try:
+                import can
+            except ImportError:
+                print("left out for want of python3-can: frames of its bus", file=sys.stderr)
+                return
         with can.Bus("n2kdec", interface="virtual") as bus, can.Bus("n2kdec", interface="virtual") as other:
             other.send(can.Message(timestamp=1751608800.114, arbitration_id=0x09F80203, data=data))
             [message] = n2kdec.decode([bus.recv(10)])
