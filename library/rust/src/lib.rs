@@ -69,7 +69,7 @@ impl std::error::Error for Error {}
 ///
 /// It may go from thread to thread (`Send`), but two threads may not share it without a lock:
 ///
-/// ```compile_fail
+/// ```compile_fail,E0277
 /// fn shared<T: Sync>() {}
 /// shared::<n2kdec::Decoder>();
 /// ```
