@@ -1,7 +1,10 @@
+pub mod Again
 pub mod Befores
 pub mod Firsts
 pub mod Laid
+pub mod Named
 pub mod Near
+pub mod Numbers
 pub mod NoObjects
 pub mod Pairs
 pub mod Pieces
@@ -10,4 +13,6 @@ pub mod Prefixes
 pub mod Requests
 pub mod Scaling
 pub mod Sound
+pub mod Strings
 pub mod Units
+pub mod Wide

@@ -1,5 +1,5 @@
 -- Pairs of hexadecimal digits that spell bytes are those that `decode` prints of them.
-use Rattle.std.proofs.Common.{◌≡◌, ℕ, zero, suc, ◌+◌, ◌*◌, ◌/◌, ◌%◌, ◌<◌, ◌==◌, nat_lt, Bool, true, ◌&&◌, List, [], ◌∷◌, Option, Some, None, if◌then◌else◌, refl, ap, subst, sym, ◌∙◌, arith, inl, inr}
+use Rattle.std.proofs.Common.{◌≡◌, ℕ, zero, suc, ◌+◌, ◌*◌, ◌/◌, ◌%◌, ◌<◌, ◌==◌, nat_lt, Bool, true, ◌&&◌, List, [], ◌∷◌, Option, Some, None, if◌then◌else◌, refl, ap, ◌∙◌, arith, inl, inr}
 use Rattle.std.specs.List.{slice_index}
 use Rattle.std.specs.Str.{bytes_eq}
 use Rattle.std.proofs.lemmas.Bool.{cases_lt}
@@ -10,7 +10,7 @@ use Rattle.n2k_encode.specs.Steps.{is_some_with, ◌>>=◌}
 use Rattle.n2k_encode.specs.Texts.{byte_before, hex_byte, hex_bytes, hex_digit, later_pairs}
 
 -- the digit of a value below 16
-spelled : ℕ → ℕ
+unfoldable pub spelled : ℕ → ℕ
 spelled a = if nat_lt a 10 then 48 + a else 55 + a
 
 -- two functions are the same below a number
@@ -29,7 +29,7 @@ same_below f g (suc n) k all below = elim (cases_lt k n) [
       rw is here
 ]
 
-spelled_is : (a : ℕ) → a < 16 → slice_index hex_digits a ≡ spelled a
+pub spelled_is : (a : ℕ) → a < 16 → slice_index hex_digits a ≡ spelled a
 unfolding all_same spelled
 spelled_is a few = same_below (λ n. slice_index hex_digits n) spelled 16 a refl few
 
@@ -78,6 +78,9 @@ after_pair a b front rest e = rw (e, same_bytes (a ∷ b ∷ [])) refl
 after_space : (s a b : ℕ) (front rest : List ℕ) → s ≡ space → front ≡ a ∷ b ∷ [] → after (space ∷ front) (s ∷ a ∷ b ∷ rest) ≡ Some rest
 after_space s a b front rest is e = rw (is, e, same_bytes (space ∷ a ∷ b ∷ [])) refl
 
+later_step : (s h l b : ℕ) (rest bs others : List ℕ) → s ≡ space → hex_pair b ≡ h ∷ l ∷ [] → bs ≡ b ∷ others → has_pieces later_pair others rest ≡ true → has_pieces later_pair bs (s ∷ h ∷ l ∷ rest) ≡ true
+later_step s h l b rest bs others between pair all more = rw all (ap (is_some_with (has_pieces later_pair others)) (after_space s h l (hex_pair b) rest between pair) ∙ more)
+
 later_back : (text bs : List ℕ) → later_pairs text ≡ Some bs → has_pieces later_pair bs text ≡ true
 later_back [] [] e = refl
 later_back [] (b ∷ bs) e = absurd cc
@@ -87,9 +90,10 @@ later_back (s ∷ h ∷ l ∷ rest) bs e =
     let between : s ≡ space = grind (arith, e) in
     let made : byte_before (hex_byte h l) (later_pairs rest) ≡ Some bs = grind (arith, e) in
     let p = parts (hex_byte h l) (later_pairs rest) bs made in
-    let found = after_space s h l (hex_pair p.byte) rest between (pair_is h l p.byte p.byte_is) in
-    let more = later_back rest p.others p.others_are in
-    subst (λ (x : List ℕ). has_pieces later_pair x (s ∷ h ∷ l ∷ rest) ≡ true) (sym p.all) (ap (is_some_with (has_pieces later_pair p.others)) found ∙ more)
+    later_step s h l p.byte rest bs p.others between (pair_is h l p.byte p.byte_is) p.all (later_back rest p.others p.others_are)
+
+first_step : (h l b : ℕ) (rest bs others : List ℕ) → hex_pair b ≡ h ∷ l ∷ [] → bs ≡ b ∷ others → has_pieces later_pair others rest ≡ true → has_pairs bs (h ∷ l ∷ rest) ≡ true
+first_step h l b rest bs others pair all more = rw all (ap (is_some_with (has_pieces later_pair others)) (after_pair h l (hex_pair b) rest pair) ∙ more)
 
 pub pairs_back : (text bs : List ℕ) → hex_bytes text ≡ Some bs → has_pairs bs text ≡ true
 pairs_back [] [] e = refl
@@ -97,6 +101,4 @@ pairs_back [] (b ∷ bs) e = absurd cc
 pairs_back (h ∷ []) bs e = absurd cc
 pairs_back (h ∷ l ∷ rest) bs e =
     let p = parts (hex_byte h l) (later_pairs rest) bs e in
-    let found = after_pair h l (hex_pair p.byte) rest (pair_is h l p.byte p.byte_is) in
-    let more = later_back rest p.others p.others_are in
-    subst (λ (x : List ℕ). has_pairs x (h ∷ l ∷ rest) ≡ true) (sym p.all) (ap (is_some_with (has_pieces later_pair p.others)) found ∙ more)
+    first_step h l p.byte rest bs p.others (pair_is h l p.byte p.byte_is) p.all (later_back rest p.others p.others_are)

@@ -1,7 +1,7 @@
 -- Data that the definition gives read back.
 use Rattle.std.proofs.Common.{if◌then◌else◌, codes, length, option_map, nat_le, ◌≡◌, ℕ, zero, suc, ◌+◌, Bool, true, false, not, ◌&&◌, List, [], ◌∷◌, map, take, Option, Some, None, ◌⊎◌, Result, Ok, Err, is_some, is_none, refl, ap, sym, ◌∙◌, subst, arith, inl, inr}
 use Rattle.std.specs.Prelude.{IfOk}
-use Rattle.std.specs.List.{filter, find, slice_get, enumerate_from}
+use Rattle.std.specs.List.{filter, find, list_all, slice_get, enumerate_from}
 use Rattle.std.proofs.lemmas.Bool.{cases_Bool}
 use Rattle.std.specs.Option.{option_and_then}
 use Rattle.json.specs.Find.{as_str}
@@ -19,42 +19,36 @@ use Rattle.n2k_encode.specs.declared.reading.Reading.{Reading}
 use Rattle.n2k_encode.specs.Encoded.{IsEncoded, IsEncodedLine, IsObjectOf, reads_as, shows_either}
 use Rattle.n2k_encode.specs.Draft.{draft_for, most_data}
 use Rattle.n2k_encode.specs.Given.{first_unknown, given, wrong_names}
-use Rattle.n2k_encode.specs.Payload.{culprit, cut, cut_draft, data_by, data_in, encoded, first_data, given_data, is_chosen, is_data, is_meant, is_unmatched, matched, matches_at, none_before, or_else, payload_for, sized, unless, unmatched}
+use Rattle.n2k_encode.specs.Payload.{culprit, cut, cut_draft, data_by, data_in, encoded, first_data, given_data, is_chosen, is_data, is_meant, is_unmatched, matched, or_else, payload_for, sized, unless, unmatched}
 use Rattle.n2k_encode.specs.Reading.{shows_all}
 use Rattle.n2k_encode.specs.Refusal.{CauseParts, address, field, none_shows, size, unknown}
 use Rattle.n2k_encode.specs.Request.{RequestParts, request, no_request}
 use Rattle.n2k_encode.specs.Says.{has_pairs}
 use Rattle.n2k_encode.specs.Steps.{first_of, is_some_with, Gives}
 use Rattle.n2k_encode.specs.Texts.{hex_bytes}
+use Rattle.n2k_encode.proofs.Numbers.{both}
 use Rattle.n2k_encode.proofs.Pairs.{pairs_back}
 
 found : {A : Type 0} → (c : CauseParts) (o : Option A) (x : A) → or_cause c o ≡ Ok x → o ≡ Some x
 found c None x e = absurd cc
 found c (Some y) x e = grind (arith, e)
 
-both : (a b : Bool) → (a && b) ≡ true → (a ≡ true) × (b ≡ true)
-both true b e = (refl, e)
-both false b e = absurd cc
-
 if_held : {A : Type 0} → (b : Bool) (x y : A) → some_if b x ≡ Some y → (b ≡ true) × (x ≡ y)
 if_held true x y e = (refl, grind (arith, e))
 if_held false x y e = absurd cc
 
--- the definition that is chosen at a place is the first that the data match
-none_after : (payload : List ℕ) (d : DefinitionParts) (ds : List DefinitionParts) (k : ℕ) → none_before payload (d ∷ ds) (suc k) ≡ true → (matches payload d ≡ false) × (none_before payload ds k ≡ true)
-none_after payload d ds zero e = (grind (arith, e), refl)
-none_after payload d ds (suc k) e =
-    let parts = both (none_before payload (d ∷ ds) (suc k)) (not (matches_at payload (d ∷ ds) (suc k))) e in
-    let earlier = none_after payload d ds k parts.0 in
-    (earlier.0, grind (arith, earlier.1, parts.1))
+is_not : (b : Bool) → not b ≡ true → b ≡ false
+is_not true e = absurd cc
+is_not false e = refl
 
-chosen_at : (payload : List ℕ) (ds : List DefinitionParts) (k : ℕ) (d : DefinitionParts) → slice_get ds k ≡ Some d → none_before payload ds k ≡ true → matches payload d ≡ true → find (matches payload) ds ≡ Some d
+-- the definition that is chosen at a place is the first that the data match
+chosen_at : (payload : List ℕ) (ds : List DefinitionParts) (k : ℕ) (d : DefinitionParts) → slice_get ds k ≡ Some d → list_all (λ x. not (matches payload x)) (take k ds) ≡ true → matches payload d ≡ true → find (matches payload) ds ≡ Some d
 chosen_at payload [] zero d at none is = absurd cc
 chosen_at payload [] (suc k) d at none is = absurd cc
 chosen_at payload (x ∷ ds) zero d at none is = grind (arith, at, is)
 chosen_at payload (x ∷ ds) (suc k) d at none is =
-    let parts = none_after payload x ds k none in
-    rw parts.0 (chosen_at payload ds k d at parts.1 is)
+    let tests = both _ _ none in
+    rw (is_not (matches payload x) tests.0) (chosen_at payload ds k d at tests.1 is)
 
 first_of_both : {A : Type 0} → (a b : Bool) (x : A) (more more' : Option A) → more ≡ more' → (if a then (if b then Some x else more) else more) ≡ (if a && b then Some x else more')
 first_of_both true true x more more' e = refl

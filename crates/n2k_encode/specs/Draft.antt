@@ -1,6 +1,6 @@
--- Where the fields of a message are set in its data, and where the data may end: docs/PROFILE.md, JSON back to messages.
+-- The data of a message before they are read back, and their possible ends: docs/PROFILE.md, "The data".
 use Rattle.std.specs.Prelude.{ℕ, ◌+◌, ◌-◌, ◌/◌, nat_lt, nat_le, max, Bool, true, false, not, ◌&&◌, ◌||◌, List, [], ◌∷◌, length, replicate}
-use Rattle.std.specs.Prelude.{fold, Option, Some, None, Result, Ok, Err, if◌then◌else◌}
+use Rattle.std.specs.Prelude.{filter, fold, map, unwrap_or, Option, Some, None, Result, Ok, Err, if◌then◌else◌}
 use Rattle.std.specs.List.{list_all, find}
 use Rattle.std.specs.Option.{option_and_then}
 use Rattle.std.specs.Str.{bytes_eq}
@@ -21,63 +21,64 @@ use Rattle.n2k_encode.specs.Place.{put_bytes, put_code, end_of}
 use Rattle.n2k_encode.specs.Refusal.{CauseParts, is_size, size, none_shows}
 use Rattle.n2k_encode.specs.Value.{CodeParts, bits, bytes}
 
--- A field is set in its layer, and a string in the first one too, since others are placed by it.
+-- A field is written in its layer. A string is also written in the first layer, because other fields are placed by it.
 abbrev pub is_set_in : Layer → CodedParts → Bool
 is_set_in layer c = is_same_layer layer c.layer || (is_reserved layer && is_string c.field.meaning)
 
+-- the data after the fields of one layer are written
 abbrev pub put_layer : Layer → List CodedParts → List ℕ → List ℕ
-put_layer layer [] payload = payload
-put_layer layer (c ∷ cs) payload =
-    put_layer layer cs (if is_set_in layer c then put_code c.field c.code payload else payload)
+put_layer layer cs payload = fold (λ bs c. put_code c.field c.code bs) payload (filter (is_set_in layer) cs)
 
--- data with all fields: those that are not given, over them those that ask for a value, and over all those that are given
+-- The data after all fields are written: "not available" first, then `match` values, then given values.
 abbrev pub put_all : List CodedParts → List ℕ → List ℕ
 put_all cs payload = put_layer Given cs (put_layer Asked cs (put_layer Reserved cs payload))
 
--- the most bytes of a message
+-- the greatest number of bytes in a message
 abbrev pub most_data : Kind → ℕ
 most_data Single = 8
 most_data Fast = 223
 
--- data in which no bit is set to 0
+-- data whose bits are all 1
 abbrev pub blank : List ℕ
 blank = replicate 223 255
 
--- the data have the field's code at its place
+-- the data contain the code of the field at its place
 abbrev pub has_code : List ℕ → CodedParts → Bool
 has_code payload c = bytes_eq (put_code c.field c.code payload) payload
 
--- no two given fields disagree about a bit: each has its code in the data
+-- No two given fields disagree about a bit: the data contain the code of each.
 abbrev pub agree : List ℕ → List CodedParts → Bool
 agree payload cs = list_all (λ c. not (is_given c.layer) || has_code payload c) cs
 
--- the later of two ends; none if the place of a field is not known that is given or asks for a value
-abbrev pub later_end : Bool → ℕ → Option ℕ → Option ℕ
-later_end reserved end (Some own) = Some (max own end)
-later_end reserved end None = if reserved then Some end else None
+-- the later of two ends, if both are known
+abbrev pub last_of : Option ℕ → Option ℕ → Option ℕ
+last_of None other = None
+last_of (Some own) None = None
+last_of (Some own) (Some other) = Some (max own other)
 
-abbrev pub end_with : Bool → List ℕ → ℕ → CodedParts → Option ℕ
-end_with all payload end c =
-    if all || not (is_reserved c.layer) then later_end (is_reserved c.layer) end (end_of c.field c.code payload) else Some end
+-- The end of a field. For a field that is "not available" it is 0 if its place is not known or such fields do not count.
+abbrev pub own_end : Bool → List ℕ → CodedParts → Option ℕ
+own_end all payload c =
+    if is_reserved c.layer then Some (if all then unwrap_or (end_of c.field c.code payload) 0 else 0)
+    else end_of c.field c.code payload
 
--- this end, or that of the last of the fields that count, if it is later
-abbrev pub end_of_all : Bool → List ℕ → ℕ → List CodedParts → Option ℕ
-end_of_all all payload end [] = Some end
-end_of_all all payload end (c ∷ cs) = option_and_then (λ next. end_of_all all payload next cs) (end_with all payload end c)
+-- the end of the last field, if all ends are known
+abbrev pub end_of_all : Bool → List ℕ → List CodedParts → Option ℕ
+end_of_all all payload cs = fold last_of (Some 0) (map (own_end all payload) cs)
 
 abbrev pub is_shorter : ℕ → CodeParts → Bool
 is_shorter width (bits raw) = false
 is_shorter width (bytes bs) = nat_lt (length bs) width
 
--- the field is given fewer bytes than its width
+-- the line gives fewer bytes than the width of the field
 abbrev pub is_cut : CodedParts → Bool
 is_cut c = is_given c.layer && is_shorter (c.field.bits / 8) c.code
 
--- the end of the first such field
+-- the end of the first field with fewer bytes than its width
 abbrev pub short_end : List ℕ → List CodedParts → Option ℕ
 short_end payload cs = option_and_then (λ c. end_of c.field c.code payload) (find is_cut cs)
 
--- data with the first of these sets at a byte, and the byte after it, if the set is there and fits
+-- data with the first of these sets at byte `at`, and the end of the set, if there is a set and it fits
 abbrev pub with_set : List (List ℕ) → ℕ → List ℕ → List ℕ × Option ℕ
 with_set [] at payload = (payload, None)
 with_set (set ∷ sets) at payload =
@@ -87,14 +88,13 @@ abbrev pub with_next : RepeatParts → List ℕ → Option ℕ → List ℕ → 
 with_next r room None payload = (payload, None)
 with_next r room (Some at) payload = with_set (sets_in r room) at payload
 
--- Data with sets: where the last of them ends, if that is known, and whether in each of them no two given fields
--- disagree about a bit.
+-- data with sets: the end of the last set, if it is known, and whether in each set no two given fields disagree about a bit
 pub record SetsParts : Type 0 where
   pub payload : List ℕ
   pub end : Option ℕ
   pub agree : Bool
 
--- the data with one more set
+-- the data after one more set is appended
 abbrev pub with_set_of : RepeatParts → SetsParts → List CodedParts → SetsParts
 with_set_of r all cs = record {
   payload = (with_next r (put_all cs blank) all.end all.payload).0;
@@ -102,16 +102,16 @@ with_set_of r all cs = record {
   agree = all.agree && agree (put_all cs blank) cs;
 }
 
--- the data with all of these sets, one after the other, or the cause if a set has one
+-- the data after all sets are appended in order, or the first refusal of a value
 abbrev pub laid_sets : RepeatParts → SetsParts → Result (List (List CodedParts)) CauseParts → Result SetsParts CauseParts
 laid_sets r start (Ok sets) = Ok (fold (with_set_of r) start sets)
 laid_sets r start (Err cause) = Err cause
 
--- the data without sets, which end nowhere
+-- data without sets
 abbrev pub without_sets : List ℕ → SetsParts
 without_sets payload = record { payload = payload; end = Some 0; agree = true }
 
--- the byte of the data at which the first set begins
+-- the byte at which the first set begins
 abbrev pub first_set : RepeatParts → List ℕ → ℕ
 first_set r payload = length payload - length (from_first r payload)
 
@@ -119,7 +119,7 @@ abbrev pub is_none_given : Items → Bool
 is_none_given no_items = true
 is_none_given (item j js) = false
 
--- the data with the sets that a line gives
+-- the data after the given sets are appended
 abbrev pub laid_repeat : Style → Option RepeatParts → Option Items → List ℕ → Result SetsParts CauseParts
 laid_repeat s None js payload = Ok (without_sets payload)
 laid_repeat s (Some r) None payload = Ok (without_sets payload)
@@ -131,36 +131,30 @@ abbrev pub name_of_first : List FieldParts → List ℕ
 name_of_first [] = []
 name_of_first (f ∷ fs) = f.name
 
--- the later of two ends, if both are known
-abbrev pub last_of : Option ℕ → Option ℕ → Option ℕ
-last_of None other = None
-last_of (Some own) None = None
-last_of (Some own) (Some other) = Some (max own other)
-
--- the end of the first short field, or else 8 in a single frame, and the end of the last field or set in a fast packet
+-- The end of the first short field. Without one: 8 in a single frame, the end of the last field or set in a fast packet.
 abbrev pub whole_end : Option ℕ → Kind → ℕ → ℕ
 whole_end (Some end) kind last = end
 whole_end None Single last = 8
 whole_end None Fast last = last
 
--- The data by a definition for what a line gives, and where they may end. Values are looked at first, then the size, and
--- then whether two given fields disagree about a bit.
+-- The data by a definition and their possible ends, or a refusal: of a value first, then of the size, then because two
+-- given fields disagree about a bit.
 unfoldable pub draft_in : Style → DefinitionParts → Kind → Json → Result Draft CauseParts
 draft_in s d kind j = do
   cs ← coded_all s j d.fields
   sets ← laid_repeat s d.repeat (given_sets j) (put_all cs blank)
-  needed ← or_cause size (last_of (end_of_all false (put_all cs blank) 0 cs) sets.end)
-  last ← or_cause size (last_of (end_of_all true (put_all cs blank) 0 cs) sets.end)
+  needed ← or_cause size (last_of (end_of_all false (put_all cs blank) cs) sets.end)
+  last ← or_cause size (last_of (end_of_all true (put_all cs blank) cs) sets.end)
   few ← holds_or size (nat_le needed (most_data kind))
   same ← holds_or (none_shows (name_of_first d.fields)) (agree (put_all cs blank) cs && sets.agree)
   Ok (record { bytes = sets.payload; needed = needed; whole = whole_end (short_end (put_all cs blank) cs) kind last })
 
--- a result, or another if the first is too long
+-- the first result, or the second if the first is refused for its size
 abbrev pub unless_long : Result Draft CauseParts → Result Draft CauseParts → Result Draft CauseParts
 unless_long (Ok made) other = Ok made
 unless_long (Err cause) other = if is_size cause then other else Err cause
 
--- The draft of a line. If it is too long, strings have their shortest encodings.
+-- The draft of a line. If it is too long, strings are written in their shortest encodings.
 unfoldable pub draft_for : Bool → DefinitionParts → Kind → Json → Result Draft CauseParts
 draft_for nearest d kind j =
     unless_long (draft_in (record { nearest = nearest; shortest = false }) d kind j)

@@ -1,5 +1,5 @@
--- The promise: what is encoded reads back as what a line gives, and a line is refused only for the cause that the rules
--- determine.
+-- The promise: a message reads back as the fields that the line gives, and a line is refused only for the cause that the
+-- rules determine.
 use Rattle.std.specs.Prelude.{◌≡◌, ◌⊎◌, ℕ, Bool, true, false, ◌&&◌, ◌||◌, codes, List, Option, Some, None, Ok, Err, is_some, is_none}
 use Rattle.std.specs.Str.{IsUtf8}
 use Rattle.json.specs.Json.{Json, document}
@@ -17,28 +17,28 @@ use Rattle.n2k_encode.specs.Request.{RequestParts, request}
 use Rattle.n2k_encode.specs.Says.{has_pairs}
 use Rattle.n2k_encode.specs.Steps.{is_some_with}
 
--- the most bytes of a line
+-- the greatest number of bytes in a line
 abbrev pub longest_request : ℕ
 longest_request = 65536
 
--- the object that a line spells: JSON in UTF-8, without a key that comes twice in an object
+-- the JSON object of a line: in UTF-8, and no object in it has a key twice
 pub record IsObjectOf (line : List ℕ) (j : Json) : Type 0 where
   pub utf8 : IsUtf8 line
   pub spelled : document line ≡ Some j
   pub unique : HasUniqueKeys j
 
--- data show exactly what is given, or what is given and values that the definition asks for
+-- the data show exactly the given fields, or the given fields and `match` values
 abbrev pub shows_either : Bool → DefinitionParts → Json → List ℕ → Bool
 shows_either nearest d fields payload =
     shows_all (record { nearest = nearest; adding = false }) d fields payload
     || shows_all (record { nearest = nearest; adding = true }) d fields payload
 
--- data read back under the definition, which is the one that is meant
+-- the data read back by this definition, and the line means this definition
 abbrev pub reads_by : Bool → DefinitionParts → RequestParts → List ℕ → Bool
 reads_by nearest d r payload =
     is_meant r.description d && is_none (wrong_names d r.fields) && shows_either nearest d r.fields payload
 
--- a line asks for a message that no definition matches, with these data and nothing else
+-- the line requests a message that no definition matches, with exactly these data
 abbrev pub reads_unmatched : RequestParts → List ℕ → Bool
 reads_unmatched r payload =
     is_unmatched r.description
@@ -49,8 +49,8 @@ abbrev pub reads_as : Bool → Option DefinitionParts → RequestParts → List 
 reads_as nearest (Some d) r payload = reads_by nearest d r payload
 reads_as nearest None r payload = reads_unmatched r payload
 
--- A message is what an object asks for: its timestamp and its identifier, which the bus can carry, and data that read
--- back under the definition that the table chooses for them. It is the one that the rules determine.
+-- A message that an object requests: it has the requested timestamp and identifier, which a CAN frame can carry. Its data
+-- read back by the definition that the table chooses for them. The rules determine the message.
 pub record IsEncoded (t : TableParts) (nearest : Bool) (j : Json) (p : PacketParts) : Type 0 where
   pub asked : RequestParts
   pub request_is : request j ≡ Some asked
@@ -61,17 +61,17 @@ pub record IsEncoded (t : TableParts) (nearest : Bool) (j : Json) (p : PacketPar
   pub reads_back : reads_as nearest (choice t p.id.pgn p.payload) asked p.payload ≡ true
   pub determined : encoded t nearest j ≡ Ok p
 
--- a message is what a line asks for
+-- a message that a line requests
 pub record IsEncodedLine (t : TableParts) (nearest : Bool) (line : List ℕ) (p : PacketParts) : Type 0 where
   pub object : Json
   pub is_object : IsObjectOf line object
   pub encoded : IsEncoded t nearest object p
 
--- the line spells no such object
+-- the line is not such an object
 abbrev pub IsNoObject : List ℕ → Type 0
 IsNoObject line = (j : Json) → ¬ IsObjectOf line j
 
--- The cause of the refusal of a line that is not too long: it spells no object, or the rules determine the cause.
+-- The cause for which a line of valid length is refused: the line is not such an object, or the rules determine the cause.
 abbrev pub IsLineCause : TableParts → Bool → List ℕ → CauseParts → Type 0
 IsLineCause t nearest line c =
     (IsNoObject line × (c ≡ not_json)) ⊎ ((j : Json) × IsObjectOf line j × (encoded t nearest j ≡ Err c))

@@ -1,7 +1,7 @@
--- The message that an object asks for, or the first cause that there is none: docs/PROFILE.md, JSON back to messages.
-use Rattle.std.specs.Prelude.{ℕ, zero, suc, nat_le, Bool, true, false, not, ◌&&◌, codes, List, [], ◌∷◌, length, map, take, filter}
+-- The message that an object requests, or the first cause of its refusal: docs/PROFILE.md, "The definition" and "Reports".
+use Rattle.std.specs.Prelude.{ℕ, nat_le, Bool, true, false, not, ◌&&◌, codes, List, [], ◌∷◌, length, map, take, filter}
 use Rattle.std.specs.Prelude.{Option, Some, None, Result, Ok, Err, is_none, option_map, unwrap_or, slice_get, if◌then◌else◌}
-use Rattle.std.specs.List.{enumerate_from}
+use Rattle.std.specs.List.{enumerate_from, list_all}
 use Rattle.std.specs.Option.{option_and_then}
 use Rattle.std.specs.Str.{bytes_eq}
 use Rattle.json.specs.Find.{as_str}
@@ -23,44 +23,37 @@ use Rattle.n2k_encode.specs.Request.{RequestParts, request, no_request}
 use Rattle.n2k_encode.specs.Steps.{first_of, is_some_with}
 use Rattle.n2k_encode.specs.Texts.{hex_bytes, most_bytes}
 
--- no description is given, or that of the definition
+-- the line gives the description of this definition, or no description
 abbrev pub is_meant : Option (List ℕ) → DefinitionParts → Bool
 is_meant None d = true
 is_meant (Some text) d = bytes_eq d.description text
 
--- the name of the one field of a message that no definition matches
+-- the only field of an unmatched message
 abbrev pub is_data : List ℕ → Bool
 is_data name = bytes_eq name (codes "Data")
 
--- a line asks for a message that no definition matches
+-- the line requests a message that no definition matches
 abbrev pub is_unmatched : Option (List ℕ) → Bool
 is_unmatched asked = is_some_with (λ text. bytes_eq text (codes "Unmatched")) asked
 
--- the data match the definition at a place among these
-abbrev pub matches_at : List ℕ → List DefinitionParts → ℕ → Bool
-matches_at payload ds k = is_some_with (matches payload) (slice_get ds k)
-
--- the data match no definition before a place
-abbrev pub none_before : List ℕ → List DefinitionParts → ℕ → Bool
-none_before payload ds zero = true
-none_before payload ds (suc k) = none_before payload ds k && not (matches_at payload ds k)
-
--- the definition at a place is the first of these that the data match
+-- the data match the definition at index k, and no definition before it
 abbrev pub is_chosen : List ℕ → List DefinitionParts → ℕ → Bool
-is_chosen payload ds k = none_before payload ds k && matches_at payload ds k
+is_chosen payload ds k =
+    list_all (λ d. not (matches payload d)) (take k ds) && is_some_with (matches payload) (slice_get ds k)
 
 -- the definitions of a PGN
 abbrev pub definitions_of : KnownParts → List DefinitionParts
 definitions_of k = filter (is_of k.pgn) k.table.definitions
 
--- the first so many bytes of a draft by the definition at a place, if they are few enough, the table chooses that
--- definition for them, and they show what is given
+-- The first n bytes of a draft, if they read back: their number is valid, the table chooses the definition at index k for
+-- them, and they show exactly the given fields.
 abbrev pub cut : List DefinitionParts → Kind → ℕ → DefinitionParts → Reading → Json → List ℕ → ℕ → Option (List ℕ)
 cut ds kind k d reading fields payload n =
     some_if (nat_le n (most_data kind) && is_chosen (take n payload) ds k && shows_all reading d fields (take n payload))
     (take n payload)
 
--- The draft up to its last field, or up to the last that is given or asks for a value, whichever reads back first.
+-- The draft up to its last field, if that reads back; otherwise the draft up to the last field that is given or has
+-- `match`.
 abbrev pub cut_draft : List DefinitionParts → Kind → ℕ → DefinitionParts → Reading → Json → Draft → Option (List ℕ)
 cut_draft ds kind k d reading fields draft =
     first_of (cut ds kind k d reading fields draft.bytes draft.whole) (cut ds kind k d reading fields draft.bytes draft.needed)
@@ -69,7 +62,7 @@ abbrev pub name_or : List ℕ → Option FieldParts → List ℕ
 name_or other None = other
 name_or other (Some f) = f.name
 
--- the name of the first field that shows something else in a whole draft
+-- the name of the first field that does not show its given value in the draft
 abbrev pub culprit : DefinitionParts → Reading → Json → Draft → List ℕ
 culprit d reading fields draft =
     name_or (name_of_first d.fields) (first_wrong reading fields (take draft.whole draft.bytes) d.fields)
@@ -78,20 +71,20 @@ abbrev pub unless : Option CauseParts → Result (Unit {0}) CauseParts
 unless None = Ok tt
 unless (Some cause) = Err cause
 
--- the data by the definition at a place, or why there are none
+-- the data by the definition at index k, or the cause of its refusal
 unfoldable pub data_by : List DefinitionParts → Kind → Reading → RequestParts → ℕ → DefinitionParts → Result (List ℕ) CauseParts
 data_by ds kind reading r k d = do
   known ← unless (wrong_names d r.fields)
   draft ← draft_for reading.nearest d kind r.fields
   or_cause (none_shows (culprit d reading r.fields draft)) (cut_draft ds kind k d reading r.fields draft)
 
--- The data of the first of these that has some. If none has, the cause of the first, after that of an earlier one.
+-- The data of the first try that succeeds. If no try succeeds: the cause of the first try.
 abbrev pub first_data : Option CauseParts → List (Result (List ℕ) CauseParts) → Result (List ℕ) CauseParts
 first_data earlier [] = Err (unwrap_or earlier description)
 first_data earlier (Ok payload ∷ others) = Ok payload
 first_data earlier (Err cause ∷ others) = first_data (first_of earlier (Some cause)) others
 
--- the data by each definition that is meant, in the order of the table
+-- one try for each definition with the requested description, in the order of the table
 abbrev pub tries : List DefinitionParts → Kind → Reading → RequestParts → List (ℕ × DefinitionParts) → List (Result (List ℕ) CauseParts)
 tries ds kind reading r places =
     map (λ e. data_by ds kind reading r e.0 e.1) (filter (λ e. is_meant r.description e.1) places)
@@ -99,22 +92,22 @@ tries ds kind reading r places =
 abbrev pub data_in : List DefinitionParts → Kind → Reading → RequestParts → Result (List ℕ) CauseParts
 data_in ds kind reading r = first_data None (tries ds kind reading r (enumerate_from 0 ds))
 
--- a result, or another if there is none
+-- the first result, or the second if the first is a refusal
 abbrev pub or_else : Result (List ℕ) CauseParts → Result (List ℕ) CauseParts → Result (List ℕ) CauseParts
 or_else (Ok payload) other = Ok payload
 or_else (Err cause) other = other
 
--- All definitions are tried without adding anything, and then with values that they ask for.
+-- All definitions are tried without adding anything; if no try succeeds, fields with `match` may be added.
 abbrev pub matched : List DefinitionParts → Kind → Bool → RequestParts → Result (List ℕ) CauseParts
 matched ds kind nearest r =
     or_else (data_in ds kind (record { nearest = nearest; adding = false }) r)
     (data_in ds kind (record { nearest = nearest; adding = true }) r)
 
--- the bytes that a line gives for a message that no definition matches
+-- the bytes of the field `Data`
 abbrev pub given_data : Json → Option (List ℕ)
 given_data fields = option_and_then hex_bytes (option_and_then as_str (given (codes "Data") fields))
 
--- bytes, if they are few enough for a message; none is of a value that cannot be encoded
+-- Refuses the value if it is not bytes, and the size if there are too many.
 abbrev pub sized : Option (List ℕ) → Result (List ℕ) CauseParts
 sized None = Err (value (codes "Data"))
 sized (Some bs) = if nat_le (length bs) most_bytes then Ok bs else Err size
@@ -131,7 +124,7 @@ abbrev pub payload_for : TableParts → Kind → Bool → RequestParts → Resul
 payload_for t kind nearest r =
     if is_unmatched r.description then unmatched t kind r else matched (filter (is_of r.id.pgn) t.definitions) kind nearest r
 
--- the message that an object asks for, or the first cause that applies
+-- the message that an object requests, or the first cause that applies
 unfoldable pub encoded : TableParts → Bool → Json → Result PacketParts CauseParts
 encoded t nearest j = do
   r ← or_cause (no_request j) (request j)

@@ -20,13 +20,13 @@ abbrev pub Yields : {X Y E : Type 0} → (X → Y) → Result X E → Option Y �
 Yields view (Ok x) said = said ≡ Some (view x)
 Yields view (Err cause) said = said ≡ None
 
--- What was answered is what the definition gives, a value or a cause, where memory was not refused.
+-- The code returns the value or the cause that the definition gives, unless memory was refused.
 abbrev pub Gives : {X Y : Type 0} → (X → Y) → Result X EncodeError → Result Y CauseParts → Type 0
 Gives view (Ok x) said = said ≡ Ok (view x)
 Gives view (Err Memory) said = ⊤
 Gives view (Err (Refused refusal)) said = said ≡ Err (cause refusal)
 
--- these elements before others, unless there is a cause
+-- a list in front of that of a result
 abbrev pub before_all : {X : Type 0} → List X → Result (List X) CauseParts → Result (List X) CauseParts
 before_all prefix (Ok xs) = Ok (prefix ++ xs)
 before_all prefix (Err cause) = Err cause

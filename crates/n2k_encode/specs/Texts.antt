@@ -1,4 +1,4 @@
--- The bytes that the texts of fields are.
+-- The bytes of texts: docs/PROFILE.md, "The fields".
 use Rattle.std.specs.Prelude.{ℕ, ◌+◌, ◌-◌, ◌*◌, ◌/◌, ◌%◌, ◌==◌, nat_lt, nat_le, Bool, false, not, ◌&&◌, ◌||◌, List, [], ◌∷◌, ◌++◌, length}
 use Rattle.std.specs.Prelude.{replicate, slice_get, flat_map, Option, Some, None, option_map, if◌then◌else◌}
 use Rattle.std.specs.Char.Escape.{encode_utf16}
@@ -11,11 +11,11 @@ use Rattle.n2k_table.specs.Strings.{is_filling_unit}
 use Rattle.n2k_table.specs.Text.{space}
 use Rattle.n2k_encode.specs.Steps.{◌>>=◌}
 
--- the most bytes of a field that is not numeric: a string with its length
+-- the greatest number of bytes in a field: a string with its length
 abbrev pub most_bytes : ℕ
 most_bytes = 255
 
--- bytes, if they are few enough
+-- bytes, if a field has room for them
 abbrev pub within : Option (List ℕ) → Option (List ℕ)
 within None = None
 within (Some bs) = some_if (nat_le (length bs) most_bytes) bs
@@ -35,7 +35,7 @@ abbrev mutual
   latin1_pair b (c ∷ bs) =
       if (b == 194 || b == 195) && nat_lt c 192 then before ((c + 64 * (b - 194)) ∷ []) (latin1 bs) else None
 
--- the value of an upper hexadecimal digit
+-- the value of an uppercase hexadecimal digit
 abbrev pub hex_digit : ℕ → Option ℕ
 hex_digit b =
     if nat_le 48 b && nat_le b 57 then Some (b - 48)
@@ -49,12 +49,12 @@ hex_byte high low = do
   b ← hex_digit low
   Some (16 * a + b)
 
--- a byte, if there is one, before others
+-- a byte in front of others, if there is one
 abbrev pub byte_before : Option ℕ → Option (List ℕ) → Option (List ℕ)
 byte_before None rest = None
 byte_before (Some b) rest = before (b ∷ []) rest
 
--- the bytes of pairs of upper hexadecimal digits with a space between them
+-- the bytes of pairs of uppercase hexadecimal digits, separated by single spaces
 abbrev mutual
   pub some_pairs : List ℕ → Option (List ℕ)
   some_pairs [] = None
@@ -97,7 +97,7 @@ abbrev mutual
 abbrev pub filled : ℕ → List ℕ → Option (List ℕ)
 filled n bs = some_if (nat_le (length bs) n) (bs ++ replicate (n - length bs) 255)
 
--- the last of some bytes is no byte that fills texts up
+-- the last byte is not filler
 abbrev pub is_full_end : Option ℕ → Bool
 is_full_end None = false
 is_full_end (Some b) = not (is_filling b)
@@ -105,12 +105,12 @@ is_full_end (Some b) = not (is_filling b)
 abbrev pub ends_full : List ℕ → Bool
 ends_full bs = is_full_end (slice_get bs (length bs - 1))
 
--- a string of these characters, a byte each, after its length; in the form `lau` after the byte 1 too
+-- A string with these bytes. In front of them stands the length; in the form `lau` also the encoding 1.
 abbrev pub narrow_string : Form → List ℕ → Option (List ℕ)
 narrow_string Lau cs = some_if (ends_full cs && nat_le (length cs) (most_bytes - 2)) ((length cs + 2) ∷ 1 ∷ cs)
 narrow_string Lz cs = some_if (ends_full cs && nat_le (length cs) (most_bytes - 1)) (length cs ∷ cs)
 
--- a string of a byte for each character, which are not UTF-8 too
+-- a string with one byte for each character, unless these bytes are also valid UTF-8
 abbrev pub latin1_string : Form → List ℕ → Option (List ℕ)
 latin1_string form text = do
   cs ← within (latin1 text)
@@ -125,11 +125,11 @@ unit_bytes u = u % 256 ∷ u / 256 ∷ []
 abbrev pub wide_character : ℕ → List ℕ
 wide_character c = flat_map unit_bytes (encode_utf16 c)
 
--- the last of some characters
+-- the last character
 abbrev pub last_letter : List ℕ → Option ℕ
 last_letter cs = slice_get cs (length cs - 1)
 
--- it does not fill a text up
+-- the character is not filler
 abbrev pub is_letter : Option ℕ → Bool
 is_letter None = false
 is_letter (Some c) = not (is_filling_unit c)
@@ -137,7 +137,7 @@ is_letter (Some c) = not (is_filling_unit c)
 abbrev pub ends_with_letter : List ℕ → Bool
 ends_with_letter cs = is_letter (last_letter cs)
 
--- a string of UTF-16 after its length and the byte 0
+-- a string in UTF-16, with its length and the encoding 0 in front
 abbrev pub wide_string_of : List ℕ → Option (List ℕ)
 wide_string_of bs = within (Some ((length bs + 2) ∷ 0 ∷ bs))
 

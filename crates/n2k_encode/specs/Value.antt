@@ -1,4 +1,4 @@
--- What a field is set to, to show a value that a line gives.
+-- The bits or bytes that show a given value: docs/PROFILE.md, "The fields".
 use Rattle.std.specs.Prelude.{ℕ, ℤ, pos, negsuc, neg_ℤ, ◌-ℤ◌, ◌+◌, ◌-◌, ◌*◌, ◌/◌, ◌^◌, ◌==◌, nat_lt, nat_le, Bool, not, ◌&&◌, ◌||◌, bit_or}
 use Rattle.std.specs.Prelude.{false, List, [], ◌∷◌, length, replicate, Option, Some, None, is_none, option_map, if◌then◌else◌}
 use Rattle.std.specs.Int.RustNames.{unsigned_abs}
@@ -22,12 +22,12 @@ use Rattle.n2k_encode.specs.Request.{whole_number}
 use Rattle.n2k_encode.specs.Steps.{◌>>=◌, first_of}
 use Rattle.n2k_encode.specs.Texts.{latin1, filled, ends_full, hex_bytes, digit_pairs, narrow_string, latin1_string, utf16_string, within}
 
--- how many of the greatest values of n bits say that none is there
+-- how many of the greatest values of n bits mean "not available"
 abbrev pub reserved : ℕ → ℕ
 reserved n = if nat_lt n 2 then 0 else if nat_lt n 4 then 1 else 2
 
--- The raw value of n bits that is this number, in two's complement if the bits are signed. A value that says that none
--- is there is none.
+-- The raw value of n bits that is this number, in two's complement if the bits are signed. Raw values that mean "not
+-- available" are excluded.
 unfoldable pub raw_number : Bool → ℕ → Bool → ℕ → Option ℕ
 raw_number signed n negative size =
     if negative && nat_lt 0 size then some_if (signed && nat_le size (2 ^ (n - 1))) (2 ^ n - size)
@@ -60,13 +60,13 @@ shifted_raw nearest n offset resolution text = do
   units ← units_of nearest (unsigned_abs offset) resolution text
   whole_raw n (with_sign (is_negative text) units -ℤ offset)
 
--- a number of 64 bits that has no name
+-- a number below 2 ^ 64 without a name
 unfoldable pub unnamed : List (ℕ × List ℕ) → List ℕ → Option ℕ
 unnamed entries text = do
   n ← whole_number text
   some_if (nat_lt n (2 ^ 64) && is_none (name_of_value entries n)) n
 
--- a value of n bits that is there: the greatest is not, from two bits on, unless it has a name
+-- A value of n bits that is available. From two bits on the greatest value is not available, unless it has a name.
 abbrev pub is_there : List (ℕ × List ℕ) → ℕ → ℕ → Bool
 is_there entries n v =
     nat_le v (greatest false n) && not (v == greatest false n && nat_le 2 n && is_none (name_of_value entries v))
@@ -75,7 +75,7 @@ abbrev pub if_there : List (ℕ × List ℕ) → ℕ → Option ℕ → Option �
 if_there entries n None = None
 if_there entries n (Some v) = some_if (is_there entries n v) v
 
--- a value of a lookup: the first that has the given name, or the given number, if that has no name
+-- the first value of a lookup with the given name, or the given number if it has no name
 abbrev pub named_value : List (ℕ × List ℕ) → Json → Option ℕ
 named_value entries null = None
 named_value entries (boolean b) = None
@@ -84,11 +84,11 @@ named_value entries (string s) = option_map (λ e. e.0) (find (λ e. bytes_eq e.
 named_value entries (array js) = None
 named_value entries (object ms) = None
 
--- a raw value with a bit more, if the bit is one of n and is not there yet
+-- the raw value with one more bit, if the bit is one of n and not set yet
 abbrev pub with_flag : ℕ → ℕ → ℕ → Option ℕ
 with_flag raw n bit = some_if (nat_lt bit n && not (has_bit raw bit)) (bit_or raw (2 ^ bit))
 
--- a raw value with the bits that are named, each once
+-- the raw value with all named bits; each bit may be named once
 abbrev pub flags_from : List (ℕ × List ℕ) → ℕ → ℕ → Items → Option ℕ
 flags_from entries n raw no_items = Some raw
 flags_from entries n raw (item j js) = do
@@ -96,11 +96,11 @@ flags_from entries n raw (item j js) = do
   more ← with_flag raw n bit
   flags_from entries n more js
 
--- From eight bits on the greatest value and the greatest but one say that no flags are there.
+-- From eight bits on the two greatest values mean "not available".
 abbrev pub are_there : ℕ → ℕ → Bool
 are_there n raw = not (nat_le 8 n && nat_le (greatest false n - 1) raw)
 
--- the shorter of two that are there, and the first of two that are as long
+-- the shorter of two strings; the first if both are equally long
 abbrev pub shorter_of : Option (List ℕ) → Option (List ℕ) → Option (List ℕ)
 shorter_of None other = other
 shorter_of (Some bs) None = Some bs
@@ -113,36 +113,36 @@ flags_raw entries n j = do
   raw ← flags_from entries n 0 js
   some_if (are_there n raw) raw
 
--- the bytes of a text, filled up
+-- the bytes of a text, padded to the width
 unfoldable pub text_bytes : ℕ → List ℕ → Option (List ℕ)
 text_bytes width text = do
   bs ← within (latin1 text)
   full ← some_if (ends_full bs) bs
   filled width full
 
--- the bytes of a field of bytes: all of them, or fewer if it may be short
+-- the bytes of a field of bytes; a short field may have fewer than its width
 unfoldable pub plain_bytes : ℕ → Bool → List ℕ → Option (List ℕ)
 plain_bytes width short text = do
   bs ← within (hex_bytes text)
   some_if (length bs == width || (short && nat_lt (length bs) width)) bs
 
--- the bytes of digits, of which there are some, filled up
+-- the bytes of at least two digits, padded to the width
 unfoldable pub digit_bytes : ℕ → List ℕ → Option (List ℕ)
 digit_bytes width text = do
   bs ← within (digit_pairs text)
   some ← some_if (nat_lt 0 (length bs)) bs
   filled width some
 
--- a string of UTF-16, which only one form has
+-- a string in UTF-16, in the form `lau` only
 abbrev pub wide_string : Form → List ℕ → Option (List ℕ)
 wide_string Lau text = utf16_string text
 wide_string Lz text = None
 
--- The first of the encodings of a string that shows a text: UTF-8, a byte for each character, and UTF-16.
+-- The first encoding that shows the text: UTF-8, one byte for each character, UTF-16.
 abbrev pub first_string : Form → List ℕ → Option (List ℕ)
 first_string form text = first_of (narrow_string form text) (first_of (latin1_string form text) (wide_string form text))
 
--- The shortest. No other is shorter than that of a byte for each character.
+-- The shortest encoding that shows the text. No encoding is shorter than one byte for each character.
 abbrev pub shortest_string : Form → List ℕ → Option (List ℕ)
 shortest_string form text =
     first_of (latin1_string form text) (shorter_of (narrow_string form text) (wide_string form text))
@@ -150,17 +150,17 @@ shortest_string form text =
 abbrev pub string_bytes : Bool → Form → List ℕ → Option (List ℕ)
 string_bytes shortest form text = if shortest then shortest_string form text else first_string form text
 
--- the raw value, if the field asks for no other
+-- the raw value, unless the field has another `match` value
 abbrev pub if_asked : Option ℕ → ℕ → Option ℕ
 if_asked None raw = Some raw
 if_asked (Some asked) raw = some_if (asked == raw) raw
 
--- what a field is set to: the raw value of its bits, or its bytes from its first on
+-- the code of a field: the raw value of its bits, or its bytes
 pub data CodeParts : Type 0 where
   bits : ℕ → CodeParts
   bytes : List ℕ → CodeParts
 
--- A field that asks for a value has that one.
+-- A field with `match` must have this value.
 abbrev pub bits_for : FieldParts → Option ℕ → Option CodeParts
 bits_for f None = None
 bits_for f (Some raw) = option_map bits (if_asked f.match_value raw)
@@ -168,7 +168,7 @@ bits_for f (Some raw) = option_map bits (if_asked f.match_value raw)
 abbrev pub bytes_for : Option (List ℕ) → Option CodeParts
 bytes_for found = option_map bytes found
 
--- what a field of that meaning is set to, to show a value, if it can show the value
+-- the code by which a field with this meaning shows a value, if it can show the value
 abbrev pub code_for : Style → FieldParts → Json → Meaning → Option CodeParts
 code_for s f j (means.number signed resolution) =
     bits_for f (option_and_then (number_raw s.nearest signed f.bits resolution) (as_number j))
@@ -189,7 +189,7 @@ empty_string Lz = 0 ∷ []
 abbrev pub all_ones : ℕ → CodeParts
 all_ones n = bytes (replicate n 255)
 
--- what a field is set to that is not available
+-- the code that means "not available"
 abbrev pub not_available : ℕ → Meaning → CodeParts
 not_available n (means.number signed resolution) = bits (greatest signed n)
 not_available n (means.shifted offset resolution) = bits (greatest false n)

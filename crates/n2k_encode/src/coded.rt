@@ -1,4 +1,4 @@
-//! What fields are set to by what a line gives, and when.
+//! The codes of fields for a line, and the order in which they are written.
 ghost use Rattle.std.specs.Prelude.{◌≡◌, option_map};
 ghost use Rattle.json.specs.Value.{value_view};
 ghost use Rattle.n2k_encode.specs.Coded.{coded, coded_all, is_given, is_reserved};
@@ -12,7 +12,7 @@ use n2k_table::Field;
 use std::alloc::Global;
 use std::marker::Model;
 
-/// When a field is set: those that are not given first, then those that ask for a value, and last those that are given.
+/// The order in which fields are written: "not available" first, then `match` values, then given values.
 #[derive(Clone, Copy)]
 pub(crate) enum Layer {
     Reserved,
@@ -20,7 +20,7 @@ pub(crate) enum Layer {
     Given,
 }
 
-/// A field with what it is set to, and when.
+/// A field with its code and its layer.
 #[derive(Drop)]
 pub(crate) struct Coded<'t> {
     pub(crate) field: &'t Field,
@@ -53,7 +53,7 @@ impl<'t> Coded<'t> {
     }
 }
 
-/// A field with what it is set to by what a line gives, if the field can show that.
+/// The code of a field for the value that the line gives, if the field can show this value.
 fn code_field<'t>(style: Style, field: &'t Field, value: Option<&Value<'_>>) -> Option<Coded<'t>>
     ensures { result ≡ coded style field.now (option_map (λ v. value_view v.now) value.entry) }
 {
@@ -78,7 +78,7 @@ fn code_field<'t>(style: Style, field: &'t Field, value: Option<&Value<'_>>) -> 
     }
 }
 
-/// Fields with what they are set to by what a line gives.
+/// The codes of all fields, or the refusal of the first value that its field cannot show.
 #[tactic(auto, using(crate::proofs::Befores::before_rules))]
 pub(crate) fn coded_fields<'t>(
     alloc: Global,

@@ -1,9 +1,9 @@
-//! The data of a message by a definition, before it is asked whether they read back.
+//! The data of a message by a definition, before they are read back.
 ghost use Rattle.std.specs.Prelude.{◌≡◌, ◌≤◌, true, find, option_map, Some};
 ghost use Rattle.json.specs.Value.{value_view, items_view};
 ghost use Rattle.n2k_encode.specs.Coded.{coded_sets};
-ghost use Rattle.n2k_encode.specs.Draft.{agree, blank, draft_for, draft_in, end_of_all, end_with, has_code, is_cut, is_set_in, laid_repeat, is_none_given, laid_sets};
-ghost use Rattle.n2k_encode.specs.Draft.{last_of, most_data, name_of_first, put_all, put_layer, short_end, whole_end, with_next, SetsParts};
+ghost use Rattle.n2k_encode.specs.Draft.{agree, blank, draft_for, draft_in, end_of_all, has_code, is_cut, is_set_in, laid_repeat, is_none_given, laid_sets};
+ghost use Rattle.n2k_encode.specs.Draft.{last_of, most_data, name_of_first, own_end, put_all, put_layer, short_end, whole_end, with_next, SetsParts};
 ghost use Rattle.n2k_encode.specs.Given.{given_sets};
 ghost use Rattle.n2k_encode.specs.Refusal.{cause, is_size};
 ghost use Rattle.n2k_encode.specs.Steps.{Gives};
@@ -17,17 +17,17 @@ use json::Value;
 use n2k_table::{Coding, Definition, Kind, Repeat};
 use std::alloc::Global;
 
-/// Data, and where they may end.
+/// Data and their possible ends.
 #[derive(Drop)]
 pub(crate) struct Draft {
     pub(crate) bytes: [u8; MOST_DATA],
-    /// The byte after the last field that is given or asks for a value and after the last set.
+    /// The end of the last set and of the last field that is given or has `match`.
     pub(crate) needed: usize,
-    /// The byte after the last field and the last set.
+    /// The end of the last set and of the last field.
     pub(crate) whole: usize,
 }
 
-/// The most bytes of a message of a kind.
+/// The greatest number of bytes in a message of this kind.
 pub(crate) fn most_data(kind: Kind) -> usize
     ensures value { result ≡ most_data kind }
     ensures few { result ≤ 223 }
@@ -38,14 +38,15 @@ pub(crate) fn most_data(kind: Kind) -> usize
     }
 }
 
-/// Data in which no bit is set to 0.
+/// Data whose bits are all 1.
 fn blank() -> [u8; MOST_DATA]
     ensures { result ≡ blank }
 {
     [0xff; MOST_DATA]
 }
 
-/// Whether a field is set in a layer. A string is set in the first layer too, since others are placed by it.
+/// Whether a field is written in a layer. A string is also written in the first layer, because other fields are placed by
+/// it.
 fn is_set_in(layer: Layer, coded: &Coded<'_>) -> bool
     ensures { result ≡ is_set_in layer coded.now }
 {
@@ -57,7 +58,7 @@ fn is_set_in(layer: Layer, coded: &Coded<'_>) -> bool
     is_own || matches!(layer, Layer::Reserved) && matches!(coded.field.coding(), Coding::String(_))
 }
 
-/// Sets the fields of one layer.
+/// Writes the fields of one layer.
 fn put_layer(layer: Layer, fields: &[Coded<'_>], data: &mut [u8; MOST_DATA])
     ensures { «data».new ≡ put_layer layer fields.now «data».old }
 {
@@ -68,7 +69,7 @@ fn put_layer(layer: Layer, fields: &[Coded<'_>], data: &mut [u8; MOST_DATA])
     }
 }
 
-/// Sets all fields: those that are not given, over them those that ask for a value, and over all those that are given.
+/// Writes all fields: "not available" first, then `match` values, then given values.
 fn put_all(fields: &[Coded<'_>], data: &mut [u8; MOST_DATA])
     ensures { «data».new ≡ put_all fields.now «data».old }
 {
@@ -77,7 +78,7 @@ fn put_all(fields: &[Coded<'_>], data: &mut [u8; MOST_DATA])
     put_layer(Layer::Given, fields, data);
 }
 
-/// Whether the data have a field's code at its place.
+/// Whether the data contain the code of a field at its place.
 fn has_code(coded: &Coded<'_>, data: &[u8; MOST_DATA]) -> bool
     ensures { result ≡ has_code «data».now coded.now }
 {
@@ -86,7 +87,7 @@ fn has_code(coded: &Coded<'_>, data: &[u8; MOST_DATA]) -> bool
     same == *data
 }
 
-/// Whether each given field has its code in the data, so that no two of them disagree about a bit.
+/// Whether the data contain the code of each given field, so that no two given fields disagree about a bit.
 fn agree(fields: &[Coded<'_>], data: &[u8; MOST_DATA]) -> bool
     ensures { result ≡ agree «data».now fields.now }
 {
@@ -95,34 +96,38 @@ fn agree(fields: &[Coded<'_>], data: &[u8; MOST_DATA]) -> bool
         .all(|coded| !coded.is_given() || has_code(coded, data))
 }
 
-/// An end, or that of a field that counts, if it is later. `None` if the place of the field is not known, and the field is
-/// given or asks for a value.
-fn end_with(all: bool, end: usize, coded: &Coded<'_>, data: &[u8; MOST_DATA]) -> Option<usize>
-    ensures { result ≡ end_with all «data».now end coded.now }
+/// The later of two ends, if both are known.
+fn last_of(own: Option<usize>, other: Option<usize>) -> Option<usize>
+    ensures { result ≡ last_of own other }
 {
-    let is_reserved = coded.is_reserved();
-    if !all && is_reserved {
-        return Some(end);
-    }
-    match end_of(coded.field, &coded.code, data) {
-        Some(own) => Some(own.max(end)),
-        None if is_reserved => Some(end),
-        None => None,
-    }
+    Some(own?.max(other?))
 }
 
-/// The byte after the last field of these that counts. `None` if the place of one that is given is not known.
+/// The end of a field. For a field that is "not available" it is 0 if its place is not known or such fields do not count.
+fn own_end(all: bool, coded: &Coded<'_>, data: &[u8; MOST_DATA]) -> Option<usize>
+    ensures { result ≡ own_end all «data».now coded.now }
+{
+    if !coded.is_reserved() {
+        return end_of(coded.field, &coded.code, data);
+    }
+    if !all {
+        return Some(0);
+    }
+    Some(end_of(coded.field, &coded.code, data).unwrap_or(0))
+}
+
+/// The end of the last field, if all ends are known.
 fn end_of_all(all: bool, fields: &[Coded<'_>], data: &[u8; MOST_DATA]) -> Option<usize>
-    ensures { result ≡ end_of_all all «data».now 0 fields.now }
+    ensures { result ≡ end_of_all all «data».now fields.now }
 {
-    let mut end = 0;
+    let mut end = Some(0);
     for coded in fields {
-        end = end_with(all, end, coded, data)?;
+        end = last_of(end, own_end(all, coded, data));
     }
-    Some(end)
+    end
 }
 
-/// Whether a field of bytes is given fewer of them than its width.
+/// Whether the line gives fewer bytes than the width of the field.
 fn is_cut(coded: &Coded<'_>) -> bool
     ensures { result ≡ is_cut coded.now }
 {
@@ -132,14 +137,14 @@ fn is_cut(coded: &Coded<'_>) -> bool
     }
 }
 
-/// The first field that is given fewer bytes than its width.
+/// The first field for which the line gives fewer bytes than its width.
 fn first_cut<'c, 't>(fields: &'c [Coded<'t>]) -> Option<&'c Coded<'t>>
     ensures { option_map (λ c. c.now) result ≡ find is_cut fields.now }
 {
     fields.iter().find(|coded| is_cut(coded))
 }
 
-/// Its end.
+/// The end of the first field for which the line gives fewer bytes than its width.
 fn short_end(fields: &[Coded<'_>], data: &[u8; MOST_DATA]) -> Option<usize>
     ensures { result ≡ short_end «data».now fields.now }
 {
@@ -149,7 +154,7 @@ fn short_end(fields: &[Coded<'_>], data: &[u8; MOST_DATA]) -> Option<usize>
     }
 }
 
-/// Where sets end, if they fit, and whether in each of them no two given fields disagree about a bit.
+/// The end of the last set, if all sets fit, and whether in each set no two given fields disagree about a bit.
 #[derive(Clone, Copy)]
 struct Sets {
     end: Option<usize>,
@@ -162,8 +167,8 @@ const NO_SETS: Sets = Sets {
     agree: true,
 };
 
-/// Appends a set to the data at a byte, if that is known, and gives the byte after it. `None` if the set has no end, or does
-/// not fit.
+/// Appends a set at byte `end`, if that is known, and returns the end of the set. `None` if the set has no end or does not
+/// fit.
 fn append_set(
     repeat: &Repeat,
     room: &[u8; MOST_DATA],
@@ -182,7 +187,7 @@ fn append_set(
     Some(end)
 }
 
-/// Appends sets to the data, those that fit.
+/// Appends sets to the data, as far as they fit.
 #[tactic(auto, using(crate::proofs::Laid::laid_rules))]
 fn put_sets<'t>(
     alloc: Global,
@@ -218,7 +223,7 @@ fn is_none_given(sets: &[Value<'_>]) -> bool
     sets.is_empty()
 }
 
-/// Appends the sets that a line gives.
+/// Appends the given sets to the data.
 fn put_repeat<'t>(
     alloc: Global,
     style: Style,
@@ -253,14 +258,7 @@ pub(crate) fn first_name<'t>(definition: &Definition<'t>) -> &'t str
     }
 }
 
-/// The later of two ends, if both are known.
-fn last_of(own: Option<usize>, sets: Option<usize>) -> Option<usize>
-    ensures { result ≡ last_of own sets }
-{
-    Some(own?.max(sets?))
-}
-
-/// The end of the first short field, or else that of a single frame, or of the last field or set of a fast packet.
+/// The end of the first short field. Without one: 8 in a single frame, the end of the last field or set in a fast packet.
 fn whole_end(short: Option<usize>, kind: Kind, last: usize) -> usize
     ensures { result ≡ whole_end short kind last }
 {
@@ -271,7 +269,7 @@ fn whole_end(short: Option<usize>, kind: Kind, last: usize) -> usize
     }
 }
 
-/// The data by a definition, for what a line gives.
+/// The data by a definition and their possible ends, or a refusal.
 #[tactic(auto, unfolding(crate::specs::Draft::draft_in))]
 fn draft_in<'t>(
     alloc: Global,
@@ -303,14 +301,14 @@ fn draft_in<'t>(
     })
 }
 
-/// Whether a refusal says that data are too long.
+/// Whether the size is refused.
 fn is_size(refusal: Refusal<'_>) -> bool
     ensures { result ≡ is_size (cause refusal.entry) }
 {
     matches!(refusal, Refusal::Size)
 }
 
-/// The data by a definition, for what a line gives. If they are too long, strings have their shortest encodings.
+/// The data by a definition. If they are too long, strings are written in their shortest encodings.
 #[tactic(auto, unfolding(crate::specs::Draft::draft_for))]
 pub(crate) fn draft_for<'t>(
     alloc: Global,

@@ -1,17 +1,17 @@
-//! A line of JSON as a message.
-ghost use Rattle.std.specs.Prelude.{◌≡◌, ◌<◌, ◌≤◌, true, codes, length, option_map, unwrap_or, is_some, Some, Err, IfErr, IfOk, IfSome};
+//! Encodes a line of JSON as a message.
+ghost use Rattle.std.specs.Prelude.{◌≡◌, ◌<◌, ◌≤◌, true, codes, length, option_map, unwrap_or, is_some, slice_get, Some, Err, IfErr, IfOk, IfSome};
 ghost use Rattle.json.specs.Find.{as_str};
 ghost use Rattle.json.specs.Value.{value_view};
 ghost use Rattle.std.specs.Option.{option_and_then};
 ghost use Rattle.n2k_wire.specs.Packet.{is_stamp};
 ghost use Rattle.n2k_table.specs.declared.definition.Kind.{Kind};
-ghost use Rattle.n2k_table.specs.Table.{kind as kind_of};
+ghost use Rattle.n2k_table.specs.Table.{kind as kind_of, matches};
 ghost use Rattle.n2k_encode.specs.Encoded.{longest_request, IsEncodedLine, IsLineCause, IsNoObject, IsObjectOf};
 ghost use Rattle.n2k_encode.specs.Given.{given};
 ghost use Rattle.n2k_encode.specs.Payload.{culprit, cut, data_by, data_in, definitions_of, encoded, is_chosen, is_meant, is_unmatched};
-ghost use Rattle.n2k_encode.specs.Payload.{given_data, matched, matches_at, payload_for, sized, unmatched};
+ghost use Rattle.n2k_encode.specs.Payload.{given_data, matched, payload_for, sized, unmatched};
 ghost use Rattle.n2k_encode.specs.Refusal.{cause, description, not_json, IfRefused};
-ghost use Rattle.n2k_encode.specs.Steps.{first_of, Gives};
+ghost use Rattle.n2k_encode.specs.Steps.{first_of, is_some_with, Gives};
 ghost use Rattle.n2k_encode.specs.Views.{request_parts};
 
 use crate::draft::{Draft, draft_for, first_name, most_data};
@@ -27,21 +27,21 @@ use n2k_table::{Definition, Kind, KnownPgn, Table};
 use n2k_wire::{Packet, join_id};
 use std::alloc::{AllocError, Global};
 
-/// The most bytes of a line.
+/// The greatest number of bytes in a line.
 pub const LONGEST_REQUEST: usize = 65_536;
 
 /// The description of a message that no definition matches.
 const UNMATCHED: &str = "Unmatched";
 
-/// The name of its one field.
+/// The only field of a message that no definition matches.
 const DATA: &str = "Data";
 
 /// Data of a message.
 type Payload = ArrayVec<u8, 223>;
 
-/// Whether data match the definition at a place among those of a PGN.
+/// Whether data match the definition at index `place` of the PGN.
 fn matches_at(known: &KnownPgn<'_>, place: usize, data: &[u8]) -> bool
-    ensures { result ≡ matches_at «data».now (definitions_of known.now) place }
+    ensures { result ≡ is_some_with (matches «data».now) (slice_get (definitions_of known.now) place) }
 {
     match known.definition(place) {
         Some(definition) => definition.matches(data),
@@ -49,18 +49,18 @@ fn matches_at(known: &KnownPgn<'_>, place: usize, data: &[u8]) -> bool
     }
 }
 
-/// Whether the table chooses the definition at a place among those of its PGN.
+/// Whether the table chooses the definition at index `place` of the PGN for the data.
 fn is_chosen(known: &KnownPgn<'_>, place: usize, data: &[u8]) -> bool
     ensures { result ≡ is_chosen «data».now (definitions_of known.now) place }
 {
     let mut is_first = true;
     for earlier in 0..place {
-        is_first = is_first && !matches_at(known, earlier, data);
+        is_first &= !matches_at(known, earlier, data);
     }
     is_first && matches_at(known, place, data)
 }
 
-/// Whether a line means a definition by the description that it gives, if it gives one.
+/// Whether the line gives the description of this definition, or no description.
 fn is_meant(definition: &Definition<'_>, description: Option<&str>) -> bool
     ensures { result ≡ is_meant (option_map (λ text. text.now) description.entry) definition.now }
 {
@@ -70,8 +70,7 @@ fn is_meant(definition: &Definition<'_>, description: Option<&str>) -> bool
     }
 }
 
-/// The first so many bytes of a draft by the definition at a place, if they read back.
-#[allow(clippy::too_many_arguments)]
+/// The first `length` bytes of a draft by the definition at index `place`, if they read back.
 fn cut(
     known: &KnownPgn<'_>,
     kind: Kind,
@@ -97,8 +96,8 @@ fn cut(
     Some(payload)
 }
 
-/// The name that is reported if no data of a draft read back: that of the first field that shows something else than what
-/// is given.
+/// The name of the first field that does not show its given value in the draft. It is reported if the draft does not read
+/// back.
 fn culprit<'t>(
     definition: &Definition<'t>,
     reading: Reading,
@@ -114,7 +113,7 @@ fn culprit<'t>(
     }
 }
 
-/// The data by the definition at a place, or why there are none.
+/// The data by the definition at index `place`, or the cause of its refusal.
 #[tactic(auto, unfolding(crate::specs::Payload::data_by))]
 fn data_by<'a>(
     alloc: Global,
@@ -170,7 +169,7 @@ fn earlier<'a>(first: Option<Refusal<'a>>, next: Refusal<'a>) -> Refusal<'a>
     }
 }
 
-/// The first refusal, or that no definition has the description.
+/// The first refusal. Without one, no definition has the requested description.
 fn last_refusal<'a>(first: Option<Refusal<'a>>) -> Refusal<'a>
     ensures { cause result ≡ unwrap_or (option_map cause first.entry) description }
 {
@@ -180,7 +179,8 @@ fn last_refusal<'a>(first: Option<Refusal<'a>>) -> Refusal<'a>
     }
 }
 
-/// The data by the first definition that gives some. If none does, why the first that is meant gives none.
+/// The data by the first definition that succeeds. If none succeeds: the refusal by the first definition with the requested
+/// description.
 fn data_in<'a>(
     alloc: Global,
     known: &KnownPgn<'a>,
@@ -208,7 +208,7 @@ fn data_in<'a>(
     Err(EncodeError::Memory)
 }
 
-/// The text of the one field of a message that no definition matches.
+/// The text of the field `Data`.
 fn data_text<'v, 'a>(fields: &'v Value<'a>) -> Option<&'v str>
     ensures { option_map (λ text. text.now) result ≡ option_and_then as_str (given (codes "Data") (value_view fields.now)) }
 {
@@ -218,7 +218,7 @@ fn data_text<'v, 'a>(fields: &'v Value<'a>) -> Option<&'v str>
     }
 }
 
-/// Its bytes.
+/// The bytes of the field `Data`.
 fn given_data<'a>(fields: &Value<'_>) -> Result<FieldBytes, EncodeError<'a>>
     ensures { Gives (λ bytes. bytes.items) result (sized (given_data (value_view fields.now))) }
 {
@@ -232,7 +232,7 @@ fn given_data<'a>(fields: &Value<'_>) -> Result<FieldBytes, EncodeError<'a>>
     }
 }
 
-/// The data that a line gives as they are, for a message that no definition matches.
+/// The data of a message that no definition matches.
 #[tactic(auto, unfolding(crate::specs::Payload::unmatched))]
 fn unmatched<'a>(
     known: &KnownPgn<'a>,
@@ -259,7 +259,7 @@ fn unmatched<'a>(
     Ok(payload)
 }
 
-/// Whether a line asks for a message that no definition matches.
+/// Whether a line requests a message that no definition matches.
 fn is_unmatched(description: Option<&str>) -> bool
     ensures { result ≡ is_unmatched (option_map (λ text. text.now) description.entry) }
 {
@@ -269,8 +269,7 @@ fn is_unmatched(description: Option<&str>) -> bool
     }
 }
 
-/// The data that show exactly what is given, or, if there are none, those to which the values are added that a definition
-/// asks for.
+/// The data that show exactly the given fields. If there are none: data that also show fields with `match`.
 fn matched<'a>(
     alloc: Global,
     known: &KnownPgn<'a>,
@@ -296,7 +295,7 @@ fn matched<'a>(
     }
 }
 
-/// The data that a line asks for.
+/// The data of the requested message.
 fn payload_for<'a>(
     alloc: Global,
     known: &KnownPgn<'a>,
@@ -315,7 +314,7 @@ fn payload_for<'a>(
     }
 }
 
-/// The message of a request with these data.
+/// The packet of a request with these data.
 fn packet_of(request: &Request<'_, '_>, data: &[u8]) -> Option<Packet>
     requires stamp { is_stamp request.now.stamp.now ≡ true }
     requires prio { request.now.id.prio ≤ 7 }
@@ -328,7 +327,7 @@ fn packet_of(request: &Request<'_, '_>, data: &[u8]) -> Option<Packet>
     Packet::new(request.stamp.as_bytes(), request.id, data)
 }
 
-/// The message that an object asks for.
+/// The message that an object requests.
 #[tactic(auto, unfolding(crate::specs::Payload::encoded))]
 fn encode_object<'a>(
     alloc: Global,
@@ -350,7 +349,7 @@ fn encode_object<'a>(
     }
 }
 
-/// The JSON that a line spells.
+/// The JSON object of a line.
 fn parse<'a>(
     alloc: Global,
     line: &'a [u8],
@@ -369,9 +368,9 @@ fn parse<'a>(
     }
 }
 
-/// The message that a line of JSON asks for under a table: the timestamp and the identifier that the line gives, and data
-/// that the table decodes to exactly the fields that it gives. With `nearest` a number is the nearest one that its field can
-/// show; without it each number is exact. `scratch` is room for the texts of the line, and may serve many lines.
+/// The message that a line of JSON requests: it has the timestamp and the identifier of the line, and data that the table
+/// decodes to exactly the given fields. With `nearest` numbers are rounded to the nearest number that their field can show;
+/// without it they must be exact. `scratch` holds the texts of the line, and can be used for many lines.
 ///
 /// ```rust
 /// let table = sample_table(alloc)?;

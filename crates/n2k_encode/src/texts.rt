@@ -1,4 +1,4 @@
-//! Texts of fields as bytes.
+//! The bytes of texts.
 ghost use Rattle.std.specs.Prelude.{◌≡◌, ◌<◌, ◌≤◌, ◌++◌, [], ◌∷◌, Some, None, replicate, flat_map, option_map, is_some, length, IfSome};
 ghost use Rattle.std.specs.Str.{chars, is_utf8};
 ghost use Rattle.n2k_encode.specs.Texts.{digit, digits_byte, digit_pairs, ends_full, ends_with_letter, filled, hex_byte, hex_bytes, hex_digit};
@@ -7,10 +7,10 @@ ghost use Rattle.n2k_encode.specs.Texts.{last_letter, latin1, latin1_string, mos
 use arrayvec::ArrayVec;
 use n2k_table::Form;
 
-/// The most bytes of a field that is not numeric: a string with its length.
+/// The greatest number of bytes in a field: a string with its length.
 pub(crate) const MOST_BYTES: usize = 255;
 
-/// Bytes of a field.
+/// The bytes of a field.
 pub(crate) type FieldBytes = ArrayVec<u8, MOST_BYTES>;
 
 /// Appends a byte, if there is room for it.
@@ -25,7 +25,7 @@ fn push(byte: u8, bytes: &mut FieldBytes) -> Option<()>
     Some(())
 }
 
-/// A byte for each character of a text in UTF-8, if each is at most U+00FF.
+/// One byte for each character of a text in UTF-8, if each character is at most U+00FF.
 #[tactic(auto, using(crate::proofs::Prefixes::prefix_rules))]
 pub(crate) fn latin1(text: &[u8]) -> Option<FieldBytes>
     ensures { option_map (λ bytes. bytes.items) result ≡ within (latin1 text.now) }
@@ -51,7 +51,7 @@ pub(crate) fn latin1(text: &[u8]) -> Option<FieldBytes>
     Some(bytes)
 }
 
-/// The value of an upper hexadecimal digit.
+/// The value of an uppercase hexadecimal digit.
 fn hex_digit(byte: u8) -> Option<u8>
     ensures value { result ≡ hex_digit byte }
     ensures bound { IfSome result (λ digit. digit < 16) }
@@ -63,14 +63,14 @@ fn hex_digit(byte: u8) -> Option<u8>
     }
 }
 
-/// The byte of two upper hexadecimal digits.
+/// The byte of two uppercase hexadecimal digits.
 fn hex_byte(high: u8, low: u8) -> Option<u8>
     ensures { result ≡ hex_byte high low }
 {
     Some(16 * hex_digit(high)? + hex_digit(low)?)
 }
 
-/// The bytes that pairs of upper hexadecimal digits with a space between them spell, at least one pair.
+/// The bytes of one or more pairs of uppercase hexadecimal digits, separated by single spaces.
 #[tactic(auto, using(crate::proofs::Prefixes::prefix_rules))]
 fn some_pairs(text: &[u8]) -> Option<FieldBytes>
     ensures { option_map (λ bytes. bytes.items) result ≡ within (some_pairs text.now) }
@@ -94,7 +94,7 @@ fn some_pairs(text: &[u8]) -> Option<FieldBytes>
     None
 }
 
-/// The bytes that pairs of upper hexadecimal digits with a space between them spell.
+/// The bytes of pairs of uppercase hexadecimal digits, separated by single spaces.
 pub(crate) fn hex_bytes(text: &[u8]) -> Option<FieldBytes>
     ensures { option_map (λ bytes. bytes.items) result ≡ within (hex_bytes text.now) }
 {
@@ -104,7 +104,8 @@ pub(crate) fn hex_bytes(text: &[u8]) -> Option<FieldBytes>
     some_pairs(text)
 }
 
-/// Whether a text is such pairs, however many.
+/// Whether a text consists of pairs of uppercase hexadecimal digits, separated by single spaces. Their number is not
+/// limited.
 #[tactic(auto, using(crate::proofs::Prefixes::prefix_rules))]
 pub(crate) fn are_pairs(text: &[u8]) -> bool
     ensures { result ≡ is_some (hex_bytes text.now) }
@@ -149,7 +150,7 @@ fn digits_byte(high: u8, low: u8) -> Option<u8>
     Some(10 * digit(high)? + digit(low)?)
 }
 
-/// The bytes that pairs of decimal digits spell.
+/// The bytes of pairs of decimal digits.
 #[tactic(auto, using(crate::proofs::Prefixes::prefix_rules))]
 pub(crate) fn digit_pairs(text: &[u8]) -> Option<FieldBytes>
     ensures { option_map (λ bytes. bytes.items) result ≡ within (digit_pairs text.now) }
@@ -167,7 +168,7 @@ pub(crate) fn digit_pairs(text: &[u8]) -> Option<FieldBytes>
     Some(bytes)
 }
 
-/// Bytes after others.
+/// Two slices joined, if a field has room for them.
 fn joined(prefix: &[u8], rest: &[u8]) -> Option<FieldBytes>
     ensures { option_map (λ bytes. bytes.items) result ≡ within (Some (prefix.now ++ rest.now)) }
 {
@@ -177,7 +178,7 @@ fn joined(prefix: &[u8], rest: &[u8]) -> Option<FieldBytes>
     Some(bytes)
 }
 
-/// So many bytes FF.
+/// `count` bytes FF.
 #[tactic(auto, using(crate::proofs::Prefixes::fill_rules))]
 pub(crate) fn ones(count: usize) -> FieldBytes
     requires { count ≤ most_bytes }
@@ -201,7 +202,7 @@ pub(crate) fn filled(bytes: &[u8], length: usize) -> Option<FieldBytes>
     joined(bytes, ones(count).as_slice())
 }
 
-/// Whether a text of bytes does not end with a byte that fills a text up.
+/// Whether the last byte is not filler.
 pub(crate) fn ends_full(bytes: &[u8]) -> bool
     ensures { result ≡ ends_full bytes.now }
 {
@@ -211,7 +212,7 @@ pub(crate) fn ends_full(bytes: &[u8]) -> bool
     }
 }
 
-/// A string of these characters, a byte each, which says how long it is.
+/// A string with these bytes, its length in front.
 pub(crate) fn narrow_string(form: Form, characters: &[u8]) -> Option<FieldBytes>
     ensures { option_map (λ bytes. bytes.items) result ≡ narrow_string form characters.now }
 {
@@ -242,7 +243,7 @@ fn is_utf8(bytes: &[u8]) -> bool
     }
 }
 
-/// A string of one byte for each character, which must not be UTF-8 by chance.
+/// A string with one byte for each character, unless these bytes are also valid UTF-8.
 pub(crate) fn latin1_string(form: Form, text: &str) -> Option<FieldBytes>
     ensures { option_map (λ bytes. bytes.items) result ≡ latin1_string form text.now }
 {
@@ -273,7 +274,7 @@ fn push_wide(letter: char, bytes: &mut FieldBytes) -> Option<()>
     bytes.try_extend_from_slice(&units).ok()
 }
 
-/// The characters of a text in UTF-16.
+/// The bytes of a text in UTF-16, low byte first.
 fn wide_characters(text: &str) -> Option<FieldBytes>
     ensures { option_map (λ bytes. bytes.items) result ≡ within (Some (flat_map wide_character (chars text.now))) }
 {
@@ -296,7 +297,7 @@ fn last_letter(text: &str) -> Option<char>
     last
 }
 
-/// Whether a text ends with a character that does not fill a text up.
+/// Whether the last character is not filler.
 fn ends_with_letter(text: &str) -> bool
     ensures { result ≡ ends_with_letter (chars text.now) }
 {
@@ -306,7 +307,7 @@ fn ends_with_letter(text: &str) -> bool
     }
 }
 
-/// A string of UTF-16, with a byte of the length and one of the encoding.
+/// A string in UTF-16, with its length and its encoding in front.
 #[tactic(auto, unfolding(crate::specs::Texts::utf16_string))]
 pub(crate) fn utf16_string(text: &str) -> Option<FieldBytes>
     ensures { option_map (λ bytes. bytes.items) result ≡ utf16_string text.now }

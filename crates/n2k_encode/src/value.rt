@@ -20,25 +20,25 @@ use crate::texts::{
 use json::Value;
 use n2k_table::{Coding, Field, Form, Lookup, Resolution};
 
-/// How values are written.
+/// How values are encoded.
 #[derive(Clone, Copy)]
 pub(crate) struct Style {
-    /// Whether a number may be the nearest that its field can show.
+    /// Whether a number is rounded to the nearest number that its field can show.
     pub(crate) nearest: bool,
-    /// Whether a string has its shortest encoding.
+    /// Whether a string is written in its shortest encoding.
     pub(crate) shortest: bool,
 }
 
-/// What a field is set to.
+/// The code of a field.
 #[derive(Drop)]
 pub(crate) enum Code {
     /// The raw value of its bits.
     Bits(u64),
-    /// Its bytes from its first on.
+    /// Its bytes.
     Bytes(FieldBytes),
 }
 
-/// How many of the greatest values of so many bits mean "not available".
+/// How many of the greatest values of `bits` bits mean "not available".
 fn reserved(bits: u32) -> u64
     ensures value { result ≡ reserved bits }
     ensures few { result ≤ 2 }
@@ -50,7 +50,7 @@ fn reserved(bits: u32) -> u64
     }
 }
 
-/// Half of the values of so many bits.
+/// Half the number of values of `bits` bits.
 fn half(bits: u32) -> u64
     requires some { 1 ≤ bits }
     requires room { bits ≤ 64 }
@@ -59,7 +59,7 @@ fn half(bits: u32) -> u64
     1 << (bits - 1)
 }
 
-/// The greatest value of so many bits.
+/// The greatest value of `bits` bits.
 fn greatest(signed: bool, bits: u32) -> u64
     requires some { 1 ≤ bits }
     requires room { bits ≤ 64 }
@@ -69,7 +69,7 @@ fn greatest(signed: bool, bits: u32) -> u64
     if signed { half - 1 } else { half - 1 + half }
 }
 
-/// The raw value of so many bits that shows a negative number in two's complement, if one does.
+/// The raw value of a negative number in two's complement, if `bits` bits can hold it.
 #[tactic(auto, unfolding(crate::specs::Value::raw_number))]
 fn raw_below(bits: u32, size: u128) -> Option<u64>
     requires some { 1 ≤ bits }
@@ -84,7 +84,7 @@ fn raw_below(bits: u32, size: u128) -> Option<u64>
     Some(half - size as u64 + half)
 }
 
-/// The raw value of so many bits that shows a number, if one does.
+/// The raw value of a number, if `bits` bits can show it.
 #[tactic(auto, unfolding(crate::specs::Value::raw_number))]
 fn raw_number(signed: bool, bits: u32, negative: bool, size: u128) -> Option<u64>
     requires some { 1 ≤ bits }
@@ -129,7 +129,7 @@ fn number_raw(
     raw_number(signed, bits, is_negative(text), units)
 }
 
-/// A number of so many units, with its sign.
+/// A number of units, with its sign.
 fn with_sign(negative: bool, units: u128) -> i128
     requires { units ≤ 2 ^ 100 }
     ensures value { result ≡ with_sign negative units }
@@ -140,7 +140,7 @@ fn with_sign(negative: bool, units: u128) -> i128
     if negative { -size } else { size }
 }
 
-/// The raw value of a whole number that has no sign bit.
+/// The raw value of a whole number, without a sign bit.
 fn whole_raw(bits: u32, whole: i128) -> Option<u64>
     requires some { 1 ≤ bits }
     requires room { bits ≤ 64 }
@@ -171,7 +171,7 @@ fn shifted_raw(
     whole_raw(bits, number - i128::from(offset))
 }
 
-/// A number that has no name.
+/// A whole number below 2^64 without a name.
 #[tactic(auto, unfolding(crate::specs::Value::unnamed))]
 fn unnamed(lookup: &Lookup, text: &[u8]) -> Option<u64>
     ensures { result ≡ unnamed lookup.now.entries text.now }
@@ -183,7 +183,7 @@ fn unnamed(lookup: &Lookup, text: &[u8]) -> Option<u64>
     Some(number)
 }
 
-/// Whether a value of a lookup is one that is there. The greatest that has no name means "not available".
+/// Whether a value of a lookup is available. The greatest value means "not available", unless it has a name.
 fn is_there(lookup: &Lookup, bits: u32, raw: u64) -> bool
     requires some { 1 ≤ bits }
     requires room { bits ≤ 64 }
@@ -193,7 +193,7 @@ fn is_there(lookup: &Lookup, bits: u32, raw: u64) -> bool
     raw <= greatest && !(raw == greatest && bits >= 2 && lookup.text_of(raw).is_none())
 }
 
-/// A value of a lookup, if it is one that is there.
+/// A value of a lookup, if it is available.
 fn if_there(lookup: &Lookup, bits: u32, found: Option<u64>) -> Option<u64>
     requires some { 1 ≤ bits }
     requires room { bits ≤ 64 }
@@ -207,7 +207,7 @@ fn if_there(lookup: &Lookup, bits: u32, found: Option<u64>) -> Option<u64>
     }
 }
 
-/// A value of a lookup by its name, or by its number if it has no name.
+/// The value of a lookup with the given name, or the given number if it has no name.
 fn named_value(lookup: &Lookup, value: &Value<'_>) -> Option<u64>
     ensures { result ≡ named_value lookup.now.entries (value_view value.now) }
 {
@@ -218,7 +218,7 @@ fn named_value(lookup: &Lookup, value: &Value<'_>) -> Option<u64>
     }
 }
 
-/// A raw value with a bit more, if the bit is one of so many and is not there yet.
+/// The raw value with one more bit, if the bit is below `bits` and not set yet.
 fn with_flag(raw: u64, bits: u32, bit: u64) -> Option<u64>
     requires { bits ≤ 64 }
     ensures { result ≡ with_flag raw bits bit }
@@ -229,7 +229,7 @@ fn with_flag(raw: u64, bits: u32, bit: u64) -> Option<u64>
     Some(raw | (1 << bit as u32))
 }
 
-/// The raw value of the bits that are named, each once.
+/// The raw value with all named bits. Each bit may be named once.
 fn flags_from(lookup: &Lookup, bits: u32, values: &[Value<'_>]) -> Option<u64>
     requires { bits ≤ 64 }
     ensures { result ≡ flags_from lookup.now.entries bits 0 (items_view values.now) }
@@ -241,7 +241,7 @@ fn flags_from(lookup: &Lookup, bits: u32, values: &[Value<'_>]) -> Option<u64>
     Some(raw)
 }
 
-/// The raw value of flags: bits that are named in an array, each once.
+/// The raw value of the flags in an array.
 fn flags_raw(lookup: &Lookup, bits: u32, value: &Value<'_>) -> Option<u64>
     requires some { 1 ≤ bits }
     requires room { bits ≤ 64 }
@@ -257,7 +257,7 @@ fn flags_raw(lookup: &Lookup, bits: u32, value: &Value<'_>) -> Option<u64>
     Some(raw)
 }
 
-/// The bytes of a text, filled up.
+/// The bytes of a text, padded to the width.
 #[tactic(auto, unfolding(crate::specs::Value::text_bytes))]
 fn text_bytes(width: usize, value: &Value<'_>) -> Option<FieldBytes>
     requires { width ≤ 255 }
@@ -271,7 +271,7 @@ fn text_bytes(width: usize, value: &Value<'_>) -> Option<FieldBytes>
     filled(bytes.as_slice(), width)
 }
 
-/// The bytes of a field of bytes: all of them, or fewer if it may be short.
+/// The bytes of a field of bytes. A short field may have fewer than its width.
 #[tactic(auto, unfolding(crate::specs::Value::plain_bytes))]
 fn plain_bytes(width: usize, short: bool, value: &Value<'_>) -> Option<FieldBytes>
     ensures { option_map (λ bytes. bytes.items) result ≡ option_and_then (plain_bytes width short) (as_str (value_view value.now)) }
@@ -285,7 +285,7 @@ fn plain_bytes(width: usize, short: bool, value: &Value<'_>) -> Option<FieldByte
     }
 }
 
-/// The bytes of digits, filled up.
+/// The bytes of digits, padded to the width.
 #[tactic(auto, unfolding(crate::specs::Value::digit_bytes))]
 fn digit_bytes(width: usize, value: &Value<'_>) -> Option<FieldBytes>
     requires { width ≤ 255 }
@@ -299,7 +299,7 @@ fn digit_bytes(width: usize, value: &Value<'_>) -> Option<FieldBytes>
     filled(bytes.as_slice(), width)
 }
 
-/// A string of UTF-16, if the form has one.
+/// A string in UTF-16, in the form `lau` only.
 fn wide_string(form: Form, text: &str) -> Option<FieldBytes>
     ensures { option_map (λ bytes. bytes.items) result ≡ wide_string form text.now }
 {
@@ -309,7 +309,7 @@ fn wide_string(form: Form, text: &str) -> Option<FieldBytes>
     }
 }
 
-/// The shorter of two strings that are there.
+/// The shorter of two strings; the first if both are equally long.
 fn shorter_of(utf8: Option<FieldBytes>, wide: Option<FieldBytes>) -> Option<FieldBytes>
     ensures { option_map (λ bytes. bytes.items) result
         ≡ shorter_of (option_map (λ bytes. bytes.items) utf8) (option_map (λ bytes. bytes.items) wide) }
@@ -327,7 +327,7 @@ fn shorter_of(utf8: Option<FieldBytes>, wide: Option<FieldBytes>) -> Option<Fiel
     }
 }
 
-/// A string of the first encoding that shows a text.
+/// A string in the first encoding that shows the text.
 fn first_string(form: Form, text: &str) -> Option<FieldBytes>
     ensures { option_map (λ bytes. bytes.items) result ≡ first_string form text.now }
 {
@@ -340,7 +340,7 @@ fn first_string(form: Form, text: &str) -> Option<FieldBytes>
     wide_string(form, text)
 }
 
-/// A string of the shortest encoding that shows a text.
+/// A string in the shortest encoding that shows the text.
 fn shortest_string(form: Form, text: &str) -> Option<FieldBytes>
     ensures { option_map (λ bytes. bytes.items) result ≡ shortest_string form text.now }
 {
@@ -353,7 +353,7 @@ fn shortest_string(form: Form, text: &str) -> Option<FieldBytes>
     )
 }
 
-/// A string, if the value is a text.
+/// The bytes of a string, if the value is a text.
 fn string_bytes(shortest: bool, form: Form, value: &Value<'_>) -> Option<FieldBytes>
     ensures { option_map (λ bytes. bytes.items) result ≡ option_and_then (string_bytes shortest form) (as_str (value_view value.now)) }
 {
@@ -365,7 +365,7 @@ fn string_bytes(shortest: bool, form: Form, value: &Value<'_>) -> Option<FieldBy
     }
 }
 
-/// The code of a raw value. A field that asks for a value has that one.
+/// The code of a raw value. A field with `match` must have this value.
 fn bits_for(field: &Field, raw: Option<u64>) -> Option<Code>
     ensures { option_map code_parts result ≡ bits_for field.now raw }
 {
@@ -383,7 +383,7 @@ fn bytes_for(found: Option<FieldBytes>) -> Option<Code>
     Some(Code::Bytes(found?))
 }
 
-/// What a field is set to, to show a value.
+/// The code by which a field shows a value, if it can show the value.
 pub(crate) fn code_of(style: Style, field: &Field, value: &Value<'_>) -> Option<Code>
     ensures { option_map code_parts result ≡ code_for style field.now (value_view value.now) field.now.meaning }
 {
@@ -414,7 +414,7 @@ pub(crate) fn code_of(style: Style, field: &Field, value: &Value<'_>) -> Option<
     }
 }
 
-/// Bytes that are all FF.
+/// A code of `count` bytes FF.
 fn all_ones(count: u32) -> Code
     requires { count ≤ 255 }
     ensures { code_parts result ≡ all_ones count }
@@ -437,7 +437,7 @@ fn empty_string(form: Form) -> Code
     Code::Bytes(bytes)
 }
 
-/// What a field is set to that is not available.
+/// The code that means "not available".
 pub(crate) fn not_available(field: &Field) -> Code
     ensures { code_parts result ≡ not_available field.now.bits field.now.meaning }
 {
