@@ -16,7 +16,7 @@ written under another name and renamed when it is complete. FOLDER/.n2k-fleet re
 again if its log, a day before it, the table or the program has changed. One call at a time works in a FOLDER.
 
     --scheduler ADDRESS   the address of a scheduler of Dask, as tcp://10.0.0.2:8786 [default: DASK_SCHEDULER_ADDRESS or Dask's
-                          configuration; if neither has one, or ADDRESS is empty, this computer works]
+                          configuration; if neither has one, or ADDRESS is empty, this computer does the work]
     --table FILE          the table [default: the installed table]
     --also FILE           add the messages and names of your own table, as n2k --also does (may be repeated)
     --columns LIST        write a table NAME.csv for each boat instead of JSON, as `n2k --csv` does with these columns,
@@ -873,7 +873,7 @@ def scheduler_of(asked: Optional[str]) -> str:
 def parsed(words: Sequence[str]) -> argparse.Namespace:
     parser = argparse.ArgumentParser("n2k-fleet", description="Decodes the logs of many boats side by side: on this computer, or on a cluster of Dask.")
     parser.add_argument("--scheduler", metavar="ADDRESS", help="the address of a scheduler of Dask, as tcp://10.0.0.2:8786 [default: "
-                        "DASK_SCHEDULER_ADDRESS or Dask's configuration; else this computer works]")
+                        "DASK_SCHEDULER_ADDRESS or Dask's configuration; otherwise this computer does the work]")
     parser.add_argument("--table", metavar="FILE", default=str(shipped("n2k.toml")), help="the table [default: the installed table]")
     parser.add_argument("--also", metavar="FILE", action="append", default=[], help="add the messages and names of your own table")
     parser.add_argument("--columns", metavar="PGN/FIELD,..", default="", help="instead of JSON a CSV of these columns for each boat")
