@@ -1,5 +1,5 @@
 -- The fields that a line gives.
-use Rattle.std.specs.Prelude.{ℕ, Bool, true, false, ◌&&◌, ◌||◌, List, Option, Some, None, is_some, is_none, option_map, if◌then◌else◌}
+use Rattle.std.specs.Prelude.{ℕ, Bool, true, false, ◌&&◌, ◌||◌, List, Option, Some, None, is_some, option_map, if◌then◌else◌}
 use Rattle.std.specs.List.{list_any}
 use Rattle.std.specs.Str.{bytes_eq}
 use Rattle.json.specs.Json.{Json, null, boolean, number, string, array, object, Items, no_items, item, Members, no_members, member}
@@ -36,10 +36,6 @@ first_failing p (member k j ms) = if is_null j || p k then first_failing p ms el
 
 abbrev pub first_unknown : (List ℕ → Bool) → Json → Option (List ℕ)
 first_unknown p j = first_failing p (members_in (as_object j))
-
--- each given name is the name of a field, or `list` if the definition has sets
-abbrev pub names_known : List FieldParts → Bool → Json → Bool
-names_known fields has_list j = is_none (first_unknown (is_name fields has_list) j)
 
 -- the first given name in these sets that no field of the set has
 abbrev pub first_in_sets : List FieldParts → Items → Option (List ℕ)
