@@ -309,16 +309,33 @@ class _Output:
 class _Turn:
     """Admits one thread at a time: the library's calls run without Python's lock, and two on one decoder would destroy it."""
 
-    def __init__(self) -> None:
+    def __init__(self, close: Callable[[], object]) -> None:
         self._thread: dict[None, int] = {}
+        self._close, self._closes = close, False
+
+    def _begins(self) -> bool:
+        # `setdefault` is one step for other threads.
+        return self._thread.setdefault(None, threading.get_ident()) == threading.get_ident()
 
     def __enter__(self) -> None:
-        # `setdefault` is one step for other threads.
-        if self._thread.setdefault(None, threading.get_ident()) != threading.get_ident():
+        if not self._begins():
             raise RuntimeError("another thread is calling this decoder: make one call at a time")
 
     def __exit__(self, *_: object) -> None:
         # If an interrupt comes first, it stays this thread's turn until the end of its next call.
+        self._thread.clear()
+        if self._closes:
+            self.close()
+
+    def close(self) -> None:
+        """Closes the decoder now, or at the end of the call that another thread makes."""
+        self._closes = True
+        if self._begins():
+            self._close()
+            self._thread.clear()
+
+    def forget(self) -> None:
+        """Ends a turn that an interrupt left, if no thread can be calling."""
         self._thread.clear()
 
 
@@ -333,7 +350,8 @@ class Decoder:
 
     Any thread may call a decoder, one call at a time (`await asyncio.to_thread(decoder.feed, data)`, for example). If two
     threads call it at once, one of them gets RuntimeError. A decoder is closed by `close`, by the end of a `with`, or when
-    its last reference goes. A closed decoder raises Error. A decoder can't be copied: `save` it.
+    its last reference goes; if another thread is calling it then, at the end of that call. A closed decoder raises Error. A
+    decoder can't be copied: `save` it.
     """
 
     def __init__(self, table: Optional[Table] = None, *, state: Optional[Bytes] = None, window: int = 10_000, in_order: bool = False,
@@ -347,15 +365,15 @@ class Decoder:
         Raises ArgumentError if the table, the state or the window is refused, Error if memory is refused, and OSError if
         the table's file can't be read or the library is missing.
         """
-        self._turn = _Turn()
         self._calls = _loaded()
+        self._handle = _Handle()
+        self._turn = _Turn(functools.partial(self._calls.n2k_close, self._handle))
         self._input = _input(0)
         # The files that were named and are not read to their end.
         self._files: collections.deque[BinaryIO] = collections.deque()
         self._printed, self._reported = _Output(self._calls.n2k_take), _Output(self._calls.n2k_take_reports)
         # The statuses of ending the log.
         self._ends: collections.deque[int] = collections.deque()
-        self._handle = _Handle()
         toml = None if table is None else table if isinstance(table, bytes) else pathlib.Path(table).read_bytes()
         saved = b"" if state is None else bytes(memoryview(state))
         settings = _Settings(window if 0 <= window < 1 << 32 else 0, in_order, empty, whole)
@@ -607,9 +625,8 @@ class Decoder:
         return ctypes.string_at(room, size.value)
 
     def close(self) -> None:
-        """Frees the decoder's memory. Closing it again does nothing."""
-        with self._turn:
-            self._calls.n2k_close(self._handle)
+        """Frees the decoder's memory, if another thread is calling it at the end of that call. Closing it again does nothing."""
+        self._turn.close()
         self._input = _input(self._input.received)
         self._printed.now, self._reported.now = self._printed.emptied(), self._reported.emptied()
         while self._files:
@@ -625,7 +642,8 @@ class Decoder:
         self.close()
 
     def __del__(self) -> None:
-        if hasattr(self, "_handle") and self._handle.live:
+        if hasattr(self, "_files") and self._handle.live:
+            self._turn.forget()
             self.close()
 
 

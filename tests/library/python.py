@@ -420,6 +420,58 @@ class Decoding(unittest.TestCase):
         thread.join()
         self.assertFalse(handle.live)
 
+    def test_a_decoder_is_closed_where_it_is_dropped_after_an_interrupt(self):
+        held, number = [n2kdec.Decoder(SAMPLE)], 0
+        while Interrupts.is_interrupted(number := number + 1, lambda: held[0].counts):
+            handle = held[0]._handle
+            thread = threading.Thread(target=held.clear)
+            thread.start()
+            thread.join()
+            self.assertFalse(handle.live, number)
+            held.append(n2kdec.Decoder(SAMPLE))
+        self.assertGreater(number, 50)
+
+    def test_a_cancelled_task_closes_its_decoder(self):
+        """The call goes on in its thread, and at its end the decoder is closed."""
+        begun, goes_on = threading.Event(), threading.Event()
+
+        class Slow:
+            """The library's calls, of which n2k_feed waits."""
+            def __getattr__(self, name):
+                return getattr(n2kdec._loaded(), name)
+
+            def n2k_feed(self, *arguments):
+                begun.set()
+                goes_on.wait(60)
+                return n2kdec._loaded().n2k_feed(*arguments)
+
+        async def fed(decoder):
+            with decoder:
+                await asyncio.to_thread(decoder.feed, TRIP.read_bytes())
+
+        async def cancelled():
+            decoder = n2kdec.Decoder(SAMPLE)
+            decoder._calls = Slow()
+            task = asyncio.create_task(fed(decoder))
+            await asyncio.to_thread(begun.wait, 60)
+            task.cancel()
+            try:
+                with self.assertRaises(asyncio.CancelledError):
+                    await task
+                with self.assertRaisesRegex(RuntimeError, "another thread is calling this decoder"):
+                    decoder.feed(b"")
+                self.assertTrue(decoder._handle.live)
+            finally:
+                goes_on.set()
+            return decoder
+
+        # `run` waits for the thread.
+        decoder = asyncio.run(cancelled())
+        self.assertEqual((decoder.received, decoder._handle.live), (len(TRIP.read_bytes()), False))
+        for call in (lambda: decoder.feed(b"x"), decoder.take, decoder.end):
+            with self.assertRaisesRegex(n2kdec.Error, "no decoder is open"):
+                call()
+
     def test_two_calls_at_once_are_refused(self):
         """A thread feeds without end: calls of another one are refused, or come between."""
         line, refused, taken, end = TRIP.read_bytes().splitlines(True)[0], 0, 0, time.monotonic() + 60
