@@ -20,6 +20,7 @@ import ctypes
 import functools
 import itertools
 import json
+import operator
 import os
 import pathlib
 import threading
@@ -202,7 +203,7 @@ def _line_of(frame: CanFrame) -> bytes:
 
 def _frame_of(identifier: int, data: Union[bytes, bytearray], timestamp: float) -> Optional[_Frame]:
     """The arguments of n2k_frame, of which C takes no others, or None: the time is the one that `candump -L` prints."""
-    seconds, _, micros = f"{timestamp:.6f}".partition(".")
+    identifier, (seconds, _, micros) = operator.index(identifier), f"{timestamp:.6f}".partition(".")
     if not (0 <= identifier < 1 << 29 and len(data) <= 8 and seconds.isdigit() and int(seconds) <= 253_402_300_799):
         return None
     return _Frame(identifier, bytes(data), len(data), int(seconds), 1000 * int(micros))
@@ -389,18 +390,20 @@ class Decoder:
     def _feed_piece(self) -> bool:
         """Feeds a piece of the input; returns whether there was one. A small piece has few messages."""
         now = self._input
-        if now.arrived and (frame := _frame_in(now.arrived[0])):
-            if not now.fed:
-                now.fed.extend(map(self._calls.n2k_frame, (self._handle,), *((it,) for it in frame)))
-            self._input = _input(now.received + 1)
-            _check(now.fed[0])
-            return True
         if now.arrived:
             try:
-                data = _bytes_of(now.arrived[0])  # type: ignore[arg-type]
-            except TypeError:
+                frame = _frame_in(now.arrived[0])
+                data = b"" if frame else _bytes_of(now.arrived[0])  # type: ignore[arg-type]
+            except Exception:
+                # It is neither bytes nor a frame. It is dropped, so that others can come.
                 self._input = _input(now.received)
                 raise
+            if frame:
+                if not now.fed:
+                    now.fed.extend(map(self._calls.n2k_frame, (self._handle,), *((it,) for it in frame)))
+                self._input = _input(now.received + 1)
+                _check(now.fed[0])
+                return True
             self._input = now = _input(now.received + len(data), data)
         elif not now.rest:
             return False

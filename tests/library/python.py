@@ -238,6 +238,13 @@ class Decoding(unittest.TestCase):
         wanted = program("decode", "--table", TABLE, log=log)
         self.assertEqual(messages, [json.loads(it) for it in wanted.stdout.splitlines()])
         self.assertEqual((len(messages), messages[0]["timestamp"], messages[0]["fields"]["SOG"]), (1, "2025-07-04T06:00:00.114Z", 0.5))
+        with n2kdec.Decoder() as decoder:
+            # What is no frame is refused, and the next is taken.
+            source = iter([frames[0]._replace(timestamp=None), frames[0]._replace(arbitration_id="x"), frames[0]])
+            for _ in range(2):
+                with self.assertRaises((TypeError, ValueError)):
+                    list(decoder.decode(source))
+            self.assertEqual((list(decoder.decode(source)), decoder.received), (messages, 1))
         self.assertEqual(reports, ["line 6 bad B2 stamp"])
         self.assertEqual(reports, wanted.stderr.decode().splitlines()[:-1])
         # Debian's python3-can warns as it is imported by Python 3.11.
@@ -266,6 +273,9 @@ class Decoding(unittest.TestCase):
                 with self.assertRaises(n2kdec.ArgumentError) as raised:
                     frames.frame(*wrong)
                 self.assertEqual(raised.exception.status, 9)
+            for wrong in ((1.5, data, 0), ("4", data, 0), (4, 8, 0), (4, data, None)):
+                with self.assertRaises(TypeError):
+                    frames.frame(*wrong)
             frames.feed(b"(1.0")
             with self.assertRaises(n2kdec.Error) as refused:
                 frames.frame(0x09F80203, data, 1)
