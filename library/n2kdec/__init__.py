@@ -23,7 +23,9 @@ import json
 import operator
 import os
 import pathlib
+import sys
 import threading
+import types
 from collections.abc import Callable, Iterable, Iterator
 from decimal import Decimal
 from typing import Any, BinaryIO, NamedTuple, Optional, Protocol, TypedDict, Union
@@ -312,6 +314,8 @@ class _Turn:
 
     def __init__(self, close: Callable[[], object]) -> None:
         self._thread: dict[None, int] = {}
+        # The functions that call, the innermost last: a signal's handler may call within another call.
+        self._frames: list[types.FrameType] = []
         self._close, self._closes = close, False
 
     def _begins(self) -> bool:
@@ -321,9 +325,18 @@ class _Turn:
     def __enter__(self) -> None:
         if not self._begins():
             raise RuntimeError("another thread is calling this decoder: make one call at a time")
+        self._frames.append(sys._getframe(1))
 
     def __exit__(self, *_: object) -> None:
         # If an interrupt comes first, it stays this thread's turn until the end of its next call.
+        frame: Optional[types.FrameType] = sys._getframe(1)
+        while self._frames and self._frames.pop() is not frame:
+            pass
+        while self._frames and frame:
+            frame = frame.f_back
+            if frame in self._frames:
+                return
+        self._frames.clear()
         self._thread.clear()
         if self._closes:
             self.close()
@@ -333,10 +346,12 @@ class _Turn:
         self._closes = True
         if self._begins():
             self._close()
-            self._thread.clear()
+            if not self._frames:
+                self._thread.clear()
 
     def forget(self) -> None:
         """Ends a turn that an interrupt left, if no thread can be calling."""
+        self._frames.clear()
         self._thread.clear()
 
 

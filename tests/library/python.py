@@ -6,6 +6,7 @@ import concurrent.futures
 import contextlib
 import copy
 import dis
+import gc
 import hashlib
 import io
 import itertools
@@ -434,7 +435,8 @@ class Decoding(unittest.TestCase):
         held, number = [n2kdec.Decoder(SAMPLE)], 0
         while Interrupts.is_interrupted(number := number + 1, lambda: held[0].counts):
             handle = held[0]._handle
-            thread = threading.Thread(target=held.clear)
+            # An interrupted call may leave a cycle of references.
+            thread = threading.Thread(target=lambda: (held.clear(), gc.collect()))
             thread.start()
             thread.join()
             self.assertFalse(handle.live, number)
@@ -481,6 +483,17 @@ class Decoding(unittest.TestCase):
         for call in (lambda: decoder.feed(b"x"), decoder.take, decoder.end):
             with self.assertRaisesRegex(n2kdec.Error, "no decoder is open"):
                 call()
+
+    def test_a_call_within_a_call_does_not_end_it_for_other_threads(self):
+        """A signal's handler makes such a call."""
+        with n2kdec.Decoder(SAMPLE) as decoder, concurrent.futures.ThreadPoolExecutor(1) as other:
+            with decoder._turn:
+                for call in (lambda: decoder.counts, decoder.close):
+                    call()
+                    with self.assertRaisesRegex(RuntimeError, "another thread is calling this decoder"):
+                        other.submit(lambda: decoder.counts).result()
+            with self.assertRaisesRegex(n2kdec.Error, "no decoder is open"):
+                other.submit(lambda: decoder.counts).result()
 
     def test_two_calls_at_once_are_refused(self):
         """A thread feeds without end: calls of another one are refused, or come between."""
