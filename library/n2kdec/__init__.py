@@ -20,9 +20,12 @@ import ctypes
 import functools
 import itertools
 import json
+import operator
 import os
 import pathlib
+import sys
 import threading
+import types
 from collections.abc import Callable, Iterable, Iterator
 from decimal import Decimal
 from typing import Any, BinaryIO, NamedTuple, Optional, Protocol, TypedDict, Union
@@ -202,7 +205,7 @@ def _line_of(frame: CanFrame) -> bytes:
 
 def _frame_of(identifier: int, data: Union[bytes, bytearray], timestamp: float) -> Optional[_Frame]:
     """The arguments of n2k_frame, of which C takes no others, or None: the time is the one that `candump -L` prints."""
-    seconds, _, micros = f"{timestamp:.6f}".partition(".")
+    identifier, (seconds, _, micros) = operator.index(identifier), f"{timestamp:.6f}".partition(".")
     if not (0 <= identifier < 1 << 29 and len(data) <= 8 and seconds.isdigit() and int(seconds) <= 253_402_300_799):
         return None
     return _Frame(identifier, bytes(data), len(data), int(seconds), 1000 * int(micros))
@@ -309,16 +312,46 @@ class _Output:
 class _Turn:
     """Admits one thread at a time: the library's calls run without Python's lock, and two on one decoder would destroy it."""
 
-    def __init__(self) -> None:
+    def __init__(self, close: Callable[[], object]) -> None:
         self._thread: dict[None, int] = {}
+        # The functions that call, the innermost last: a signal's handler may call within another call.
+        self._frames: list[types.FrameType] = []
+        self._close, self._closes = close, False
+
+    def _begins(self) -> bool:
+        # `setdefault` is one step for other threads.
+        return self._thread.setdefault(None, threading.get_ident()) == threading.get_ident()
 
     def __enter__(self) -> None:
-        # `setdefault` is one step for other threads.
-        if self._thread.setdefault(None, threading.get_ident()) != threading.get_ident():
+        if not self._begins():
             raise RuntimeError("another thread is calling this decoder: make one call at a time")
+        self._frames.append(sys._getframe(1))
 
     def __exit__(self, *_: object) -> None:
         # If an interrupt comes first, it stays this thread's turn until the end of its next call.
+        frame: Optional[types.FrameType] = sys._getframe(1)
+        while self._frames and self._frames.pop() is not frame:
+            pass
+        while self._frames and frame:
+            frame = frame.f_back
+            if frame in self._frames:
+                return
+        self._frames.clear()
+        self._thread.clear()
+        if self._closes:
+            self.close()
+
+    def close(self) -> None:
+        """Closes the decoder now, or at the end of the call that another thread makes."""
+        self._closes = True
+        if self._begins():
+            self._close()
+            if not self._frames:
+                self._thread.clear()
+
+    def forget(self) -> None:
+        """Ends a turn that an interrupt left, if no thread can be calling."""
+        self._frames.clear()
         self._thread.clear()
 
 
@@ -333,7 +366,8 @@ class Decoder:
 
     Any thread may call a decoder, one call at a time (`await asyncio.to_thread(decoder.feed, data)`, for example). If two
     threads call it at once, one of them gets RuntimeError. A decoder is closed by `close`, by the end of a `with`, or when
-    its last reference goes. A closed decoder raises Error. A decoder can't be copied: `save` it.
+    its last reference goes; if another thread is calling it then, at the end of that call. A closed decoder raises Error. A
+    decoder can't be copied: `save` it.
     """
 
     def __init__(self, table: Optional[Table] = None, *, state: Optional[Bytes] = None, window: int = 10_000, in_order: bool = False,
@@ -347,15 +381,15 @@ class Decoder:
         Raises ArgumentError if the table, the state or the window is refused, Error if memory is refused, and OSError if
         the table's file can't be read or the library is missing.
         """
-        self._turn = _Turn()
         self._calls = _loaded()
+        self._handle = _Handle()
+        self._turn = _Turn(functools.partial(self._calls.n2k_close, self._handle))
         self._input = _input(0)
         # The files that were named and are not read to their end.
         self._files: collections.deque[BinaryIO] = collections.deque()
         self._printed, self._reported = _Output(self._calls.n2k_take), _Output(self._calls.n2k_take_reports)
         # The statuses of ending the log.
         self._ends: collections.deque[int] = collections.deque()
-        self._handle = _Handle()
         toml = None if table is None else table if isinstance(table, bytes) else pathlib.Path(table).read_bytes()
         saved = b"" if state is None else bytes(memoryview(state))
         settings = _Settings(window if 0 <= window < 1 << 32 else 0, in_order, empty, whole)
@@ -371,18 +405,20 @@ class Decoder:
     def _feed_piece(self) -> bool:
         """Feeds a piece of the input; returns whether there was one. A small piece has few messages."""
         now = self._input
-        if now.arrived and (frame := _frame_in(now.arrived[0])):
-            if not now.fed:
-                now.fed.extend(map(self._calls.n2k_frame, (self._handle,), *((it,) for it in frame)))
-            self._input = _input(now.received + 1)
-            _check(now.fed[0])
-            return True
         if now.arrived:
             try:
-                data = _bytes_of(now.arrived[0])  # type: ignore[arg-type]
-            except TypeError:
+                frame = _frame_in(now.arrived[0])
+                data = b"" if frame else _bytes_of(now.arrived[0])  # type: ignore[arg-type]
+            except Exception:
+                # It is neither bytes nor a frame. It is dropped, so that others can come.
                 self._input = _input(now.received)
                 raise
+            if frame:
+                if not now.fed:
+                    now.fed.extend(map(self._calls.n2k_frame, (self._handle,), *((it,) for it in frame)))
+                self._input = _input(now.received + 1)
+                _check(now.fed[0])
+                return True
             self._input = now = _input(now.received + len(data), data)
         elif not now.rest:
             return False
@@ -607,9 +643,8 @@ class Decoder:
         return ctypes.string_at(room, size.value)
 
     def close(self) -> None:
-        """Frees the decoder's memory. Closing it again does nothing."""
-        with self._turn:
-            self._calls.n2k_close(self._handle)
+        """Frees the decoder's memory, if another thread is calling it at the end of that call. Closing it again does nothing."""
+        self._turn.close()
         self._input = _input(self._input.received)
         self._printed.now, self._reported.now = self._printed.emptied(), self._reported.emptied()
         while self._files:
@@ -625,7 +660,8 @@ class Decoder:
         self.close()
 
     def __del__(self) -> None:
-        if hasattr(self, "_handle") and self._handle.live:
+        if hasattr(self, "_files") and self._handle.live:
+            self._turn.forget()
             self.close()
 
 

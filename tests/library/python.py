@@ -6,6 +6,7 @@ import concurrent.futures
 import contextlib
 import copy
 import dis
+import gc
 import hashlib
 import io
 import itertools
@@ -238,6 +239,13 @@ class Decoding(unittest.TestCase):
         wanted = program("decode", "--table", TABLE, log=log)
         self.assertEqual(messages, [json.loads(it) for it in wanted.stdout.splitlines()])
         self.assertEqual((len(messages), messages[0]["timestamp"], messages[0]["fields"]["SOG"]), (1, "2025-07-04T06:00:00.114Z", 0.5))
+        with n2kdec.Decoder() as decoder:
+            # What is no frame is refused, and the next is taken.
+            source = iter([frames[0]._replace(timestamp=None), frames[0]._replace(arbitration_id="x"), frames[0]])
+            for _ in range(2):
+                with self.assertRaises((TypeError, ValueError)):
+                    list(decoder.decode(source))
+            self.assertEqual((list(decoder.decode(source)), decoder.received), (messages, 1))
         self.assertEqual(reports, ["line 6 bad B2 stamp"])
         self.assertEqual(reports, wanted.stderr.decode().splitlines()[:-1])
         # Debian's python3-can warns as it is imported by Python 3.11.
@@ -266,6 +274,9 @@ class Decoding(unittest.TestCase):
                 with self.assertRaises(n2kdec.ArgumentError) as raised:
                     frames.frame(*wrong)
                 self.assertEqual(raised.exception.status, 9)
+            for wrong in ((1.5, data, 0), ("4", data, 0), (4, 8, 0), (4, data, None)):
+                with self.assertRaises(TypeError):
+                    frames.frame(*wrong)
             frames.feed(b"(1.0")
             with self.assertRaises(n2kdec.Error) as refused:
                 frames.frame(0x09F80203, data, 1)
@@ -419,6 +430,70 @@ class Decoding(unittest.TestCase):
         thread.start()
         thread.join()
         self.assertFalse(handle.live)
+
+    def test_a_decoder_is_closed_where_it_is_dropped_after_an_interrupt(self):
+        held, number = [n2kdec.Decoder(SAMPLE)], 0
+        while Interrupts.is_interrupted(number := number + 1, lambda: held[0].counts):
+            handle = held[0]._handle
+            # An interrupted call may leave a cycle of references.
+            thread = threading.Thread(target=lambda: (held.clear(), gc.collect()))
+            thread.start()
+            thread.join()
+            self.assertFalse(handle.live, number)
+            held.append(n2kdec.Decoder(SAMPLE))
+        self.assertGreater(number, 50)
+
+    def test_a_cancelled_task_closes_its_decoder(self):
+        """The call goes on in its thread, and at its end the decoder is closed."""
+        begun, goes_on = threading.Event(), threading.Event()
+
+        class Slow:
+            """The library's calls, of which n2k_feed waits."""
+            def __getattr__(self, name):
+                return getattr(n2kdec._loaded(), name)
+
+            def n2k_feed(self, *arguments):
+                begun.set()
+                goes_on.wait(60)
+                return n2kdec._loaded().n2k_feed(*arguments)
+
+        async def fed(decoder):
+            with decoder:
+                await asyncio.to_thread(decoder.feed, TRIP.read_bytes())
+
+        async def cancelled():
+            decoder = n2kdec.Decoder(SAMPLE)
+            decoder._calls = Slow()
+            task = asyncio.create_task(fed(decoder))
+            await asyncio.to_thread(begun.wait, 60)
+            task.cancel()
+            try:
+                with self.assertRaises(asyncio.CancelledError):
+                    await task
+                with self.assertRaisesRegex(RuntimeError, "another thread is calling this decoder"):
+                    decoder.feed(b"")
+                self.assertTrue(decoder._handle.live)
+            finally:
+                goes_on.set()
+            return decoder
+
+        # `run` waits for the thread.
+        decoder = asyncio.run(cancelled())
+        self.assertEqual((decoder.received, decoder._handle.live), (len(TRIP.read_bytes()), False))
+        for call in (lambda: decoder.feed(b"x"), decoder.take, decoder.end):
+            with self.assertRaisesRegex(n2kdec.Error, "no decoder is open"):
+                call()
+
+    def test_a_call_within_a_call_does_not_end_it_for_other_threads(self):
+        """A signal's handler makes such a call."""
+        with n2kdec.Decoder(SAMPLE) as decoder, concurrent.futures.ThreadPoolExecutor(1) as other:
+            with decoder._turn:
+                for call in (lambda: decoder.counts, decoder.close):
+                    call()
+                    with self.assertRaisesRegex(RuntimeError, "another thread is calling this decoder"):
+                        other.submit(lambda: decoder.counts).result()
+            with self.assertRaisesRegex(n2kdec.Error, "no decoder is open"):
+                other.submit(lambda: decoder.counts).result()
 
     def test_two_calls_at_once_are_refused(self):
         """A thread feeds without end: calls of another one are refused, or come between."""
