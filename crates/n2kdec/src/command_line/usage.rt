@@ -77,7 +77,7 @@ fn with_files<'a>(alloc: Global, command: Command<'a>) -> Result<Command<'a>, Al
     ensures own { IfOk result (λ added. (fields_of added).has_globals ≡ false) }
 {
     let resume = "Continue from the state in this file";
-    let save = "Replace this file by the state after the log (may be the file of --resume)";
+    let save = "Save the state after the log to this file (may be the file of --resume)";
     command
         .arg(table_argument(alloc))?
         .arg(option(alloc, "resume", "F", false, resume))?
@@ -129,7 +129,7 @@ fn frames_command<'a>(alloc: Global) -> Result<Command<'a>, AllocError>
 {
     let candump = "Print candump lines of this interface instead of plain lines";
     Command::new(alloc, "frames")
-        .about("Print the whole messages of a log as frames of the bus")
+        .about("Split the whole messages of a log into CAN frames")
         .arg(table_argument(alloc))?
         .arg(option(alloc, "candump", "IFACE", false, candump))?
         .arg(log_argument(alloc))
@@ -139,9 +139,9 @@ fn encode_command<'a>(alloc: Global) -> Result<Command<'a>, AllocError>
     ensures app { IfOk result (λ command. app_of command ≡ encode_app) }
     ensures own { IfOk result (λ command. (fields_of command).has_globals ≡ false) }
 {
-    let nearest = "Round each number to the nearest that its field can show";
+    let nearest = "Round each number to the nearest value that its field can show";
     Command::new(alloc, "encode")
-        .about("Print each line of JSON as the plain line of a message")
+        .about("Convert each line of JSON to the plain line of a message")
         .arg(table_argument(alloc))?
         .arg(flag(alloc, "nearest", nearest))?
         .arg(log_argument(alloc))
