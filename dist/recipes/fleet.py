@@ -7,7 +7,9 @@ LOG and FOLDER are local names, or names that fsspec knows, such as s3://bucket/
 
 LOG is a boat's log (a file, which may be compressed by gzip or zstd), or the folder of an `n2k-logger --raw`, whose days are
 parts of one log: each day is decoded from the state after the day before. Boats are decoded side by side.
-Without a scheduler each boat gets a process on this computer, and nothing listens. On a cluster each worker must see LOG and
+Without a scheduler each boat gets a process on this computer, and nothing listens. If there are more processors than boats,
+days of a boat are decoded in parallel too, except with --columns, --parquet and names of fsspec: each from the state that
+the end of the day before gives. If that was not the state after the day before, the day is decoded again. On a cluster each worker must see LOG and
 FOLDER under the same names, and must have the library (python3-n2kdec); n2k-fleet sends the rest.
 
 For each log FOLDER gets NAME.json.gz, the output of `n2kdec decode --in-order`, and NAME.reports, its reports and summary;
@@ -44,6 +46,7 @@ import getpass
 import gzip
 import hashlib
 import importlib.util
+import io
 import itertools
 import json
 import logging
@@ -69,7 +72,7 @@ from typing import Any, BinaryIO, NamedTuple, Optional
 try:
     import n2kdec
     from n2kdec._frame import STAMP, text_of, types_of
-    from n2kdec._logs import Boat, Chain, Log, LogError, boats_of, is_remote, messages_of, names_of, store_of
+    from n2kdec._logs import PIECE, Boat, Chain, Log, LogError, boats_of, is_remote, messages_of, names_of, opened, store_of
     MISSING = ""
 except ImportError as _error:  # a worker gets this file even without the library, and reports that it is missing
     MISSING = str(_error)
@@ -84,6 +87,11 @@ NUMBERS = itertools.count()
 TRIES = 3
 # The maximum number of waiting rows of Parquet files.
 MOST_ROWS = 50_000
+# A day is decoded ahead if its file has so many bytes. The bytes at the end of the day before that give the state: two windows
+# of lines of 200 bytes.
+LEAST, TAIL = 1 << 20, 4 << 20
+# The counts of a state that each line may change.
+COUNTED = ("messages", "bad", "unknown", "broken")
 
 
 class Program(NamedTuple):
@@ -103,6 +111,8 @@ class Job(NamedTuple):
     columns: tuple[str, ...]
     call: str
     has_parquet: bool = False
+    # The number of other processes that decode days of a boat ahead.
+    ahead: int = 0
 
     def key(self, before: str, log: Log) -> str:
         """The inputs of a part: the parts before it, its log, the table, the program and the columns."""
@@ -457,8 +467,9 @@ def stop_of(error: Exception, where: str) -> tuple[str, str]:
 def decode_boat(boat: Boat, job: Job, may_work: bool = True) -> Optional[Done]:
     """Makes the missing files of a boat; None if there are some and it may not work."""
     work, key, before, names = Work(boat, job), "", "", None
+    ahead = Ahead(boat, job)
     try:
-        for log in boat.logs:
+        for at, log in enumerate(boat.logs):
             base = work.base(log)
             if names is None:
                 names = work.folder.names(os.path.dirname(base))
@@ -474,7 +485,8 @@ def decode_boat(boat: Boat, job: Job, may_work: bool = True) -> Optional[Done]:
                 try:
                     if counts is None:
                         work.record.forget(log.part)
-                    counts = decode_part(work, log, base, before)
+                        ahead.start(at)
+                    counts = decode_part(work, log, base, before, ahead)
                     work.record.put(log.part, key, counts, work.tables)
                     work.put(log, counts, counts.lines - work.counts.lines)
                 except LogError as error:
@@ -487,23 +499,161 @@ def decode_boat(boat: Boat, job: Job, may_work: bool = True) -> Optional[Done]:
         return work.done()
     except (OSError, n2kdec.Error) as error:
         return work.done(stop_of(error, f"{boat.name} from {log.part} on" if boat.has_days else boat.name))
+    finally:
+        ahead.end()
 
 
-def decode_part(work: Work, log: Log, base: str, before: str) -> n2kdec.Counts:
+def decode_part(work: Work, log: Log, base: str, before: str, ahead: Ahead) -> n2kdec.Counts:
     """Makes the files of a part, whose names begin with `base`; `before` is the state that it goes on from."""
     folder, chain = work.folder, work.chain
     if chain.decoder is None:
         chain.begin(folder.read(before) if before else None)
+    if not ahead.take(work, log):
+        make_part(work, log, base)
+    if work.boat.has_days:
+        with folder.new(f"{base}.state") as state:
+            state.write(chain.save())
+    return chain.counts
+
+
+def make_part(work: Work, log: Log, base: str) -> None:
+    """Makes the messages and reports of a part."""
+    folder, chain = work.folder, work.chain
     with folder.new(f"{base}.reports") as reports, messages_file(work, log) as put:
         for printed, told in chain.decode(log):
             put(printed)
             reports.write("".join(f"{it}\n" for it in told).encode())
         reports.write(line_of(chain.counts))
         check_call(folder, work.job.call)
-    if work.boat.has_days:
-        with folder.new(f"{base}.state") as state:
-            state.write(chain.save())
-    return chain.counts
+
+
+class Ahead:
+    """The processes that decode days of a boat before their turn, each from an assumed state. A day's files get their names at its
+    turn, if its assumed state has the open groups of the state after the day before, at the same distance. Otherwise, or if the
+    process has failed, the day is decoded at its turn."""
+
+    def __init__(self, boat: Boat, job: Job) -> None:
+        self.boat, self.job = boat, job
+        self.days: dict[str, tuple[Any, Any]] = {}
+
+    def start(self, at: int) -> None:
+        """Decodes days after this one, as far as there are processors."""
+        # While a day is awaited, the processor of this process is free.
+        most = self.job.ahead + (self.boat.logs[at].part in self.days) if self.job.ahead else 0
+        for place in range(at + 1, len(self.boat.logs)):
+            if len(self.days) >= most:
+                break
+            before, log = self.boat.logs[place - 1:place + 1]
+            if log.part not in self.days and is_file(before, 0) and is_file(log, LEAST):
+                context = multiprocessing.get_context("fork")
+                mine, its = context.Pipe()
+                process = context.Process(target=run_ahead, args=(its, os.getpid(), self.boat, self.job, before, log), daemon=True)
+                process.start()
+                its.close()
+                self.days[log.part] = process, mine
+
+    def take(self, work: Work, log: Log) -> bool:
+        """Whether the messages and reports of a day are made by now; then the chain goes on after it."""
+        if log.part not in self.days:
+            return False
+        process, pipe = self.days.pop(log.part)
+        before = work.chain.save()
+        try:
+            assumed, after, state = map(json.loads, (*pipe.recv(), before))
+            # The first line of a log has a rule of its own.
+            if not state["lines"] or groups_of(assumed) != groups_of(state):
+                pipe.send(None)
+                return False
+            distance = state["lines"] - assumed["lines"]
+            groups = [{**it, "first": it["first"] + distance} for it in after["groups"]]
+            after.update(lines=after["lines"] + distance, groups=groups, **{it: state[it] + after[it] for it in COUNTED})
+            work.chain.begin(json.dumps(after).encode())
+            pipe.send((distance, work.chain.counts))
+            return bool(pipe.recv())
+        except (EOFError, OSError):
+            work.chain.begin(before)
+            return False
+        except BaseException:
+            process.kill()
+            raise
+        finally:
+            pipe.close()
+            process.join()
+
+    def end(self) -> None:
+        for process, pipe in self.days.values():
+            process.kill()
+            process.join()
+            pipe.close()
+
+
+def is_file(log: Log, least: int) -> bool:
+    return not log.fault and os.path.isfile(log.file) and os.path.getsize(log.file) >= least
+
+
+def groups_of(state: dict[str, Any]) -> list[dict[str, Any]]:
+    """The open groups of a state, with their distances from its end."""
+    return [{**it, "first": it["first"] - state["lines"]} for it in state["groups"]]
+
+
+def run_ahead(pipe: multiprocessing.connection.Connection, parent: int, boat: Boat, job: Job, before: Log, log: Log) -> None:
+    """The work of a process that decodes a day before its turn. It ends soon after the process that started it."""
+    def check() -> None:
+        if os.getppid() != parent:
+            os._exit(3)
+
+    # A process that fails does not answer: the day is decoded again, which reports the fault.
+    with contextlib.suppress(Exception):
+        make_ahead(Work(boat, job), log, assumed_state(job.toml, before, check), pipe, check)
+
+
+def assumed_state(toml: bytes, log: Log, check: Callable[[], None]) -> bytes:
+    """The state that the end of a log gives, with nothing counted but lines."""
+    tail: collections.deque[bytes] = collections.deque(maxlen=TAIL // PIECE)
+    with opened(log.file) as text:
+        if isinstance(getattr(text, "raw", None), io.FileIO):
+            text.seek(max(0, os.path.getsize(log.file) - TAIL))
+        while piece := text.read(PIECE):
+            check()
+            tail.append(piece)
+    with n2kdec.Decoder(toml, in_order=True) as decoder:
+        for piece in tail:
+            decoder.feed(piece)
+            decoder.take()
+            decoder.reports()
+        if decoder.pending:
+            decoder.feed(b"\n")
+            decoder.take()
+        return json.dumps({**json.loads(decoder.save()), **dict.fromkeys(COUNTED, 0)}).encode()
+
+
+def make_ahead(work: Work, log: Log, assumed: bytes, pipe: multiprocessing.connection.Connection, check: Callable[[], None]) -> None:
+    """Makes the messages and reports of a day from an assumed state. They get their names if the answer is that it was right."""
+    folder, chain = work.folder, work.chain
+    chain.begin(assumed)
+    with folder.new(f"{work.base(log)}.reports") as reports, tempfile.TemporaryFile(dir=folder.path(OWN)) as kept, messages_file(work, log) as put:
+        for printed, told in chain.decode(log):
+            check()
+            put(printed)
+            kept.write("".join(f"{it}\n" for it in told).encode())
+        pipe.send((assumed, chain.save()))
+        while not pipe.poll(0.5):
+            check()
+        answer = pipe.recv()
+        if answer is None:
+            raise EOFError
+        distance, counts = answer
+        kept.seek(0)
+        for line in kept:
+            reports.write(moved(line, distance))
+        reports.write(line_of(counts))
+        check_call(folder, work.job.call)
+    pipe.send(True)
+
+
+def moved(report: bytes, distance: int) -> bytes:
+    """A report with its numbers of lines moved."""
+    return re.sub(rb"(^line | first (?=\d+$))(\d+)", lambda it: b"%s%d" % (it[1], int(it[2]) + distance), report)
 
 
 @contextlib.contextmanager
@@ -744,12 +894,17 @@ def on_this_computer(boats: Sequence[Boat], job: Job) -> Iterator[Done]:
     context: Any = multiprocessing.get_context("fork" if is_plain else "spawn")
     waiting, tries = collections.deque(boats), collections.Counter[str]()
     busy: dict[Any, tuple[Any, Boat]] = {}
+    processors = len(os.sched_getaffinity(0))
+    # The processors that are left when each boat has one are spread over the boats.
+    each, more = divmod(max(0, processors - len(boats)) if is_plain and not job.has_parquet else 0, len(boats))
+    ahead = {it.name: each + (at < more) for at, it in enumerate(boats)}
     try:
         while waiting or busy:
-            while waiting and len(busy) < len(os.sched_getaffinity(0)):
+            while waiting and len(busy) < processors:
                 boat = waiting.popleft()
                 reader, writer = context.Pipe(duplex=False)
-                process = context.Process(target=run_child, args=(writer, boat, job), daemon=True)
+                # A daemon may not have processes of its own.
+                process = context.Process(target=run_child, args=(writer, boat, job._replace(ahead=ahead[boat.name])), daemon=False)
                 process.start()
                 writer.close()
                 busy[reader] = process, boat
@@ -871,7 +1026,8 @@ def scheduler_of(asked: Optional[str]) -> str:
 
 
 def parsed(words: Sequence[str]) -> argparse.Namespace:
-    parser = argparse.ArgumentParser("n2k-fleet", description="Decodes the logs of many boats side by side: on this computer, or on a cluster of Dask.")
+    parser = argparse.ArgumentParser("n2k-fleet", description="Decodes the logs of many boats side by side: on this computer, or on a cluster of "
+                                     "Dask. If this computer has more processors than boats, it decodes days of a boat in parallel.")
     parser.add_argument("--scheduler", metavar="ADDRESS", help="the address of a scheduler of Dask, as tcp://10.0.0.2:8786 [default: "
                         "DASK_SCHEDULER_ADDRESS or Dask's configuration; otherwise this computer does the work]")
     parser.add_argument("--table", metavar="FILE", default=str(shipped("n2k.toml")), help="the table [default: the installed table]")
