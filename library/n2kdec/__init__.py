@@ -365,9 +365,9 @@ class Decoder:
             saved = decoder.save()
 
     Any thread may call a decoder, one call at a time (`await asyncio.to_thread(decoder.feed, data)`, for example). If two
-    threads call it at once, one of them gets RuntimeError. A decoder is closed by `close`, by the end of a `with`, or when
-    its last reference goes; if another thread is calling it then, at the end of that call. A closed decoder raises Error. A
-    decoder can't be copied: `save` it.
+    threads call it at once, one of them gets RuntimeError; a message that a loop over `decode` passes on then may come
+    twice. A decoder is closed by `close`, by the end of a `with`, or when its last reference goes; if another thread is
+    calling it then, at the end of that call. A closed decoder raises Error. A decoder can't be copied: `save` it.
     """
 
     def __init__(self, table: Optional[Table] = None, *, state: Optional[Bytes] = None, window: int = 10_000, in_order: bool = False,
