@@ -365,9 +365,9 @@ class Decoder:
             saved = decoder.save()
 
     Any thread may call a decoder, one call at a time (`await asyncio.to_thread(decoder.feed, data)`, for example). If two
-    threads call it at once, one of them gets RuntimeError. A decoder is closed by `close`, by the end of a `with`, or when
-    its last reference goes; if another thread is calling it then, at the end of that call. A closed decoder raises Error. A
-    decoder can't be copied: `save` it.
+    threads call it at once, one of them gets RuntimeError; a message that a loop over `decode` passes on then may come
+    twice. A decoder is closed by `close`, by the end of a `with`, or when its last reference goes; if another thread is
+    calling it then, at the end of that call. A closed decoder raises Error. A decoder can't be copied: `save` it.
     """
 
     def __init__(self, table: Optional[Table] = None, *, state: Optional[Bytes] = None, window: int = 10_000, in_order: bool = False,
@@ -487,26 +487,28 @@ class Decoder:
 
     def take(self) -> bytes:
         """Returns the lines of JSON that were not returned yet, each with its line feed."""
-        self._collect(feeds=True)
-        lines = "".join(f"{line}\n" for line in self._printed.lines()).encode()
-        before = self._printed.now
+        before = None
         try:
-            self._printed.now = self._printed.emptied()
+            with self._turn:
+                self._collect(feeds=True)
+                lines = "".join(f"{line}\n" for line in self._printed.lines()).encode()
+                before, self._printed.now = self._printed.now, self._printed.emptied()
             return lines
         except BaseException:
-            self._printed.now = before
+            self._printed.now = before or self._printed.now
             raise
 
     def reports(self) -> list[str]:
         """Returns the reports that were not returned yet: a line for each bad line, and for each message that ended incomplete."""
-        self._collect()
-        reports = list(self._reported.lines())
-        before = self._reported.now
+        before = None
         try:
-            self._reported.now = self._reported.emptied()
+            with self._turn:
+                self._collect()
+                reports = list(self._reported.lines())
+                before, self._reported.now = self._reported.now, self._reported.emptied()
             return reports
         except BaseException:
-            self._reported.now = before
+            self._reported.now = before or self._reported.now
             raise
 
     def messages(self, *, decimals: bool = False) -> list[Message]:
@@ -515,15 +517,16 @@ class Decoder:
         A number with a point is a float, or with `decimals` a Decimal with exactly the printed digits. Whole numbers are
         always ints.
         """
-        self._collect(feeds=True)
-        # One text of many lines is read faster than each line; no line has a line feed within.
-        messages: list[Message] = (_exact if decimals else _plain).decode(f"[{','.join(self._printed.lines())}]")
-        before = self._printed.now
+        before = None
         try:
-            self._printed.now = self._printed.emptied()
+            with self._turn:
+                self._collect(feeds=True)
+                # One text of many lines is read faster than each line; no line has a line feed within.
+                messages: list[Message] = (_exact if decimals else _plain).decode(f"[{','.join(self._printed.lines())}]")
+                before, self._printed.now = self._printed.now, self._printed.emptied()
             return messages
         except BaseException:
-            self._printed.now = before
+            self._printed.now = before or self._printed.now
             raise
 
     def decode(self, source: Optional[Source] = None, *, decimals: bool = False,

@@ -525,6 +525,39 @@ class Decoding(unittest.TestCase):
             sys.setswitchinterval(interval)
         self.assertEqual((min(refused, 20), min(taken, 20), decoder.counts.lines), (20, 20, sum(fed)))
 
+    def test_threads_that_call_again_when_refused_get_each_message_once(self):
+        log = TRIP.read_bytes() * 100
+        calls = (n2kdec.Decoder.messages, lambda it: it.take().splitlines())
+        interval = sys.getswitchinterval()
+        sys.setswitchinterval(1e-5)
+        self.addCleanup(sys.setswitchinterval, interval)
+        for call in calls:
+            decoder, got = n2kdec.Decoder(in_order=True), []
+
+            def again(call, *arguments):
+                while True:
+                    try:
+                        return call(decoder, *arguments)
+                    except RuntimeError:
+                        pass
+
+            def feed():
+                for at in range(0, len(log), 3000):
+                    again(n2kdec.Decoder.feed, log[at : at + 3000])
+
+            def take(call=call):
+                while feeder.is_alive():
+                    got.extend(again(call))
+
+            feeder = threading.Thread(target=feed)
+            threads = [feeder, *(threading.Thread(target=take) for _ in range(4))]
+            for thread in threads:
+                thread.start()
+            for thread in threads:
+                thread.join()
+            got.extend(call(decoder))
+            self.assertEqual(len(got), decoder.counts.messages)
+
     def test_the_module_is_typed_and_of_python_3_9(self):
         files = list((ROOT / "library/n2kdec").glob("*.py"))
         for file in files:

@@ -136,9 +136,10 @@ impl Decoder {
         self.raw.bytes(raw::n2k_save)
     }
 
-    /// Decodes a log to its end, and gives each message as soon as its last line has been read.
+    /// Decodes a log to its end, and gives each message as soon as its last line has been read. If the loop is left, the
+    /// decoder keeps the messages that were not given: they come first in the next `decode`, or from `messages`.
     pub fn decode<R: Read>(&mut self, log: R) -> Messages<'_, R> {
-        Messages { decoder: self, log, waiting: Vec::new().into_iter(), is_over: false }
+        Messages { decoder: self, log, room: Vec::new(), is_read: false, is_over: false }
     }
 }
 
@@ -146,7 +147,10 @@ impl Decoder {
 pub struct Messages<'a, R> {
     decoder: &'a mut Decoder,
     log: R,
-    waiting: std::vec::IntoIter<String>,
+    /// Where a line is moved to.
+    room: Vec<u8>,
+    /// Whether the log has been read to its end.
+    is_read: bool,
     is_over: bool,
 }
 
@@ -156,7 +160,7 @@ impl<R: Read> Messages<'_, R> {
         let mut piece = [0; 1 << 16];
         match self.log.read(&mut piece) {
             Ok(0) => {
-                self.is_over = true;
+                self.is_read = true;
                 self.decoder.end()?;
             }
             Ok(count) => self.decoder.feed(&piece[..count])?,
@@ -164,8 +168,18 @@ impl<R: Read> Messages<'_, R> {
             Err(error) => return Err(Error::Log(error)),
         }
         self.decoder.reports()?;
-        self.waiting = self.decoder.messages()?.into_iter();
         Ok(())
+    }
+
+    /// The next message; None after the last.
+    fn message(&mut self) -> Result<Option<String>, Error> {
+        loop {
+            let line = self.decoder.raw.next(&mut self.room)?;
+            if line.is_some() || self.is_read {
+                return Ok(line);
+            }
+            self.more()?;
+        }
     }
 }
 
@@ -173,17 +187,11 @@ impl<R: Read> Iterator for Messages<'_, R> {
     type Item = Result<String, Error>;
 
     fn next(&mut self) -> Option<Self::Item> {
-        loop {
-            if let Some(line) = self.waiting.next() {
-                return Some(Ok(line));
-            }
-            if self.is_over {
-                return None;
-            }
-            if let Err(error) = self.more() {
-                self.is_over = true;
-                return Some(Err(error));
-            }
+        if self.is_over {
+            return None;
         }
+        let message = self.message();
+        self.is_over = !matches!(message, Ok(Some(_)));
+        message.transpose()
     }
 }

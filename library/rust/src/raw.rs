@@ -51,6 +51,7 @@ extern "C" {
     fn n2k_table(size: *mut usize) -> *const u8;
     fn n2k_end(decoder: *mut Handle) -> i32;
     pub fn n2k_take(decoder: *mut Handle, room: *mut u8, room_size: usize, size: *mut usize) -> i32;
+    fn n2k_next(decoder: *mut Handle, room: *mut u8, room_size: usize, size: *mut usize) -> i32;
     pub fn n2k_take_reports(decoder: *mut Handle, room: *mut u8, room_size: usize, size: *mut usize) -> i32;
     pub fn n2k_save(decoder: *mut Handle, room: *mut u8, room_size: usize, size: *mut usize) -> i32;
     fn n2k_counts(decoder: *mut Handle, counted: *mut Counted) -> i32;
@@ -113,16 +114,29 @@ impl Decoder {
         answer(unsafe { n2k_frame(self.0.get(), identifier, data.as_ptr(), data.len(), seconds, nanoseconds) })
     }
 
-    pub fn bytes(&self, call: Take) -> Result<Vec<u8>, Error> {
-        let (mut room, mut size) = (vec![0; 1 << 16], 0);
+    /// Fills a room, which grows if it is too small, and returns the number of bytes.
+    fn fill(&self, call: Take, room: &mut Vec<u8>) -> Result<usize, Error> {
+        let mut size = 0;
         let mut status = unsafe { call(self.0.get(), room.as_mut_ptr(), room.len(), &mut size) };
         if status == ROOM {
             room.resize(size, 0);
             status = unsafe { call(self.0.get(), room.as_mut_ptr(), room.len(), &mut size) };
         }
         answer(status)?;
+        Ok(size)
+    }
+
+    pub fn bytes(&self, call: Take) -> Result<Vec<u8>, Error> {
+        let mut room = vec![0; 1 << 16];
+        let size = self.fill(call, &mut room)?;
         room.truncate(size);
         Ok(room)
+    }
+
+    /// The next message that waits, without its line feed.
+    pub fn next(&self, room: &mut Vec<u8>) -> Result<Option<String>, Error> {
+        let size = self.fill(n2k_next, room)?;
+        Ok((size > 0).then(|| String::from_utf8_lossy(&room[..size]).trim_end_matches('\n').to_owned()))
     }
 
     /// The lines that a call gives: JSON and reports are UTF-8.

@@ -33,6 +33,19 @@ fn an_iterator_gives_every_message() {
 }
 
 #[test]
+fn a_loop_that_is_left_loses_no_message() {
+    let log = fs::read(at("examples/trip.log")).unwrap();
+    let wanted = of_program(&[], "tables/n2k.toml", &at("examples/trip.log")).0;
+    for count in 0..=wanted.len() {
+        let mut decoder = Decoder::new(own_table(), Settings::default()).unwrap();
+        let mut rest = &log[..];
+        let mut printed: Vec<_> = decoder.decode(&mut rest).take(count).map(Result::unwrap).collect();
+        printed.extend(decoder.decode(&mut rest).map(Result::unwrap));
+        assert_eq!(printed, wanted);
+    }
+}
+
+#[test]
 fn refusals_have_the_words_of_the_program() {
     let refused = |table: &[u8], window| Decoder::new(table, Settings { window, ..Settings::default() }).err().map(|it| it.to_string());
     assert_eq!(refused(b"", 10_000).as_deref(), Some("table 2 Format"));
