@@ -15,7 +15,7 @@ drop_at [] (suc k) x e = absurd cc
 drop_at (y ∷ xs) zero x e = grind (arith, e)
 drop_at (y ∷ xs) (suc k) x e = drop_at xs k x e
 
--- one more of which none passes
+-- two conditions and a third, in the other grouping
 all_and : (a b c d : Bool) → b ≡ (c && d) → (a && b) ≡ ((a && c) && d)
 all_and true b c d e = e
 all_and false b c d e = refl

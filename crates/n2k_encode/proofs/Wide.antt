@@ -117,7 +117,7 @@ letter_one c kept = rw kept refl
 one_letter : (c : ℕ) → ends_with_letter (c ∷ []) ≡ true → is_filling_unit c ≡ false
 one_letter c e = grind (arith, e)
 
--- the last character is no filler if the last unit is none
+-- a text whose last UTF-16 unit is not padding ends with a character that is not padding
 last_wide : (us : List ℕ) → ends_with_letter us ≡ true → ends_with_letter (utf16_lossy_chars us) ≡ true
 last_wide [] e = absurd cc
 last_wide (u ∷ []) e = subst (λ (cs : List ℕ). ends_with_letter cs ≡ true) (sym (at_last u)) (letter_one (lone u) (lone_kept u (one_letter u e)))

@@ -41,7 +41,7 @@ abbrev pub coded : Style → FieldParts → Option Json → Option CodedParts
 coded s f (Some j) = option_map (λ code. record { field = f; layer = Given; code = code }) (code_for s f j f.meaning)
 coded s f None = Some (coded_absent f f.match_value)
 
--- a field in front of others, or the refusal of its value
+-- the code of a field before the codes of others, or the refusal of its value
 abbrev pub coded_first : List ℕ → Option CodedParts → Result (List CodedParts) CauseParts → Result (List CodedParts) CauseParts
 coded_first name None others = Err (value name)
 coded_first name (Some c) others = before_all (c ∷ []) others

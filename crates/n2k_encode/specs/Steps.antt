@@ -26,12 +26,12 @@ Gives view (Ok x) said = said ≡ Ok (view x)
 Gives view (Err Memory) said = ⊤
 Gives view (Err (Refused refusal)) said = said ≡ Err (cause refusal)
 
--- a list in front of that of a result
+-- a list, then the list of a result; a refusal stays
 abbrev pub before_all : {X : Type 0} → List X → Result (List X) CauseParts → Result (List X) CauseParts
 before_all prefix (Ok xs) = Ok (prefix ++ xs)
 before_all prefix (Err cause) = Err cause
 
--- the first value, or the second if there is no first
+-- the first value if it exists, otherwise the second
 abbrev pub first_of : {A : Type 0} → Option A → Option A → Option A
 first_of None other = other
 first_of (Some x) other = Some x

@@ -49,7 +49,7 @@ hex_byte high low = do
   b ← hex_digit low
   Some (16 * a + b)
 
--- a byte in front of others, if there is one
+-- a byte before others, if the byte exists
 abbrev pub byte_before : Option ℕ → Option (List ℕ) → Option (List ℕ)
 byte_before None rest = None
 byte_before (Some b) rest = before (b ∷ []) rest
@@ -105,7 +105,7 @@ is_full_end (Some b) = not (is_filling b)
 abbrev pub ends_full : List ℕ → Bool
 ends_full bs = is_full_end (slice_get bs (length bs - 1))
 
--- A string with these bytes. In front of them stands the length; in the form `lau` also the encoding 1.
+-- a string with these bytes: first its length, in the form `lau` then the encoding 1, then the bytes
 abbrev pub narrow_string : Form → List ℕ → Option (List ℕ)
 narrow_string Lau cs = some_if (ends_full cs && nat_le (length cs) (most_bytes - 2)) ((length cs + 2) ∷ 1 ∷ cs)
 narrow_string Lz cs = some_if (ends_full cs && nat_le (length cs) (most_bytes - 1)) (length cs ∷ cs)
@@ -137,7 +137,7 @@ is_letter (Some c) = not (is_filling_unit c)
 abbrev pub ends_with_letter : List ℕ → Bool
 ends_with_letter cs = is_letter (last_letter cs)
 
--- a string in UTF-16, with its length and the encoding 0 in front
+-- a string in UTF-16: its length, the encoding 0 and its bytes
 abbrev pub wide_string_of : List ℕ → Option (List ℕ)
 wide_string_of bs = within (Some ((length bs + 2) ∷ 0 ∷ bs))
 

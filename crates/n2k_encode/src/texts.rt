@@ -212,7 +212,7 @@ pub(crate) fn ends_full(bytes: &[u8]) -> bool
     }
 }
 
-/// A string with these bytes, its length in front.
+/// A string with these bytes, after its length.
 pub(crate) fn narrow_string(form: Form, characters: &[u8]) -> Option<FieldBytes>
     ensures { option_map (λ bytes. bytes.items) result ≡ narrow_string form characters.now }
 {
@@ -307,7 +307,7 @@ fn ends_with_letter(text: &str) -> bool
     }
 }
 
-/// A string in UTF-16, with its length and its encoding in front.
+/// A string in UTF-16, after its length and its encoding.
 #[tactic(auto, unfolding(crate::specs::Texts::utf16_string))]
 pub(crate) fn utf16_string(text: &str) -> Option<FieldBytes>
     ensures { option_map (λ bytes. bytes.items) result ≡ utf16_string text.now }
