@@ -6,10 +6,10 @@ ghost use Rattle.n2k_run.specs.Device.{one_more};
 ghost use Rattle.n2k_run.specs.Lines.{without_return};
 ghost use Rattle.n2k_run.specs.Runs.{seen};
 ghost use Rattle.n2k_encode_run.specs.Encodes.{Encodes};
-ghost use Rattle.n2k_encode_run.specs.Inner.Taking.{AreCounts, FeedsBytes, FeedsRest, IsFresh, TakesLine, TakesRead, most_kept};
+ghost use Rattle.n2k_encode_run.specs.Inner.Taking.{AreCounts, FeedsBytes, FeedsRest, IsFresh, TakesAll, TakesLine, TakesRead, most_kept};
 
 use crate::ledger::Ledger;
-use crate::line::{is_skipped, keep, line_end, split_line, without_return};
+use crate::line::{first_line, is_skipped, keep, line_end, split_line, without_return};
 use crate::texts::refused_text;
 use json::Scratch;
 use n2k_encode::{EncodeError, LONGEST_REQUEST, encode_line};
@@ -24,10 +24,10 @@ const BLOCK: usize = 4096;
 
 /// The parts that do not change during a run.
 #[derive(Drop)]
-struct Encoder<'a> {
-    alloc: Global,
-    table: &'a Table,
-    nearest: bool,
+pub(crate) struct Encoder<'a> {
+    pub(crate) alloc: Global,
+    pub(crate) table: &'a Table,
+    pub(crate) nearest: bool,
 }
 
 /// The buffers of a run.
@@ -83,6 +83,26 @@ impl Encoder<'_> {
                 ledger.counts.bad += 1;
             }
             Err(EncodeError::Memory) => return Err(RunFault::Memory),
+        }
+        Ok(())
+    }
+
+    /// Takes each line of bytes that are in memory.
+    pub(crate) fn take_lines(
+        &self,
+        bytes: &[u8],
+        scratch: &mut Scratch,
+        ledger: &mut Ledger,
+    ) -> Result<(), RunFault>
+        requires { AreCounts ledger.old.counts }
+        ensures taken { TakesAll self.now.table.now self.now.nearest bytes.now ledger.old ledger.new result }
+        ensures counts { OnOk result (AreCounts ledger.new.counts) }
+    {
+        let mut left = bytes;
+        while !left.is_empty() {
+            let (line, rest) = first_line(left);
+            self.take_line(without_return(line), scratch, ledger)?;
+            left = rest;
         }
         Ok(())
     }
@@ -228,7 +248,7 @@ pub fn run_encode<R: Source, W: Sink, E: Sink>(
         table,
         nearest,
     };
-    let mut ledger = Ledger::new(alloc);
+    let mut ledger = Ledger::new(alloc, Counts::NONE);
     let ended = encoder.run(&mut ledger, reader, writer, reporter);
     *counts = ledger.counts;
     ended

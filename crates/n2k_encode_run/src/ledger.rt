@@ -16,21 +16,14 @@ pub(crate) struct Ledger {
 }
 
 impl Ledger {
-    /// The ledger before the first line.
-    pub(crate) fn new(alloc: Global) -> Ledger
-        ensures counts { result.counts ≡ record {
-          lines = 0;
-          messages = 0;
-          bad = 0;
-          unknown = 0;
-          broken = 0;
-          held = 0;
-        } }
+    /// The ledger after lines with these counts, whose texts are written.
+    pub(crate) fn new(alloc: Global, counts: Counts) -> Ledger
+        ensures counts { result.counts ≡ counts }
         ensures text { result.text.items ≡ [] }
         ensures report { result.report.items ≡ [] }
     {
         Ledger {
-            counts: Counts::NONE,
+            counts,
             text: Vec::new(alloc),
             report: Vec::new(alloc),
         }
