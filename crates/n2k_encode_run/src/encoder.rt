@@ -1,8 +1,6 @@
 //! The run over the lines of a log.
-ghost use Rattle.std.specs.Prelude.{◌≡◌, ◌<◌, ◌≤◌, ℕ, List, [], length, take, IfErr, IfOk, OnOk};
-ghost use Rattle.std.specs.Io.KnownBytes.{Consumes, IsAtEnd, Keeps};
+ghost use Rattle.std.specs.Prelude.{◌≡◌, ◌<◌, ◌≤◌, ℕ, List, [], length, take, OnOk};
 ghost use Rattle.n2k_run.specs.Blocks.{HasNoFeed};
-ghost use Rattle.n2k_run.specs.Device.{one_more};
 ghost use Rattle.n2k_run.specs.Lines.{without_return};
 ghost use Rattle.n2k_run.specs.Runs.{seen};
 ghost use Rattle.n2k_encode_run.specs.Encodes.{Encodes};
@@ -37,21 +35,6 @@ struct Room {
     kept: Vec<u8>,
     /// Memory for the texts of a line.
     scratch: Scratch,
-}
-
-/// Reads into the block once, and returns the number of bytes.
-fn read_block<R: Source>(reader: &mut R, block: &mut [u8]) -> Result<usize, RunFault>
-    requires { 0 < length block.old }
-    ensures bytes { IfOk result (λ n. Consumes (R.remaining reader.old) (R.remaining reader.new) (take n block.new)) }
-    ensures bound { IfOk result (λ n. n ≤ length block.new) }
-    ensures end { IfOk result (λ n. n ≡ 0 → IsAtEnd (R.remaining reader.new)) }
-    ensures none_failed { OnOk result (R.failed_calls reader.new ≡ R.failed_calls reader.old) }
-    ensures failed { IfErr result (λ fault. (fault ≡ RunFault.Read)
-        × Keeps (R.remaining reader.old) (R.remaining reader.new)
-        × (R.failed_calls reader.new ≡ one_more (R.failed_calls reader.old))) }
-    ensures called { R.calls reader.new ≡ one_more (R.calls reader.old) }
-{
-    reader.read(block).map_err(|_| RunFault::Read)
 }
 
 impl Encoder<'_> {
@@ -192,7 +175,7 @@ impl Encoder<'_> {
             scratch: Scratch::new(self.alloc),
         };
         for _reads in 0..MOST_READS {
-            let count = read_block(reader, &mut block)?;
+            let count = ledger.read_block(reader, &mut block)?;
             let taken = self.take_read(&block[..count], &mut room, ledger);
             ledger.settle(taken, writer, reporter)?;
             if count == 0 {
