@@ -12,7 +12,7 @@ use Rattle.n2k_join.specs.State.{State as StateOf, state}
 use Rattle.n2k_run.specs.Decoded.{join_fold, output_after}
 use Rattle.n2k_run.specs.Fold.{after_all}
 use Rattle.n2k_run.specs.FramesOut.{frame_counts_of, frames_output}
-use Rattle.n2k_run.specs.Parts.{EndsAtLine, Continues, HasPart, IsOfKind, IsPartOf, RefusedByMemory, RunsFrom, TellsRun}
+use Rattle.n2k_run.specs.Parts.{EndsAtLine, Continues, HasPart, IsOfKind, IsPartOf, RefusedByMemory, RunsFrom, TellsRun, with_part}
 use Rattle.n2k_run.specs.Plain.{plain_counts_of, plain_output}
 use Rattle.n2k_run.specs.Reports.{summary_text}
 use Rattle.n2k_run.specs.Runs.{Devices, Output, ReportsFirst, Runs, output_from}
@@ -27,7 +27,7 @@ use Rattle.n2k_run.proofs.Running.{known_more}
 use Rattle.n2kdec.specs.CommandLine.Asked.{save_name}
 use Rattle.n2kdec.specs.Run.Commands.{ClosesWhole, Decodes, Effect, Ends, EndsByTable, EndsUnlessRefused, IsSaved, IsStopped, IsUntouched, IsWrittenUnlessFailed, SaveAttempt, Performs, Place, PrintsRest, Replaces, StoreView, SumsUpPart, decode_from, decode_to, entries_for, frames_effect, no_saving, place, shelf}
 use Rattle.n2kdec.specs.Fault.{fault_of_run}
-use Rattle.n2kdec.specs.Inner.Closing.{Closes, ClosesPart, IsOfEnd}
+use Rattle.n2kdec.specs.Inner.Closing.{Closes, ClosesCounted, ClosesPart, IsOfEnd}
 use Rattle.n2kdec.specs.Run.Told.{Counts as CountsOf, Tells, Told}
 use Rattle.n2kdec.specs.declared.command_line.asked.Subcommand.{Subcommand}
 use Rattle.n2kdec.specs.declared.command_line.asked.Subcommand.TheVariants.{Plain, Decode, Frames}
@@ -174,6 +174,15 @@ told_part bytes handed before after errors o save of keeper kept (Err (part_faul
 told_part bytes handed before after errors o save of keeper kept (Err (part_faults.Run fault)) r runs of_end closes = grind arith
 told_part bytes handed before after errors o save of keeper kept (Err part_faults.Memory) r runs of_end closes = grind arith
 
+-- a run without a state ends as a part whose state is not kept
+closed_counted : (keeper : StoreView) (errors summed : Place) (part : Part) (counts : Counts) (ended : Result (Unit {0}) RunFault) (r : Result CommandOutcome Fault) → part.counts ≡ counts → keeper.name ≡ None → ClosesCounted errors summed counts ended r
+    → ClosesPart (Ok None) keeper keeper errors summed (with_part part ended) r
+closed_counted keeper errors summed part counts ended r same unnamed closes = grind arith
+
+-- and no state was refused
+no_state_of : (id : List ℕ) (o : Options) (handed : Option (List ℕ)) (part : Part) (ended : Result (Unit {0}) RunFault) → IsOfEnd id o handed (with_part part ended) (Ok None)
+no_state_of id o handed part ended = grind arith
+
 -- a command that has no state ends so by a table that is taken
 by_table : (found : List TableFault) (c : Effect) (before after : Devices) (r : Result CommandOutcome Fault) → found ≡ [] → Ends c before after r → EndsByTable found c before after r
 by_table found c before after (Ok ending) none done = (none, done)
@@ -230,6 +239,24 @@ module _ (task : Subcommand) (bytes : List ℕ) (handed : Option (List ℕ)) (be
     pub tells_decode : IsOfEnd t.id o handed ended of → tells_by task
     tells_decode of_end = subst tells_by (sym is) (told_part bytes handed before after errors o save of (shelf save had) (shelf save has) ended r ran_part
         (subst (λ t. IsOfEnd t.id o handed ended of) read.1 of_end) closes)
+
+  -- without a state that is given or kept
+  module _ (had : Option (List SaveAttempt)) (o : Options) (save : Option Text) (counts : Counts) (ended : Result (Unit {0}) RunFault) (t : TableParts) (is : task ≡ Decode o save) (read : (faults bytes ≡ []) × (t ≡ table_of bytes))
+      (ran : (part : Part) × (part.counts ≡ counts) × RunsFrom t o None before (mid before after errors) (with_part part ended)) (closes : ClosesCounted errors (summed before after errors) counts ended r) (unsaved : save ≡ None) (new : handed ≡ None) where
+    ran_new : RunsFrom t o handed before (mid before after errors) (with_part ran.0 ended)
+    ran_new = subst (λ handed. RunsFrom t o handed before (mid before after errors) (with_part ran.0 ended)) (sym new) ran.2
+
+    closes_part : ClosesPart (Ok None) (shelf save had) (shelf save had) errors (summed before after errors) (with_part ran.0 ended) r
+    closes_part = rw unsaved (closed_counted (shelf None had) errors (summed before after errors) ran.0 counts ended r ran.1 refl closes)
+
+    of_end : IsOfEnd t.id o handed (with_part ran.0 ended) (Ok None)
+    of_end = no_state_of t.id o handed ran.0 ended
+
+    pub performs_counted : performs_with had had task
+    performs_counted = performs_decode had had o save (Ok None) (with_part ran.0 ended) t is read ran_new closes_part
+
+    pub tells_counted : tells_by task
+    tells_counted = tells_decode had had o save (Ok None) (with_part ran.0 ended) t is read ran_new closes_part of_end
 
 -- the table is refused
 module _ (task : Subcommand) (bytes : List ℕ) (handed : Option (List ℕ)) (at : Devices) (had : Option (List SaveAttempt)) (fault : TableFault) (stands : fault ≢ table_faults.Memory → Contains (faults bytes) fault) where

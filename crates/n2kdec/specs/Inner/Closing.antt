@@ -2,6 +2,7 @@
 use Rattle.std.specs.Prelude.{◌≡◌, ◌⊎◌, ℕ, List, Option, None, Result, Ok, Err, Some}
 use Rattle.n2k_join.specs.declared.counts.Counts.{Counts}
 use Rattle.n2k_run.specs.Reports.{summary_text}
+use Rattle.n2k_run.specs.declared.fault.RunFault.{RunFault}
 use Rattle.n2k_run.specs.declared.fault.RunFault.TheVariants as run
 use Rattle.n2k_run.specs.declared.options.Options.{Options}
 use Rattle.n2k_run.specs.declared.part.Part.{Part}
@@ -23,6 +24,15 @@ Closes keeper kept errors summed text counts result =
     (Replaces keeper kept text errors.text None × SumsUp errors summed counts result)
     ⊎ ((why : SaveError) × (result ≡ Err (Save why)) × Replaces keeper kept text errors.text (Some why)
     × IsWrittenUnlessFailed errors summed (summary_text counts))
+
+-- What follows a run that saves no state, and counted so much: as after a part, but nothing is kept.
+abbrev pub ClosesCounted : Place → Place → Counts → Result (Unit {0}) RunFault → Result CommandOutcome Fault → Type 0
+ClosesCounted errors summed counts (Ok ended) result = SumsUp errors summed counts result
+ClosesCounted errors summed counts (Err run.Read) result =
+    (result ≡ Err (Read counts.lines None None)) × IsWrittenUnlessFailed errors summed (summary_text counts)
+ClosesCounted errors summed counts (Err run.TooManyLines) result =
+    (result ≡ Err (fault_of_run run.TooManyLines counts.lines)) × IsWrittenUnlessFailed errors summed (summary_text counts)
+ClosesCounted errors summed counts (Err fault) result = (result ≡ Err (fault_of_run fault 0)) × (summed ≡ errors)
 
 -- what a refused state is of, which no other end has
 abbrev pub IsOfEnd : List ℕ → Options → Option (List ℕ) → Result Part PartFault → Told → Type 0

@@ -5,7 +5,7 @@ ghost use Rattle.n2k_run.specs.Runs.{seen};
 ghost use Rattle.n2kdec.specs.CommandLine.Asked.{save_name};
 ghost use Rattle.n2kdec.specs.Run.Commands.{ClosesWhole, IsRefusal, Performs, Replaces, SumsUp, place, shelf};
 ghost use Rattle.n2kdec.specs.Run.Told.{Tells};
-ghost use Rattle.n2kdec.specs.Inner.Closing.{ClosesPart, IsOfEnd};
+ghost use Rattle.n2kdec.specs.Inner.Closing.{ClosesCounted, ClosesPart, IsOfEnd};
 
 use crate::command_line::asked::{Subcommand, name_of};
 use crate::command_line::words::Word;
@@ -17,7 +17,7 @@ use crate::save::keeper::{SaveError, StateStore};
 use crate::system::machine::OutputStreams;
 use n2k_join::Counts;
 use n2k_run::{
-    Options, Part, PartFault, RunFault, Sink, Source, run_frames_counted, run_part,
+    Options, Part, PartFault, RunFault, Sink, Source, run_counted, run_frames_counted, run_part,
     run_plain_counted, write_summary,
 };
 use n2k_table::Table;
@@ -118,6 +118,30 @@ fn close_part<K: StateStore, E: Sink>(
     }
 }
 
+/// What follows a run from the first line of a log whose state is not to be kept: as after a part, but without a state.
+fn close_counted<E: Sink>(
+    counts: &Counts,
+    ended: Result<(), RunFault>,
+    errors: &mut E,
+) -> Result<CommandOutcome, Fault>
+    ensures closes { ClosesCounted (place (E.contents errors.old) (E.failed_calls errors.old))
+        (place (E.contents errors.new) (E.failed_calls errors.new)) counts.now ended result }
+    ensures begun { IfErr result (λ fault. IsRefusal fault → ⊥) }
+{
+    match ended {
+        Ok(()) => sum_up(counts, errors),
+        Err(RunFault::Read) => {
+            let _ = sum_up(counts, errors);
+            Err(Fault::Read(counts.lines, None, None))
+        }
+        Err(RunFault::TooManyLines) => {
+            let _ = sum_up(counts, errors);
+            Err(fault_of_run(RunFault::TooManyLines, counts.lines))
+        }
+        Err(fault) => Err(fault_of_run(fault, 0)),
+    }
+}
+
 /// Runs a command, from the bytes of a table and of a state as far as it has them. The output gets the texts: plain
 /// lines, JSON lines, or the lines of frames. The errors get the reports of bad lines and of broken groups, and then
 /// the summary. Returns the status, which is 0, or 1 if a line was bad, and whether the log has another form.
@@ -156,6 +180,10 @@ pub fn run_command<R: Source, W: Sink, E: Sink, K: StateStore>(
             close_whole(&counts, ended, errors)
         }
         Subcommand::Decode { options, save } => match Table::read(alloc, table) {
+            Ok(table) if save.is_none() && state.is_none() => {
+                let ended = run_counted(alloc, &table, *options, &mut counts, log, output, errors);
+                close_counted(&counts, ended, errors)
+            }
             Ok(table) => {
                 let ended = run_part(alloc, &table, state, *options, log, output, errors);
                 let of = of_end(alloc, &table, options, state, &ended);

@@ -1,7 +1,7 @@
-use Rattle.std.proofs.Common.{◌≡◌, ℕ, List, Bor, option_map}
-use Rattle.n2k_run.specs.Runs.{Devices, seen}
-use Rattle.n2kdec.specs.Run.Commands.{Place, place}
-use Rattle.n2kdec.proofs.run.CommandLemmas.{decode_refused, frames_refused, performs_decode, performs_frames, performs_plain, tells_decode, tells_frames, tells_plain}
+use Rattle.std.proofs.Common.{ℕ, List, Bor, option_map, rules}
+use Rattle.n2k_run.specs.Runs.{seen}
+use Rattle.n2kdec.specs.Run.Commands.{place}
+use Rattle.n2kdec.proofs.run.CommandLemmas.{decode_refused, frames_refused, performs_counted, performs_decode, performs_frames, performs_plain, tells_counted, tells_decode, tells_frames, tells_plain}
 use Rattle.n2kdec.proofs.run.EncodeLemmas.{performs_encode, tells_encode}
 use Rattle.n2kdec.proofs.run.commands.run_command.Goals as goal
 
@@ -24,13 +24,29 @@ returns-in-Plain-clause-told g c =
 pub returns-in-Ok-clause-performs : goal.returns-in-Ok-clause-performs
 returns-in-Ok-clause-performs g c =
     let before = seen g.R.Source g.W.Sink g.E.Sink c.args.log.now c.args.outlets.now.output c.args.outlets.now.errors in
+    let after = seen g.R.Source g.W.Sink g.E.Sink c.run_counted-ended.new.reader c.run_counted-ended.new.writer c.close_counted.new.errors in
+    let errors = place (g.E.Sink.contents c.run_counted-ended.new.reporter) (g.E.Sink.failed_calls c.run_counted-ended.new.reporter) in
+    performs_counted c.args.task.now c.args.table.now _ before after errors c.close_counted.result (g.K.StateStore.kept c.args.outlets.now.keeper) c.in-Decode.options c.in-Decode.save c.run_counted-ended.new.counts c.run_counted-ended.result
+    c.in-Ok.table c.in-Decode.is c.in-Ok.ensures.sound c.run_counted-ended.ensures.runs c.close_counted.ensures.closes (search rules) (search rules)
+
+pub returns-in-Ok-clause-told : goal.returns-in-Ok-clause-told
+returns-in-Ok-clause-told g c =
+    let before = seen g.R.Source g.W.Sink g.E.Sink c.args.log.now c.args.outlets.now.output c.args.outlets.now.errors in
+    let after = seen g.R.Source g.W.Sink g.E.Sink c.run_counted-ended.new.reader c.run_counted-ended.new.writer c.close_counted.new.errors in
+    let errors = place (g.E.Sink.contents c.run_counted-ended.new.reporter) (g.E.Sink.failed_calls c.run_counted-ended.new.reporter) in
+    tells_counted c.args.task.now c.args.table.now _ before after errors c.close_counted.result (g.K.StateStore.kept c.args.outlets.now.keeper) c.in-Decode.options c.in-Decode.save c.run_counted-ended.new.counts c.run_counted-ended.result
+    c.in-Ok.table c.in-Decode.is c.in-Ok.ensures.sound c.run_counted-ended.ensures.runs c.close_counted.ensures.closes (search rules) (search rules)
+
+pub returns-in-Ok-2-clause-performs : goal.returns-in-Ok-2-clause-performs
+returns-in-Ok-2-clause-performs g c =
+    let before = seen g.R.Source g.W.Sink g.E.Sink c.args.log.now c.args.outlets.now.output c.args.outlets.now.errors in
     let after = seen g.R.Source g.W.Sink g.E.Sink c.run_part-ended.new.reader c.run_part-ended.new.writer c.close_part.new.errors in
     let errors = place (g.E.Sink.contents c.run_part-ended.new.reporter) (g.E.Sink.failed_calls c.run_part-ended.new.reporter) in
     performs_decode c.args.task.now c.args.table.now _ before after errors c.close_part.result (g.K.StateStore.kept c.args.outlets.now.keeper) (g.K.StateStore.kept c.close_part.new.keeper) c.in-Decode.options c.in-Decode.save c.of_end-of.result c.run_part-ended.result
     c.in-Ok.table c.in-Decode.is c.in-Ok.ensures.sound c.run_part-ended.ensures.runs c.close_part.ensures.closes
 
-pub returns-in-Ok-clause-told : goal.returns-in-Ok-clause-told
-returns-in-Ok-clause-told g c =
+pub returns-in-Ok-2-clause-told : goal.returns-in-Ok-2-clause-told
+returns-in-Ok-2-clause-told g c =
     let before = seen g.R.Source g.W.Sink g.E.Sink c.args.log.now c.args.outlets.now.output c.args.outlets.now.errors in
     let after = seen g.R.Source g.W.Sink g.E.Sink c.run_part-ended.new.reader c.run_part-ended.new.writer c.close_part.new.errors in
     let errors = place (g.E.Sink.contents c.run_part-ended.new.reporter) (g.E.Sink.failed_calls c.run_part-ended.new.reporter) in
