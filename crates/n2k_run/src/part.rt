@@ -175,14 +175,14 @@ pub fn run_part<R: Source, W: Sink, E: Sink>(
 ///
 /// ```rust
 /// let (table, options) = (sample_table(alloc)?, usual_options());
-/// let mut counts = Counts::NONE;
+/// let mut sum = Counts::NONE;
 /// let mut log = StdSource::new("(1.0) can0 09F8027F#0500\nhello\n".as_bytes());
 /// let mut out = MemorySink::new(alloc, 4096, 0);
 /// let mut err = MemorySink::new(alloc, 4096, 0);
 /// run_counted(
-///     alloc, &table, options, &mut counts, &mut log, &mut out, &mut err,
+///     alloc, &table, options, &mut sum, &mut log, &mut out, &mut err,
 /// )?;
-/// assert_eq!(rt; (counts.messages, counts.bad), (1, 1));
+/// assert_eq!(rt; (sum.messages, sum.bad), (1, 1));
 /// ```
 pub fn run_counted<R: Source, W: Sink, E: Sink>(
     alloc: Global,
