@@ -24,8 +24,11 @@ abbrev pub Doing : Type 0 → Type 1
 Doing E = Result (Unit {0}) E → List (Act Name) → Type 0
 
 -- that was done, and no other call made
-abbrev pub Makes : {E : Type 0} → Destination → Acts → Acts → Doing E → Result (Unit {0}) E → Type 0
-Makes d before after Does result = (made : List (Act Name)) × (after ≡ after_acts d made before) × Does result made
+pub record Makes {E : Type 0} (d : Destination) (before after : Acts) (Does : Doing E) (result : Result (Unit {0}) E)
+    : Type 0 where
+  pub made : List (Act Name)
+  pub acts : after ≡ after_acts d made before
+  pub does : Does result made
 
 -- one call
 abbrev pub IsOne : Call Name → Doing Error
