@@ -28,7 +28,7 @@ use Rattle.n2kdec.specs.CommandLine.Asked.{save_name}
 use Rattle.n2kdec.specs.Run.Commands.{ClosesWhole, Decodes, Effect, Ends, EndsByTable, EndsUnlessRefused, IsSaved, IsStopped, IsUntouched, IsWrittenUnlessFailed, SaveAttempt, Performs, Place, PrintsRest, Replaces, StoreView, SumsUpPart, decode_from, decode_to, entries_for, frames_effect, no_saving, place, shelf}
 use Rattle.n2kdec.specs.Fault.{fault_of_run}
 use Rattle.n2kdec.specs.Inner.Closing.{Closes, ClosesPart, IsOfEnd}
-use Rattle.n2kdec.specs.Run.Told.{Counts as CountsOf, Tells, Told}
+use Rattle.n2kdec.specs.Run.Difference.{Told}
 use Rattle.n2kdec.specs.declared.command_line.asked.Subcommand.{Subcommand}
 use Rattle.n2kdec.specs.declared.command_line.asked.Subcommand.TheVariants.{Plain, Decode, Frames}
 use Rattle.n2kdec.specs.declared.run.ending.CommandOutcome.{CommandOutcome}
@@ -60,12 +60,12 @@ module _ (before after : Devices) (errors : Place) where
     IsLeft = (summed ≡ errors) × IsUntouched c.saving
 
     -- what follows the fault of a run: the summary of the lines that it has taken, or nothing
-    abbrev Follows : Option SaveError → RunFault → Type 0
-    Follows unkept run.Read = (es : List Entry) → stands es → SumsUpPart c.sums_up_a_part errors summed (summary_text (c.counts es))
-        × Replaces c.saving.before c.saving.after (c.saving.state es) errors.text unkept
-    Follows unkept run.TooManyLines = (es : List Entry) → stands es → SumsUpPart c.sums_up_a_part errors summed (summary_text (c.counts es))
+    abbrev Follows : Option SaveError → ℕ → RunFault → Type 0
+    Follows unkept lines run.Read = (es : List Entry) → stands es → SumsUpPart c.sums_up_a_part errors summed (summary_text (c.counts es))
+        × Replaces c.saving.before c.saving.after (c.saving.state es) errors.text unkept × (lines ≡ (c.counts es).lines)
+    Follows unkept lines run.TooManyLines = (es : List Entry) → stands es → SumsUpPart c.sums_up_a_part errors summed (summary_text (c.counts es))
         × IsUntouched c.saving
-    Follows unkept _ = IsLeft
+    Follows unkept lines _ = IsLeft
 
     still_first : (more : List ℕ) × Appends errors.text after.reported more → IfSome before.left (ReportsFirst c.output before mid) → IfSome before.left (ReportsFirst c.output before after)
     still_first then = known_more before.left _ _ (λ log first. record {
@@ -77,7 +77,7 @@ module _ (before after : Devices) (errors : Place) where
     })
 
     -- a run's fault stops a command
-    stopped_by_run : {T : Type 0} (unkept : Option SaveError) (f : RunFault) (lines : ℕ) → Runs {T = T} c.output stands before mid (Err f) → Follows unkept f → (more : List ℕ) × Appends errors.text after.reported more
+    stopped_by_run : {T : Type 0} (unkept : Option SaveError) (f : RunFault) (lines : ℕ) → Runs {T = T} c.output stands before mid (Err f) → Follows unkept lines f → (more : List ℕ) × Appends errors.text after.reported more
         → IsStopped c before after (told_so unkept f lines)
     stopped_by_run unkept f lines ran follows then = grind (arith, still_first)
 
@@ -145,58 +145,29 @@ module _ (before after : Devices) (errors : Place) where
         → IfOk r (λ ending. IfSome before.left (λ log. PrintsRest t o prefix log before after keeper kept ending.status))
     rest_of prefix of ended r goes closes = grind (arith, known_more, Appends-trans)
 
-    decoded : (of : Told) (ended : Result Part PartFault) (r : Result CommandOutcome Fault) → faults bytes ≡ [] → RunsFrom t o handed before mid ended → ClosesPart of keeper kept errors summed ended r
+    decoded : (of : Told) (ended : Result Part PartFault) (r : Result CommandOutcome Fault) → faults bytes ≡ [] → RunsFrom t o handed before mid ended → IsOfEnd t.id o handed ended of → ClosesPart of keeper kept errors summed ended r
         → Decodes bytes o handed before after keeper kept r
-    decoded of ended r none runs closes = record {
+    decoded of ended r none runs of_end closes = record {
       judged = grind arith;
       steps = λ s is. grind (arith, closed (output_from (join_fold t o.empty) o.packing s) (after_all (join_fold t o.empty) s) t o keeper kept);
       log = λ prefix is. grind (arith, closed (output_after t o prefix) (λ es. state t.id o.window (kind t) (prefix ++ es)) t o keeper kept);
       headline = λ prefix is. rest_of prefix of ended r (runs.headline prefix is) closes;
     }
 
--- the lines that are counted after a failed read are those of what came
-counts_read : {t : TableParts} (o : Options) (s : StateOf) (part : Part) (before after : Devices) (errors : Place)
-    → TellsRun (output_from (join_fold t o.empty) o.packing s) (λ es. HasPart t o (Err (part_faults.Stopped run.Read part)) (after_all (join_fold t o.empty) s es)) before (mid before after errors) (Err (part_faults.Stopped run.Read part))
-    → CountsOf (decode_from t o s (shelf None None) (shelf None None)) before.left after.left part.counts.lines
-counts_read o s part before after errors told =
-    let runs = told_stopped _ before (mid before after errors) _ run.Read part told in
-    (runs.ends.came, runs.ends.given, ap (λ (n : Counts). n.lines) runs.ends.holds.counted)
-
--- what `decode` tells is so
-told_part : (bytes : List ℕ) (handed : Option (List ℕ)) (before after : Devices) (errors : Place) (o : Options) (save : Option Text) (of : Told) (keeper kept : StoreView) (ended : Result Part PartFault) (r : Result CommandOutcome Fault)
-    → RunsFrom (table_of bytes) o handed before (mid before after errors) ended → IsOfEnd (table_of bytes).id o handed ended of → ClosesPart of keeper kept errors (summed before after errors) ended r
-    → IfErr r (Tells (Decode o save) bytes handed before.left after.left)
-told_part bytes handed before after errors o save of keeper kept (Ok part) r runs of_end closes = grind arith
-told_part bytes handed before after errors o save of keeper kept (Err (part_faults.Stopped run.Read part)) r runs of_end closes =
-    subst (λ r. IfErr r (Tells (Decode o save) bytes handed before.left after.left)) (sym closes.1) (λ s begun. counts_read o s part before after errors (runs.steps s begun))
-told_part bytes handed before after errors o save of keeper kept (Err (part_faults.Stopped fault part)) r runs of_end closes = grind arith
-told_part bytes handed before after errors o save of keeper kept (Err (part_faults.State fault)) r runs of_end closes = grind arith
-told_part bytes handed before after errors o save of keeper kept (Err (part_faults.Run fault)) r runs of_end closes = grind arith
-told_part bytes handed before after errors o save of keeper kept (Err part_faults.Memory) r runs of_end closes = grind arith
-
 -- a command that has no state ends so by a table that is taken
 by_table : (found : List TableFault) (c : Effect) (before after : Devices) (r : Result CommandOutcome Fault) → found ≡ [] → Ends c before after r → EndsByTable found c before after r
 by_table found c before after (Ok ending) none done = (none, done)
 by_table found c before after (Err fault) none stopped = grind arith
 
--- The command that was named does what its run and the closing say, and what it tells is so.
+-- The command that was named does what its run and the closing say.
 module _ (task : Subcommand) (bytes : List ℕ) (handed : Option (List ℕ)) (before after : Devices) (errors : Place) (r : Result CommandOutcome Fault) where
   abbrev performs_with : Option (List SaveAttempt) → Option (List SaveAttempt) → Subcommand → Type 0
   performs_with had has k = Performs k bytes handed before after (shelf (save_name k) had) (shelf (save_name k) has) r
-
-  abbrev tells_by : Subcommand → Type 0
-  tells_by k = IfErr r (Tells k bytes handed before.left after.left)
 
   module _ (had : Option (List SaveAttempt)) (counts : Counts) (ended : Result (Unit {0}) RunFault) (closes : ClosesWhole errors (summed before after errors) counts ended r) where
     module _ (is : task ≡ Plain) (runs : Runs plain_output (λ es. counts ≡ plain_counts_of es) before (mid before after errors) ended) where
       pub performs_plain : performs_with had had task
       performs_plain = subst (performs_with had had) (sym is) (refl, ended_whole before after errors plain_output plain_counts_of counts ended r runs closes)
-
-      told_plain : tells_by Plain
-      told_plain = grind arith
-
-      pub tells_plain : tells_by task
-      tells_plain = subst tells_by (sym is) told_plain
 
     module _ (interface told : Option Text) (t : TableParts) (is : task ≡ Frames interface) (is_told : told ≡ interface) (read : (faults bytes ≡ []) × (t ≡ table_of bytes))
         (ran : Runs (frames_output t told) (λ es. counts ≡ frame_counts_of (kind t) told es) before (mid before after errors) ended) where
@@ -213,22 +184,13 @@ module _ (task : Subcommand) (bytes : List ℕ) (handed : Option (List ℕ)) (be
             (ended_whole before after errors (frames_output (table_of bytes) interface) (frame_counts_of (kind (table_of bytes)) interface) counts ended r ran_frames closes),
       )
 
-      told_frames : runs_by (table_of bytes) interface → tells_by (Frames interface)
-      told_frames its = grind arith
-
-      pub tells_frames : tells_by task
-      tells_frames = subst tells_by (sym is) (told_frames ran_frames)
-
   module _ (had has : Option (List SaveAttempt)) (o : Options) (save : Option Text) (of : Told) (ended : Result Part PartFault) (t : TableParts) (is : task ≡ Decode o save) (read : (faults bytes ≡ []) × (t ≡ table_of bytes))
       (ran : RunsFrom t o handed before (mid before after errors) ended) (closes : ClosesPart of (shelf save had) (shelf save has) errors (summed before after errors) ended r) where
     ran_part : RunsFrom (table_of bytes) o handed before (mid before after errors) ended
     ran_part = subst (λ t. RunsFrom t o handed before (mid before after errors) ended) read.1 ran
 
-    pub performs_decode : performs_with had has task
-    performs_decode = subst (performs_with had has) (sym is) (decoded before after errors bytes o handed (shelf save had) (shelf save has) of ended r read.0 ran_part closes)
-
-    pub tells_decode : IsOfEnd t.id o handed ended of → tells_by task
-    tells_decode of_end = subst tells_by (sym is) (told_part bytes handed before after errors o save of (shelf save had) (shelf save has) ended r ran_part
+    pub performs_decode : IsOfEnd t.id o handed ended of → performs_with had has task
+    performs_decode of_end = subst (performs_with had has) (sym is) (decoded before after errors bytes o handed (shelf save had) (shelf save has) of ended r read.0 ran_part
         (subst (λ t. IsOfEnd t.id o handed ended of) read.1 of_end) closes)
 
 -- the table is refused

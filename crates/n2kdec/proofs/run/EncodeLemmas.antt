@@ -15,24 +15,11 @@ use Rattle.n2k_run.specs.declared.fault.RunFault.TheVariants as run
 use Rattle.n2kdec.specs.CommandLine.Asked.{save_name}
 use Rattle.n2kdec.specs.Run.Commands.{ClosesWhole, EncodesByTable, EncodesLog, SaveAttempt, Performs, Place, place, shelf}
 use Rattle.n2kdec.specs.Fault.{fault_of_run}
-use Rattle.n2kdec.specs.Run.Told.{Tells}
 use Rattle.n2kdec.specs.declared.command_line.asked.Subcommand.{Subcommand}
 use Rattle.n2kdec.specs.declared.command_line.asked.Subcommand.TheVariants.{Encode}
 use Rattle.n2kdec.specs.declared.run.ending.CommandOutcome.{CommandOutcome}
 use Rattle.n2kdec.specs.declared.fault.Fault.{Fault}
 use Rattle.n2kdec.specs.declared.fault.Fault.TheVariants.{Table}
-
--- each line gives one outcome
-same_length : (t : TableParts) (nearest : Bool) (ls : List (List ℕ)) (os : List Outcome) → GiveAll t nearest ls os → length os ≡ length ls
-same_length t nearest [] [] given = refl
-same_length t nearest [] (o ∷ os) given = absurd given
-same_length t nearest (l ∷ ls) [] given = absurd given
-same_length t nearest (l ∷ ls) (o ∷ os) given = omega (arith, same_length t nearest ls os given.1)
-
--- so many lines are counted after a failed read
-counts_cut : (t : TableParts) (nearest : Bool) (before after : Devices) (counts : Counts) → IsCut t nearest before after counts → (came : List ℕ) × Consumes before.left after.left came × (counts.lines ≡ length (lines_of (whole_lines came)))
-counts_cut t nearest before after counts cut =
-    (cut.came, cut.given, omega (arith, ap (λ (c : Counts). c.lines) cut.taken.counted, count_lines (counts_of []) cut.taken.outcomes, same_length t nearest (lines_of (whole_lines cut.came)) cut.taken.outcomes cut.taken.given))
 
 not_table : (errors summed : Place) (counts : Counts) (ended : Result (Unit {0}) RunFault) (f : TableFault) → ClosesWhole errors summed counts ended (Err (Table f)) → ⊥
 not_table errors summed counts (Ok x) f closes = let is = closes.0 in cc
@@ -60,25 +47,7 @@ module _ (bytes : List ℕ) (before after : Devices) (errors : Place) (r : Resul
     pub encodes : EncodesByTable (faults bytes) (table_of bytes) nearest before after r
     encodes = by_table (faults bytes) (table_of bytes) nearest before after r read.0 (record { errors = errors; counts = counts; ended = ended; runs = ran_so; closes = closes })
 
-    abbrev Told : Option (List ℕ) → Result CommandOutcome Fault → Type 0
-    Told handed answer = IfErr answer (Tells (Encode nearest) bytes handed before.left after.left)
-
-    told_so : (handed : Option (List ℕ)) (ran_to : Result (Unit {0}) RunFault) (answer : Result CommandOutcome Fault) → Encodes (table_of bytes) nearest before mid counts ran_to → ClosesWhole errors (place after.reported after.failed_reports) counts ran_to answer → Told handed answer
-    told_so handed ran_to (Ok ending) its closed = tt
-    told_so handed (Ok x) (Err fault) its closed = subst (λ f. Told handed (Err f)) (sym closed.0) tt
-    told_so handed (Err run.Read) (Err fault) its closed = subst (Told handed) (sym closed.0) (counts_cut (table_of bytes) nearest before mid counts its.ends)
-    told_so handed (Err run.Write) (Err fault) its closed = subst (Told handed) (sym closed.0) tt
-    told_so handed (Err run.Report) (Err fault) its closed = subst (Told handed) (sym closed.0) tt
-    told_so handed (Err run.Memory) (Err fault) its closed = subst (Told handed) (sym closed.0) refl
-    told_so handed (Err run.TooManyLines) (Err fault) its closed = subst (Told handed) (sym closed.0) tt
-
-    pub tells : (handed : Option (List ℕ)) → IfErr r (Tells (Encode nearest) bytes handed before.left after.left)
-    tells handed = told_so handed ended r ran_so closes
-
 -- `encode` has no state
 pub performs_encode : (task : Subcommand) (bytes : List ℕ) (handed : Option (List ℕ)) (before after : Devices) (had : Option (List SaveAttempt)) (nearest : Bool) (r : Result CommandOutcome Fault) → task ≡ Encode nearest
     → EncodesByTable (faults bytes) (table_of bytes) nearest before after r → Performs task bytes handed before after (shelf (save_name task) had) (shelf (save_name task) had) r
 performs_encode task bytes handed before after had nearest r is done = subst (λ k. Performs k bytes handed before after (shelf (save_name k) had) (shelf (save_name k) had) r) (sym is) (refl, done)
-
-pub tells_encode : (task : Subcommand) (bytes : List ℕ) (handed left₀ left : Option (List ℕ)) (nearest : Bool) (r : Result CommandOutcome Fault) → task ≡ Encode nearest → IfErr r (Tells (Encode nearest) bytes handed left₀ left) → IfErr r (Tells task bytes handed left₀ left)
-tells_encode task bytes handed left₀ left nearest r is told = subst (λ k. IfErr r (Tells k bytes handed left₀ left)) (sym is) told

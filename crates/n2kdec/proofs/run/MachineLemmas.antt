@@ -10,7 +10,6 @@ use Rattle.n2kdec.specs.System.Machine.{Calls, DoesAsked, Hints, IsAdmittedSo, I
 use Rattle.n2k_run.specs.Device.{IsWhy}
 use Rattle.n2kdec.specs.Fault.{longest_file, status_of, unopened, unread}
 use Rattle.n2kdec.specs.System.Disk.{IsOfMemory}
-use Rattle.n2kdec.specs.Run.Told.{Tells}
 use Rattle.n2kdec.specs.declared.command_line.asked.ParsedArgs.{ParsedArgs}
 use Rattle.n2kdec.specs.declared.command_line.asked.Command.{Command}
 use Rattle.n2kdec.specs.declared.command_line.asked.Files.{Files}
@@ -67,12 +66,9 @@ module _ (task : Subcommand) (table : List ℕ) (handed : Option (List ℕ)) (be
   PerformsAfter held lent left calls failed = Performs task held lent (with_log left calls failed before) (with_log log.left log.calls log.failed after)
       (shelf (save_name task) before.kept) (shelf (save_name task) after.kept) result
 
-  abbrev pub TellsAfter : List ℕ → Option (List ℕ) → Option (List ℕ) → Type 0
-  TellsAfter held lent left = IfErr result (Tells task held lent left log.left)
-
   pub performed_over : (held : List ℕ) (lent left known : Option (List ℕ)) (calls failed : ℕ) → held ≡ table → lent ≡ handed → left ≡ known → calls ≡ 0 → failed ≡ 0
-      → PerformsAfter held lent left calls failed → TellsAfter held lent left → IsPerformedOver task table handed known log before after result
-  performed_over held lent left known calls failed is_table is_state is none none_failed performs told = grind arith
+      → PerformsAfter held lent left calls failed → IsPerformedOver task table handed known log before after result
+  performed_over held lent left known calls failed is_table is_state is none none_failed performs = grind arith
 
 -- the bytes of a table that was read, or none
 pub table_is : {T : Type 0} (items : T → List ℕ) (read : Option T) (none held : T) → items none ≡ [] → held ≡ unwrap_or read none → items held ≡ table_bytes (option_map items read)

@@ -9,7 +9,7 @@ use Rattle.n2k_run.specs.declared.part.PartFault.{PartFault}
 use Rattle.n2k_run.specs.declared.part.PartFault.TheVariants as part_faults
 use Rattle.n2kdec.specs.Run.Commands.{IsWrittenUnlessFailed, Replaces, Place, StoreView, SumsUp}
 use Rattle.n2kdec.specs.Fault.{fault_of_run}
-use Rattle.n2kdec.specs.Run.Told.{Differs, Told}
+use Rattle.n2kdec.specs.Run.Difference.{Differs, Told}
 use Rattle.n2kdec.specs.declared.run.ending.CommandOutcome.{CommandOutcome}
 use Rattle.n2kdec.specs.declared.fault.Fault.{Fault}
 use Rattle.n2kdec.specs.declared.fault.Fault.TheVariants.{Memory, Read, Save, State}

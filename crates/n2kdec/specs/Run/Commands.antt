@@ -31,12 +31,14 @@ use Rattle.n2k_run.specs.declared.options.Options.{Options}
 use Rattle.n2k_run.specs.declared.fault.RunFault.{RunFault}
 use Rattle.n2k_encode_run.specs.Encodes.{Encodes}
 use Rattle.n2kdec.specs.Run.CommandOutcome.{ending_of, has_other_form}
+use Rattle.n2kdec.specs.Run.Difference.{Differs}
 use Rattle.n2kdec.specs.Fault.{exit_status, fault_of_run}
 use Rattle.n2kdec.specs.declared.command_line.asked.Subcommand.{Subcommand}
 use Rattle.n2kdec.specs.declared.command_line.asked.Subcommand.TheVariants.{Plain, Decode, Frames, Encode}
 use Rattle.n2kdec.specs.declared.run.ending.CommandOutcome.{CommandOutcome}
 use Rattle.n2kdec.specs.declared.fault.Fault.{Fault}
 use Rattle.n2kdec.specs.declared.fault.Fault.TheVariants.{Table, State, Read, Write, Report, Memory, Lines, Save}
+use Rattle.n2kdec.specs.declared.fault.InputFile.TheVariants.{Log}
 use Rattle.n2kdec.specs.declared.save.keeper.SaveError.{SaveError}
 
 -- ---- what a command does
@@ -210,11 +212,12 @@ abbrev pub SumsUpPart : Bool → Place → Place → List ℕ → Type 0
 SumsUpPart true before after summary = IsWrittenUnlessFailed before after summary
 SumsUpPart false before after summary = after ≡ before
 
--- Bytes came of the log, and the lines among them whose line feed came are taken. The state after them is saved, or
--- can't be for this.
-pub record HasRead (c : Effect) (unkept : Option SaveError) (before after : Devices) : Type 0 where
+-- Bytes came of the log, and the lines among them whose line feed came are taken: so many are counted with them. The
+-- state after them is saved, or can't be for this.
+pub record HasRead (c : Effect) (lines : ℕ) (unkept : Option SaveError) (before after : Devices) : Type 0 where
   pub came : List ℕ
   pub given : Consumes before.left after.left came
+  pub counted : lines ≡ (c.counts (entries_for c (whole_lines came))).lines
   pub taken : HasTaken c before after (entries_for c (whole_lines came)) (SumsUpPart c.sums_up_a_part)
   pub saved : IsSaved c before unkept (entries_for c (whole_lines came))
 
@@ -241,15 +244,15 @@ LacksState c why before after = HasTakenAll c before after IsWrittenUnlessFailed
 
 -- What each fault leaves. Read: the lines that came are taken. Lines: as many as are counted are. Save: the log is
 -- taken. In these three the summary, if one is written, is cut off only if the errors failed. After Write and
--- Memory the run breaks off; after Report too, or all but the summary is done. So memory is not refused once something
--- is saved or summed up. No other fault stops a run.
+-- Memory, which is that of the log, the run breaks off; after Report too, or all but the summary is done. So memory is
+-- not refused once something is saved or summed up. No other fault stops a run.
 abbrev pub Leaves : Effect → Devices → Devices → Fault → Type 0
-Leaves c before after (Read lines why unkept) = HasRead c unkept before after
+Leaves c before after (Read lines why unkept) = HasRead c lines unkept before after
 Leaves c before after Lines = IsFull c before after
 Leaves c before after (Save why) = LacksState c why before after
 Leaves c before after (Write why) = BreaksOff c before after
 Leaves c before after Report = BreaksOff c before after ⊎ LacksSummary c before after
-Leaves c before after (Memory read) = BreaksOff c before after
+Leaves c before after (Memory read) = (read ≡ Some Log) × BreaksOff c before after
 Leaves c before after _ = ⊥
 
 -- no call of the log's device failed, and none of the output
@@ -291,13 +294,14 @@ IsRefusal (Table fault) = Unit {0}
 IsRefusal (State fault of) = Unit {0}
 IsRefusal _ = ⊥
 
--- A refused table has the fault, or memory was wanted; a refused state is handed in with a table that has none, and its
--- first fault is answered, or memory was wanted. Where another fault is, both are taken.
-abbrev pub IsJudged : List TableFault → Option (List ℕ) → Result StateOf StateFault → Fault → Type 0
-IsJudged found handed begun (Table fault) = fault ≢ table.Memory → Contains found fault
-IsJudged found handed begun (State fault of) =
-    (found ≡ []) × IsSome handed × (fault ≢ state_faults.Memory → begun ≡ Err fault)
-IsJudged found handed begun fault = (found ≡ []) × IsOk begun
+-- A refused table has the fault, or memory was wanted; a refused state is handed in with a table that has none, its
+-- first fault is answered, or memory was wanted, and what it is of. Where another fault is, both are taken.
+abbrev pub IsJudged : List TableFault → TableParts → Options → Option (List ℕ) → Fault → Type 0
+IsJudged found t o handed (Table fault) = fault ≢ table.Memory → Contains found fault
+IsJudged found t o handed (State fault of) =
+    (found ≡ []) × IsSome handed × (fault ≢ state_faults.Memory → begun t o handed ≡ Err fault)
+    × Differs t.id o handed fault of
+IsJudged found t o handed fault = (found ≡ []) × IsOk (begun t o handed)
 
 -- The table is refused, by its fault or because memory is refused, and no device is touched; or it has no
 -- fault, and the command is stopped by another.
@@ -375,7 +379,7 @@ pub record Decodes (bytes : List ℕ) (o : Options) (handed : Option (List ℕ))
     (keeper kept : StoreView) (result : Result CommandOutcome Fault) : Type 0 where
   -- The table and the state are accepted, or refused for their content or because memory is refused.
   pub judged : MatchResult result (λ ending. (faults bytes ≡ []) × IsOk (begun (table_of bytes) o handed))
-      (IsJudged (faults bytes) handed (begun (table_of bytes) o handed))
+      (IsJudged (faults bytes) (table_of bytes) o handed)
   -- From any accepted state: the result of the steps of the log's entries, in order.
   pub steps : (s : StateOf) → begun (table_of bytes) o handed ≡ Ok s
       → EndsUnlessRefused (decode_from (table_of bytes) o s keeper kept) before after result

@@ -15,7 +15,6 @@ use Rattle.n2kdec.specs.Fault.{fault_line, longest_file, status_of, unopened, un
 use Rattle.n2kdec.specs.Fault.Sentence.{IsSentence, SystemWords}
 use Rattle.n2kdec.specs.Save.StateStore.{Admission}
 use Rattle.n2kdec.specs.System.Disk.{IsOfMemory}
-use Rattle.n2kdec.specs.Run.Told.{Tells}
 use Rattle.n2kdec.specs.declared.command_line.asked.ParsedArgs.{ParsedArgs}
 use Rattle.n2kdec.specs.declared.command_line.asked.ParsedArgs.TheVariants as to
 use Rattle.n2kdec.specs.declared.command_line.asked.Command.{Command}
@@ -144,11 +143,11 @@ abbrev pub with_log : Option (List ℕ) → ℕ → ℕ → OutputsView → Devi
 with_log left calls failed o = devices left calls failed o.output.text o.output.failed o.errors.text o.errors.failed
 
 -- The command is performed by these bytes of a table and of a state, over a log with these bytes.
-pub record IsPerformedOver (task : Subcommand) (table : List ℕ) (handed left : Option (List ℕ)) (log : LogAfter)
-    (before after : OutputsView) (result : Result CommandOutcome Fault) : Type 0 where
-  pub performs : Performs task table handed (with_log left 0 0 before) (with_log log.left log.calls log.failed after)
-      (shelf (save_name task) before.kept) (shelf (save_name task) after.kept) result
-  pub told : IfErr result (Tells task table handed left log.left)
+abbrev pub IsPerformedOver : Subcommand → List ℕ → Option (List ℕ) → Option (List ℕ) → LogAfter → OutputsView → OutputsView
+    → Result CommandOutcome Fault → Type 0
+IsPerformedOver task table handed left log before after result =
+    Performs task table handed (with_log left 0 0 before) (with_log log.left log.calls log.failed after)
+    (shelf (save_name task) before.kept) (shelf (save_name task) after.kept) result
 
 -- A command's result, where the fault of its log has why the last read of that failed, and the fault of its output why
 -- the last write did.

@@ -4,7 +4,6 @@ ghost use Rattle.std.specs.Result.{result_err};
 ghost use Rattle.n2k_run.specs.Runs.{seen};
 ghost use Rattle.n2kdec.specs.CommandLine.Asked.{save_name};
 ghost use Rattle.n2kdec.specs.Run.Commands.{ClosesWhole, IsRefusal, Performs, Replaces, SumsUp, place, shelf};
-ghost use Rattle.n2kdec.specs.Run.Told.{Tells};
 ghost use Rattle.n2kdec.specs.Inner.Closing.{ClosesPart, IsOfEnd};
 
 use crate::command_line::asked::{Subcommand, name_of};
@@ -142,8 +141,6 @@ pub fn run_command<R: Source, W: Sink, E: Sink, K: StateStore>(
         Performs task.now table.now (option_map (λ bytes. bytes.now) state.entry) before after
         (shelf (save_name task.now) (K.kept outlets.old.keeper))
         (shelf (save_name task.now) (K.kept outlets.new.keeper)) result }
-    ensures told { IfErr result (Tells task.now table.now (option_map (λ bytes. bytes.now) state.entry)
-        (R.remaining log.old) (R.remaining log.new)) }
     ensures untouched { IfErr result (λ fault. IsRefusal fault
         → (log.new ≡ log.old) × (outlets.new.output ≡ outlets.old.output) × (outlets.new.errors ≡ outlets.old.errors)
         × (outlets.new.keeper ≡ outlets.old.keeper)) }

@@ -3,7 +3,7 @@ ghost use Rattle.std.specs.Prelude.{◌≡◌, IfOk, option_map};
 ghost use Rattle.hex.specs.Hex.{encode_lower};
 ghost use Rattle.serde_json.specs.View.{view};
 ghost use Rattle.n2k_join.specs.Resumed.{parsed};
-ghost use Rattle.n2kdec.specs.Run.Told.{Differs, digits_in, number_in, tables, tables_in, text_in, windows, windows_in};
+ghost use Rattle.n2kdec.specs.Run.Difference.{Differs, digits_in, number_in, tables, tables_in, text_in, windows, windows_in};
 
 use n2k_join::StateFault;
 use n2k_run::Options;

@@ -1,10 +1,8 @@
 //! `encode` over its devices.
-ghost use Rattle.std.specs.Prelude.{◌≡◌, ℕ, List, Option, IfErr};
+ghost use Rattle.std.specs.Prelude.{◌≡◌, IfErr};
 ghost use Rattle.n2k_table.specs.Table.{faults, table as table_of};
 ghost use Rattle.n2k_run.specs.Runs.{seen};
 ghost use Rattle.n2kdec.specs.Run.Commands.{EncodesByTable, IsRefusal};
-ghost use Rattle.n2kdec.specs.Run.Told.{Tells};
-ghost use Rattle.n2kdec.specs.declared.command_line.asked.Subcommand.TheVariants.{Encode};
 
 use crate::fault::Fault;
 use crate::run::commands::close_whole;
@@ -28,8 +26,6 @@ pub fn encode_log<R: Source, W: Sink, E: Sink>(
     ensures encodes { let before = seen R.Source W.Sink E.Sink log.old output.old errors.old in
         let after = seen R.Source W.Sink E.Sink log.new output.new errors.new in
         EncodesByTable (faults table.now) (table_of table.now) nearest before after result }
-    ensures told { (handed : Option (List ℕ)) → IfErr result (Tells (Encode nearest) table.now handed
-        (R.remaining log.old) (R.remaining log.new)) }
     ensures untouched { IfErr result (λ fault. IsRefusal fault
         → (log.new ≡ log.old) × (output.new ≡ output.old) × (errors.new ≡ errors.old)) }
 {

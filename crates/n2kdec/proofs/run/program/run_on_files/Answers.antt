@@ -62,6 +62,6 @@ returns-clause-runs g c =
       ended = c.run_command-answer.result;
       over = performed_over c.args.command.now.task (table_bytes table_read) state_read before after stands c.run_command-answer.result
           _ _ _ (bytes_named w files.log) _ _ is_table is_state (subst (λ v. g.M.File.Source.remaining c.in-Ok.log ≡ bytes_named v files.log) (state.same ∙ table.same) opened.bytes) opened.none_called opened.none_failed
-          c.run_command-answer.ensures.performs c.run_command-answer.ensures.told;
+          c.run_command-answer.ensures.performs;
       told = subst (λ why. c.explained.result ≡ explained c.close-why.result why c.run_command-answer.result) c.failure.ensures.told c.explained.ensures;
     })
