@@ -13,12 +13,9 @@ use Rattle.n2k_run.specs.declared.options.Options.{Options}
 use Rattle.n2kdec.specs.declared.run.difference.StateMismatch.{StateMismatch}
 use Rattle.n2kdec.specs.declared.run.difference.StateMismatch.TheVariants.{Tables, Windows}
 
--- a member of a value: a text, or a whole number
+-- a member of a value that is a text
 abbrev pub text_in : Text → Data → Option Text
 text_in name d = option_and_then as_str (get name d)
-
-abbrev pub number_in : Text → Data → Option ℕ
-number_in name d = option_and_then as_int (get name d)
 
 -- a text that has as many digits as a SHA-256
 abbrev pub digits_in : Text → Option Text
@@ -30,15 +27,9 @@ abbrev pub tables_in : List ℕ → Data → Option StateMismatch
 tables_in id d =
     option_map (λ saved. Tables saved (encode_lower id)) (option_and_then digits_in (text_in (codes "table") d))
 
-abbrev pub tables : List ℕ → List ℕ → Option StateMismatch
-tables id state = option_and_then (tables_in id) (parsed state)
-
 -- the lines of the window that it was saved under, and these
 abbrev pub windows_in : ℕ → Data → Option StateMismatch
-windows_in lines d = option_map (λ saved. Windows saved lines) (number_in (codes "window") d)
-
-abbrev pub windows : ℕ → List ℕ → Option StateMismatch
-windows lines state = option_and_then (windows_in lines) (parsed state)
+windows_in lines d = option_map (λ saved. Windows saved lines) (option_and_then as_int (get (codes "window") d))
 
 -- what is reported of a refused state, if anything, or that memory for it was refused
 abbrev pub Told : Type 0
@@ -46,6 +37,6 @@ Told = Result (Option StateMismatch) AllocError
 
 -- What a state is of that is refused for it, unless memory for that was refused; no other fault tells anything.
 abbrev pub Differs : List ℕ → Options → Option (List ℕ) → StateFault → Told → Type 0
-Differs id o (Some state) TableDiffers told = IfOk told (λ known. known ≡ tables id state)
-Differs id o (Some state) WindowDiffers told = IfOk told (λ known. known ≡ windows o.window.lines state)
+Differs id o (Some state) TableDiffers told = IfOk told (λ known. known ≡ option_and_then (tables_in id) (parsed state))
+Differs id o (Some state) WindowDiffers told = IfOk told (λ known. known ≡ option_and_then (windows_in o.window.lines) (parsed state))
 Differs id o handed _ told = told ≡ Ok None
