@@ -1,5 +1,5 @@
 -- From the run of a command and its closing to what the command leaves.
-use Rattle.std.proofs.Common.{◌≡◌, ◌++◌, true, arith, ℕ, List, [], Option, None, Some, Ok, Err, Result, IfOk, IfErr, IfSome, ap, inl, subst, sym, append_assoc, refl, false, ◌≢◌, Contains}
+use Rattle.std.proofs.Common.{◌≡◌, ◌++◌, true, arith, Bool, ℕ, List, [], Option, None, Some, Ok, Err, Result, IfOk, IfErr, IfSome, ap, inl, subst, sym, append_assoc, refl, false, ◌≢◌, Contains}
 use Rattle.std.proofs.KnownBytes.{Appends-trans}
 use Rattle.std.specs.Io.KnownBytes.{Appends}
 use Rattle.clap.specs.Words.{Text}
@@ -22,16 +22,16 @@ use Rattle.n2k_run.specs.declared.options.Options.{Options}
 use Rattle.n2k_run.specs.declared.part.Part.{Part}
 use Rattle.n2k_run.specs.declared.part.PartFault.{PartFault}
 use Rattle.n2k_run.specs.declared.part.PartFault.TheVariants as part_faults
+use Rattle.n2k_encode_run.specs.Encodes.{Encodes}
 use Rattle.n2k_run.proofs.Parting.{line_prefixes, told_ok, told_stopped}
 use Rattle.n2k_run.proofs.Running.{known_more}
 use Rattle.n2kdec.specs.CommandLine.Asked.{save_name}
-use Rattle.n2kdec.specs.Run.Commands.{ClosesWhole, Decodes, Effect, Ends, EndsByTable, EndsUnlessRefused, IsSaved, IsStopped, IsUntouched, IsWrittenUnlessFailed, SaveAttempt, Performs, Place, PrintsRest, Replaces, StoreView, SumsUpPart, decode_from, decode_to, entries_for, frames_effect, no_saving, place, shelf}
+use Rattle.n2kdec.specs.Run.Commands.{ClosesWhole, Decodes, Effect, Ends, EndsByTable, EncodesByTable, EncodesLog, EndsUnlessRefused, IsRefusal, IsSaved, IsStopped, IsUntouched, IsWrittenUnlessFailed, SaveAttempt, Performs, Place, PrintsRest, Replaces, StoreView, SumsUpPart, decode_from, decode_to, entries_for, frames_effect, no_saving, place, shelf}
 use Rattle.n2kdec.specs.Fault.{fault_of_run}
 use Rattle.n2kdec.specs.Inner.Closing.{Closes, ClosesPart, IsOfEnd}
 use Rattle.n2kdec.specs.Run.Difference.{Told}
 use Rattle.n2kdec.specs.declared.command_line.asked.Subcommand.{Subcommand}
-use Rattle.n2kdec.specs.declared.command_line.asked.Subcommand.TheVariants.{Plain, Decode, Frames}
-use Rattle.n2kdec.specs.declared.run.ending.CommandOutcome.{CommandOutcome}
+use Rattle.n2kdec.specs.declared.command_line.asked.Subcommand.TheVariants.{Plain, Decode, Frames, Encode}
 use Rattle.n2kdec.specs.declared.fault.Fault.{Fault}
 use Rattle.n2kdec.specs.declared.fault.Fault.TheVariants.{Memory, Read, Table}
 use Rattle.n2kdec.specs.declared.fault.InputFile.TheVariants as reading
@@ -93,7 +93,7 @@ module _ (before after : Devices) (errors : Place) where
       first : IsWrittenUnlessFailed errors summed (summary_text counts) → IfSome before.left (ReportsFirst c.output before after)
       first said = grind (arith, still_first)
 
-      ended_by_closing : (r : Result CommandOutcome Fault) → Closes c.saving.before c.saving.after errors summed text counts r → Ends c before after r
+      ended_by_closing : (r : Result Counts Fault) → Closes c.saving.before c.saving.after errors summed text counts r → Ends c before after r
       ended_by_closing r closes = grind (arith, saved, Appends-trans, first)
 
   -- the run of a whole log, which is then closed: no state is saved
@@ -101,7 +101,7 @@ module _ (before after : Devices) (errors : Place) where
     abbrev whole_effect : Effect
     whole_effect = record { output = output; counts = counts_of; saving = no_saving; sums_up_a_part = false }
 
-    ended_whole : (counts : Counts) (ended : Result (Unit {0}) RunFault) (r : Result CommandOutcome Fault) → Runs output (λ es. counts ≡ counts_of es) before mid ended
+    ended_whole : (counts : Counts) (ended : Result (Unit {0}) RunFault) (r : Result Counts Fault) → Runs output (λ es. counts ≡ counts_of es) before mid ended
         → ClosesWhole errors summed counts ended r → Ends whole_effect before after r
     ended_whole counts (Ok x) r runs closes = ended_by_closing whole_effect (λ es. counts ≡ counts_of es) x [] counts runs (runs.ends.holds, refl) r (inl ((refl, refl), closes))
     ended_whole counts (Err fault) r runs closes = grind arith
@@ -120,10 +120,10 @@ module _ (before after : Devices) (errors : Place) where
     saved_so part es unkept is keeps = subst (λ s. Replaces keeper kept s errors.text unkept) is.saved keeps
 
     -- no command that has begun ends by a refusal
-    unless : (r : Result CommandOutcome Fault) → Ends c before after r → EndsUnlessRefused c before after r
+    unless : (r : Result Counts Fault) → Ends c before after r → EndsUnlessRefused c before after r
     unless r done = grind arith
 
-    closed : (of : Told) (ended : Result Part PartFault) (r : Result CommandOutcome Fault) → IsOfKind ended → RefusedByMemory ended
+    closed : (of : Told) (ended : Result Part PartFault) (r : Result Counts Fault) → IsOfKind ended → RefusedByMemory ended
         → TellsRun o (λ es. HasPart t options ended (stands_at es)) before mid ended → ClosesPart of keeper kept errors summed ended r → EndsUnlessRefused c before after r
     closed of (Ok part) r kind memory told closes =
         unless r (ended_by_closing c _ tt part.state.items part.counts (told_ok o before mid _ part told) (grind arith) r closes)
@@ -141,11 +141,11 @@ module _ (before after : Devices) (errors : Place) where
     abbrev t : TableParts
     t = table_of bytes
 
-    rest_of : (prefix : List ℕ) (of : Told) (ended : Result Part PartFault) (r : Result CommandOutcome Fault) → Continues t o prefix before mid ended → ClosesPart of keeper kept errors summed ended r
-        → IfOk r (λ ending. IfSome before.left (λ log. PrintsRest t o prefix log before after keeper kept ending.status))
+    rest_of : (prefix : List ℕ) (of : Told) (ended : Result Part PartFault) (r : Result Counts Fault) → Continues t o prefix before mid ended → ClosesPart of keeper kept errors summed ended r
+        → IfOk r (λ counted. IfSome before.left (λ log. PrintsRest t o prefix log before after keeper kept counted))
     rest_of prefix of ended r goes closes = grind (arith, known_more, Appends-trans)
 
-    decoded : (of : Told) (ended : Result Part PartFault) (r : Result CommandOutcome Fault) → faults bytes ≡ [] → RunsFrom t o handed before mid ended → IsOfEnd t.id o handed ended of → ClosesPart of keeper kept errors summed ended r
+    decoded : (of : Told) (ended : Result Part PartFault) (r : Result Counts Fault) → faults bytes ≡ [] → RunsFrom t o handed before mid ended → IsOfEnd t.id o handed ended of → ClosesPart of keeper kept errors summed ended r
         → Decodes bytes o handed before after keeper kept r
     decoded of ended r none runs of_end closes = record {
       judged = grind arith;
@@ -155,12 +155,12 @@ module _ (before after : Devices) (errors : Place) where
     }
 
 -- a command that has no state ends so by a table that is taken
-by_table : (found : List TableFault) (c : Effect) (before after : Devices) (r : Result CommandOutcome Fault) → found ≡ [] → Ends c before after r → EndsByTable found c before after r
-by_table found c before after (Ok ending) none done = (none, done)
+by_table : (found : List TableFault) (c : Effect) (before after : Devices) (r : Result Counts Fault) → found ≡ [] → Ends c before after r → EndsByTable found c before after r
+by_table found c before after (Ok counts) none done = (none, done)
 by_table found c before after (Err fault) none stopped = grind arith
 
 -- The command that was named does what its run and the closing say.
-module _ (task : Subcommand) (bytes : List ℕ) (handed : Option (List ℕ)) (before after : Devices) (errors : Place) (r : Result CommandOutcome Fault) where
+module _ (task : Subcommand) (bytes : List ℕ) (handed : Option (List ℕ)) (before after : Devices) (errors : Place) (r : Result Counts Fault) where
   abbrev performs_with : Option (List SaveAttempt) → Option (List SaveAttempt) → Subcommand → Type 0
   performs_with had has k = Performs k bytes handed before after (shelf (save_name k) had) (shelf (save_name k) has) r
 
@@ -193,13 +193,24 @@ module _ (task : Subcommand) (bytes : List ℕ) (handed : Option (List ℕ)) (be
     performs_decode of_end = subst (performs_with had has) (sym is) (decoded before after errors bytes o handed (shelf save had) (shelf save has) of ended r read.0 ran_part
         (subst (λ t. IsOfEnd t.id o handed ended of) read.1 of_end) closes)
 
+-- a run of `encode` that is closed ends by no fault of a table
+encoded : (found : List TableFault) (t : TableParts) (nearest : Bool) (before after : Devices) (r : Result Counts Fault) → found ≡ [] → IfErr r (λ fault. IsRefusal fault → ⊥) → EncodesLog t nearest before after r → EncodesByTable found t nearest before after r
+encoded found t nearest before after (Ok counts) none begun log = (none, log)
+encoded found t nearest before after (Err (Table f)) none begun log = absurd (begun tt)
+encoded found t nearest before after (Err _) none begun log = (none, log)
+
+pub performs_encode : (task : Subcommand) (bytes : List ℕ) (handed : Option (List ℕ)) (before after : Devices) (errors : Place) (r : Result Counts Fault) (had : Option (List SaveAttempt)) (counts : Counts) (ended : Result (Unit {0}) RunFault) (nearest : Bool) (t : TableParts)
+    → task ≡ Encode nearest → (faults bytes ≡ []) × (t ≡ table_of bytes) → Encodes t nearest before (mid before after errors) counts ended → ClosesWhole errors (summed before after errors) counts ended r → IfErr r (λ fault. IsRefusal fault → ⊥)
+    → Performs task bytes handed before after (shelf (save_name task) had) (shelf (save_name task) had) r
+performs_encode task bytes handed before after errors r had counts ended nearest t is read ran closes begun =
+    let runs = subst (λ t. Encodes t nearest before (mid before after errors) counts ended) read.1 ran in
+    subst (λ k. Performs k bytes handed before after (shelf (save_name k) had) (shelf (save_name k) had) r) (sym is)
+    (refl, encoded (faults bytes) (table_of bytes) nearest before after r read.0 begun (record { errors = errors; counts = counts; ended = ended; runs = runs; closes = closes }))
+
 -- the table is refused
-module _ (task : Subcommand) (bytes : List ℕ) (handed : Option (List ℕ)) (at : Devices) (had : Option (List SaveAttempt)) (fault : TableFault) (stands : fault ≢ table_faults.Memory → Contains (faults bytes) fault) where
-  abbrev refuses : Subcommand → Type 0
-  refuses k = Performs k bytes handed at at (shelf (save_name k) had) (shelf (save_name k) had) (Err (Table fault))
-
-  pub decode_refused : (o : Options) (save : Option Text) → task ≡ Decode o save → refuses task
-  decode_refused o save is = subst refuses (sym is) (record { judged = stands; steps = λ s begun. tt; log = λ prefix begun. tt; headline = λ prefix begun. tt })
-
-  pub frames_refused : (interface : Option Text) → task ≡ Frames interface → refuses task
-  frames_refused interface is = subst refuses (sym is) (refl, (stands, refl))
+pub refused : (task : Subcommand) (bytes : List ℕ) (handed : Option (List ℕ)) (at : Devices) (had : Option (List SaveAttempt)) (fault : TableFault) → (fault ≢ table_faults.Memory → Contains (faults bytes) fault) → task ≢ Plain
+    → Performs task bytes handed at at (shelf (save_name task) had) (shelf (save_name task) had) (Err (Table fault))
+refused Plain bytes handed at had fault stands some = absurd (some refl)
+refused (Decode o save) bytes handed at had fault stands some = record { judged = stands; steps = λ s begun. tt; log = λ prefix begun. tt; headline = λ prefix begun. tt }
+refused (Frames interface) bytes handed at had fault stands some = (refl, (stands, refl))
+refused (Encode nearest) bytes handed at had fault stands some = (refl, (stands, refl))

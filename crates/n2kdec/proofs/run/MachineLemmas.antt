@@ -7,14 +7,15 @@ use Rattle.n2kdec.specs.CommandLine.Asked.{save_name}
 use Rattle.n2kdec.specs.Run.Commands.{Performs, Place, shelf}
 use Rattle.n2kdec.specs.Fault.Sentence.{SystemWords}
 use Rattle.n2kdec.specs.System.Machine.{Calls, DoesAsked, Hints, IsAdmittedSo, IsNotRead, IsPerformed, IsPerformedOver, IsRead, IsReadBefore, IsUnread, LogAfter, Makes, OutputsView, ReadsFile, ReportsFault, RunsCommand, RunsRequest, Environment, table_bytes, too_large, with_log}
+use Rattle.n2k_join.specs.declared.counts.Counts.{Counts}
 use Rattle.n2k_run.specs.Device.{IsWhy}
-use Rattle.n2kdec.specs.Fault.{longest_file, status_of, unopened, unread}
+use Rattle.n2kdec.specs.Run.Hint.{has_other_form}
+use Rattle.n2kdec.specs.Fault.{exit_status, longest_file, status_of, unopened, unread}
 use Rattle.n2kdec.specs.System.Disk.{IsOfMemory}
 use Rattle.n2kdec.specs.declared.command_line.asked.ParsedArgs.{ParsedArgs}
 use Rattle.n2kdec.specs.declared.command_line.asked.Command.{Command}
 use Rattle.n2kdec.specs.declared.command_line.asked.Files.{Files}
 use Rattle.n2kdec.specs.declared.command_line.asked.Subcommand.{Subcommand}
-use Rattle.n2kdec.specs.declared.run.ending.CommandOutcome.{CommandOutcome}
 use Rattle.n2kdec.specs.declared.fault.Fault.{Fault}
 use Rattle.n2kdec.specs.declared.fault.Fault.TheVariants.{Memory, Save}
 use Rattle.n2kdec.specs.declared.fault.InputFile.{InputFile}
@@ -61,7 +62,7 @@ module _ (w : Environment) (named : Option Text) (name : Text) (is_name : named 
 -- ---- a command
 
 -- over a log of which no call was made, by the bytes that were read
-module _ (task : Subcommand) (table : List ℕ) (handed : Option (List ℕ)) (before after : OutputsView) (log : LogAfter) (result : Result CommandOutcome Fault) where
+module _ (task : Subcommand) (table : List ℕ) (handed : Option (List ℕ)) (before after : OutputsView) (log : LogAfter) (result : Result Counts Fault) where
   abbrev pub PerformsAfter : List ℕ → Option (List ℕ) → Option (List ℕ) → ℕ → ℕ → Type 0
   PerformsAfter held lent left calls failed = Performs task held lent (with_log left calls failed before) (with_log log.left log.calls log.failed after)
       (shelf (save_name task) before.kept) (shelf (save_name task) after.kept) result
@@ -75,7 +76,7 @@ pub table_is : {T : Type 0} (items : T → List ℕ) (read : Option T) (none hel
 table_is items read none held empty is = grind arith
 
 -- a command that is performed is run
-pub performed : (w : Environment) (command : Command) (before after : OutputsView) (result : Result CommandOutcome Fault) → IsPerformed w command before after result
+pub performed : (w : Environment) (command : Command) (before after : OutputsView) (result : Result Counts Fault) → IsPerformed w command before after result
     → RunsCommand w command before after result
 performed w command before after result done = grind arith
 
@@ -85,7 +86,7 @@ pub not_admitted : (w : Environment) (command : Command) (o : OutputsView) (why 
 not_admitted w command o why named answer = inr (inr (why, refl, named, answer, refl))
 
 -- one whose files are not read is not begun
-module _ (w : Environment) (command : Command) (o : OutputsView) (used : Calls) (fault : Fault) (result : Result CommandOutcome Fault) (is : IsErrAnd result (λ told. told ≡ fault)) where
+module _ (w : Environment) (command : Command) (o : OutputsView) (used : Calls) (fault : Fault) (result : Result Counts Fault) (is : IsErrAnd result (λ told. told ≡ fault)) where
   abbrev IsNotBegunSo : Type 0
   IsNotBegunSo = RunsCommand w command o (record o { calls = used }) result
 
@@ -113,12 +114,12 @@ pub all_calls : (files : Files) (a b c d e : Calls) (of_table of_state : List Fi
 all_calls files a b c d e of_table of_state reads why table state opened closed = grind (arith, append_assoc)
 
 -- a fault of what was typed is reported
-pub reported : (w : Environment) (words : SystemWords) (request : ParsedArgs) (before done : OutputsView) (result : Result CommandOutcome Fault) (fault : Fault) (said : Result (Unit {0}) AllocError) (errors : Place) (status : ℕ)
+pub reported : (w : Environment) (words : SystemWords) (request : ParsedArgs) (before done : OutputsView) (result : Result Counts Fault) (fault : Fault) (said : Result (Unit {0}) AllocError) (errors : Place) (status : ℕ)
     → DoesAsked w request before done result → result ≡ Err fault → ReportsFault w words request fault said done.errors errors → status ≡ status_of fault
     → RunsRequest w words request before (record done { errors = errors }) status said
 reported w words request before done result fault said errors status does is reports answered = grind arith
 
 -- a command that came to its end, of which is said what there is to say
-pub ended : (w : Environment) (words : SystemWords) (request : ParsedArgs) (before done : OutputsView) (result : Result CommandOutcome Fault) (ending : CommandOutcome) (said : Result (Unit {0}) AllocError) (errors : Place) (status : ℕ)
-    → DoesAsked w request before done result → result ≡ Ok ending → Hints w ending.has_other_form done.errors errors → status ≡ ending.status → said ≡ Ok tt → RunsRequest w words request before (record done { errors = errors }) status said
-ended w words request before done result ending said errors status does is hints answered none = grind arith
+pub ended : (w : Environment) (words : SystemWords) (request : ParsedArgs) (before done : OutputsView) (result : Result Counts Fault) (counts : Counts) (said : Result (Unit {0}) AllocError) (errors : Place) (status : ℕ)
+    → DoesAsked w request before done result → result ≡ Ok counts → Hints w (has_other_form counts) done.errors errors → status ≡ exit_status counts → said ≡ Ok tt → RunsRequest w words request before (record done { errors = errors }) status said
+ended w words request before done result counts said errors status does is hints answered none = grind arith

@@ -10,7 +10,6 @@ use Rattle.n2k_run.specs.declared.part.PartFault.TheVariants as part_faults
 use Rattle.n2kdec.specs.Run.Commands.{IsWrittenUnlessFailed, Replaces, Place, StoreView, SumsUp}
 use Rattle.n2kdec.specs.Fault.{fault_of_run}
 use Rattle.n2kdec.specs.Run.Difference.{Differs, Told}
-use Rattle.n2kdec.specs.declared.run.ending.CommandOutcome.{CommandOutcome}
 use Rattle.n2kdec.specs.declared.fault.Fault.{Fault}
 use Rattle.n2kdec.specs.declared.fault.Fault.TheVariants.{Memory, Read, Save, State}
 use Rattle.n2kdec.specs.declared.fault.InputFile.TheVariants as reading
@@ -18,7 +17,7 @@ use Rattle.n2kdec.specs.declared.save.keeper.SaveError.{SaveError}
 
 -- A log was taken whole, and this text is to be kept: it is, and the summary gives the answer; or it can't be, and the
 -- summary is written all the same.
-abbrev pub Closes : StoreView → StoreView → Place → Place → List ℕ → Counts → Result CommandOutcome Fault → Type 0
+abbrev pub Closes : StoreView → StoreView → Place → Place → List ℕ → Counts → Result Counts Fault → Type 0
 Closes keeper kept errors summed text counts result =
     (Replaces keeper kept text errors.text None × SumsUp errors summed counts result)
     ⊎ ((why : SaveError) × (result ≡ Err (Save why)) × Replaces keeper kept text errors.text (Some why)
@@ -31,7 +30,7 @@ IsOfEnd id o handed ended of = of ≡ Ok None
 
 -- What follows the run of a part. After a failed read its state is kept, or can't be, and its counts are summed up; at
 -- the limit of lines they are summed up alone; after another fault nothing follows.
-abbrev pub ClosesPart : Told → StoreView → StoreView → Place → Place → Result Part PartFault → Result CommandOutcome Fault → Type 0
+abbrev pub ClosesPart : Told → StoreView → StoreView → Place → Place → Result Part PartFault → Result Counts Fault → Type 0
 ClosesPart of keeper kept errors summed (Ok part) result =
     Closes keeper kept errors summed part.state.items part.counts result
 ClosesPart of keeper kept errors summed (Err (part_faults.Stopped run.Read part)) result =

@@ -1,18 +1,12 @@
--- What a command that comes to its end tells the program, and what is said of a log that has another form.
+-- What is said of a log that has another form.
 use Rattle.std.specs.Prelude.{◌==◌, ◌&&◌, ◌++◌, nat_lt, ℕ, Bool, List, codes}
 use Rattle.n2k_join.specs.declared.counts.Counts.{Counts}
-use Rattle.n2kdec.specs.Fault.{exit_status}
-use Rattle.n2kdec.specs.declared.run.ending.CommandOutcome.{CommandOutcome}
 
 -- A log is taken to have another form: 100 of its lines are bad, or more, and none is good: none gave a message, is
 -- counted as unknown, or stood in a group.
 abbrev pub has_other_form : Counts → Bool
 has_other_form counts =
     nat_lt 99 counts.bad && counts.messages == 0 && counts.unknown == 0 && counts.broken == 0 && counts.held == 0
-
--- what a command comes to that has counted so much
-abbrev pub ending_of : Counts → CommandOutcome
-ending_of counts = record { status = exit_status counts; has_other_form = has_other_form counts }
 
 -- What is said on a terminal after the summary of such a log. Counts can't tell it from one whose table is wrong (B7,
 -- B8), so it is said of neither that it is so.

@@ -5,13 +5,14 @@ use Rattle.std.specs.Prelude.{IfErr, IfSome, IsOkAnd, IsSome, MatchResult, Resul
 use Rattle.std.specs.declared.alloc.AllocError.{AllocError}
 use Rattle.std.specs.declared.io.Error.{Error}
 use Rattle.clap.specs.Words.{Text}
+use Rattle.n2k_join.specs.declared.counts.Counts.{Counts}
 use Rattle.n2k_run.specs.declared.device.Sink.{Ghosts as OfSink}
 use Rattle.n2k_run.specs.Device.{IsWhy}
 use Rattle.n2k_run.specs.Runs.{Devices, devices}
 use Rattle.n2kdec.specs.CommandLine.Asked.{IsAsked, save_name}
 use Rattle.n2kdec.specs.Run.Commands.{IsCutOff, IsWritten, IsWrittenUnlessFailed, SaveAttempt, Performs, Place, place, shelf}
-use Rattle.n2kdec.specs.Run.CommandOutcome.{hint}
-use Rattle.n2kdec.specs.Fault.{fault_line, longest_file, status_of, unopened, unread}
+use Rattle.n2kdec.specs.Run.Hint.{has_other_form, hint}
+use Rattle.n2kdec.specs.Fault.{exit_status, fault_line, longest_file, status_of, unopened, unread}
 use Rattle.n2kdec.specs.Fault.Sentence.{IsSentence, SystemWords}
 use Rattle.n2kdec.specs.Save.StateStore.{Admission}
 use Rattle.n2kdec.specs.System.Disk.{IsOfMemory}
@@ -20,7 +21,6 @@ use Rattle.n2kdec.specs.declared.command_line.asked.ParsedArgs.TheVariants as to
 use Rattle.n2kdec.specs.declared.command_line.asked.Command.{Command}
 use Rattle.n2kdec.specs.declared.command_line.asked.Subcommand.{Subcommand}
 use Rattle.n2kdec.specs.declared.command_line.asked.Files.{Files}
-use Rattle.n2kdec.specs.declared.run.ending.CommandOutcome.{CommandOutcome}
 use Rattle.n2kdec.specs.declared.fault.Fault.{Fault}
 use Rattle.n2kdec.specs.declared.fault.Fault.TheVariants.{Words, TableSize, StateSize, Read, Memory, Save, Write}
 use Rattle.n2kdec.specs.declared.fault.InputFile.{InputFile}
@@ -144,14 +144,14 @@ with_log left calls failed o = devices left calls failed o.output.text o.output.
 
 -- The command is performed by these bytes of a table and of a state, over a log with these bytes.
 abbrev pub IsPerformedOver : Subcommand → List ℕ → Option (List ℕ) → Option (List ℕ) → LogAfter → OutputsView → OutputsView
-    → Result CommandOutcome Fault → Type 0
+    → Result Counts Fault → Type 0
 IsPerformedOver task table handed left log before after result =
     Performs task table handed (with_log left 0 0 before) (with_log log.left log.calls log.failed after)
     (shelf (save_name task) before.kept) (shelf (save_name task) after.kept) result
 
 -- A command's result, where the fault of its log has why the last read of that failed, and the fault of its output why
 -- the last write did.
-abbrev pub explained : Option Error → Option Error → Result CommandOutcome Fault → Result CommandOutcome Fault
+abbrev pub explained : Option Error → Option Error → Result Counts Fault → Result Counts Fault
 explained unread unwritten (Err (Read lines why unkept)) = Err (Read lines unread unkept)
 explained unread unwritten (Err (Write why)) = Err (Write unwritten)
 explained unread unwritten answer = answer
@@ -164,7 +164,7 @@ IsAdmittedSo admits command answer =
 -- The command is performed by the bytes of its files, each of which was read and closed before the next was opened,
 -- over its log, and its state is kept under the name that it has for it, which was admitted. Of its log and of its
 -- output the fault has the error of the last call that failed.
-pub record IsPerformed (w : Environment) (command : Command) (before after : OutputsView) (result : Result CommandOutcome Fault)
+pub record IsPerformed (w : Environment) (command : Command) (before after : OutputsView) (result : Result Counts Fault)
     : Type 0 where
   pub admitted : IsAdmittedSo before.admits command (Ok tt)
   pub table : Option (List ℕ)
@@ -181,7 +181,7 @@ pub record IsPerformed (w : Environment) (command : Command) (before after : Out
   pub is_why_unwritten : IsWhy after.output.failed after.unwritten
   pub calls : Makes (of_table ++ of_state ++ Opened command.files.log None ∷ Closed log.calls why ∷ []) before.calls
       after.calls
-  pub ended : Result CommandOutcome Fault
+  pub ended : Result Counts Fault
   pub over : IsPerformedOver command.task (table_bytes table) handed (bytes_named w command.files.log) log before after
       ended
   pub told : result ≡ explained why after.unwritten ended
@@ -221,8 +221,8 @@ pub record IsNotBegun (w : Environment) (command : Command) (before after : Outp
   pub else_same : after ≡ record before { calls = after.calls }
 
 -- it is performed; or not begun; or its state is not admitted
-abbrev pub RunsCommand : Environment → Command → OutputsView → OutputsView → Result CommandOutcome Fault → Type 0
-RunsCommand w command before after (Ok ending) = IsPerformed w command before after (Ok ending)
+abbrev pub RunsCommand : Environment → Command → OutputsView → OutputsView → Result Counts Fault → Type 0
+RunsCommand w command before after (Ok counts) = IsPerformed w command before after (Ok counts)
 RunsCommand w command before after (Err fault) =
     IsPerformed w command before after (Err fault)
     ⊎ IsNotBegun w command before after fault
@@ -230,18 +230,18 @@ RunsCommand w command before after (Err fault) =
 
 -- ---- from the words that were typed to the status
 
--- what comes of a text that is printed, which is of no log
-abbrev pub ending_of_text : CommandOutcome
-ending_of_text = record { status = 0; has_other_form = false }
+-- what is counted of a text that is printed, which is of no log
+abbrev pub no_lines : Counts
+no_lines = record { lines = 0; messages = 0; bad = 0; unknown = 0; broken = 0; held = 0 }
 
 -- the text of the help or of the version is printed, or can't be for this
-abbrev pub Shows : Text → Place → Place → Option Error → Result CommandOutcome Fault → Type 0
+abbrev pub Shows : Text → Place → Place → Option Error → Result Counts Fault → Type 0
 Shows text before after why result = MatchResult result
-    (λ ending. (ending ≡ ending_of_text) × IsWritten before after text)
+    (λ counts. (counts ≡ no_lines) × IsWritten before after text)
     (λ fault. (fault ≡ Write why) × IsWhy after.failed why × IsCutOff before after text)
 
 -- What is asked for is done. Where that is refused, as an interface that is none is, all is as it was.
-abbrev pub DoesAsked : Environment → ParsedArgs → OutputsView → OutputsView → Result CommandOutcome Fault → Type 0
+abbrev pub DoesAsked : Environment → ParsedArgs → OutputsView → OutputsView → Result Counts Fault → Type 0
 DoesAsked w (to.Help text) before after result =
     Shows text before.output after.output after.unwritten result
     × (after ≡ record before { output = after.output; unwritten = after.unwritten })
@@ -295,10 +295,10 @@ Hints w true before after = (is_terminal : Bool) × IsTerminal w is_terminal × 
 Hints w false before after = after ≡ before
 
 -- the status of a result, and what is said of it; memory may be refused for what is said of a fault alone
-abbrev pub Concludes : Environment → SystemWords → ParsedArgs → Result CommandOutcome Fault → OutputsView → OutputsView → ℕ
+abbrev pub Concludes : Environment → SystemWords → ParsedArgs → Result Counts Fault → OutputsView → OutputsView → ℕ
     → Result (Unit {0}) AllocError → Type 0
-Concludes w words request (Ok ending) before after status said =
-    (status ≡ ending.status) × (said ≡ Ok tt) × Hints w ending.has_other_form before.errors after.errors
+Concludes w words request (Ok counts) before after status said =
+    (status ≡ exit_status counts) × (said ≡ Ok tt) × Hints w (has_other_form counts) before.errors after.errors
     × (after ≡ record before { errors = after.errors })
 Concludes w words request (Err fault) before after status said =
     (status ≡ status_of fault) × ReportsFault w words request fault said before.errors after.errors
@@ -307,7 +307,7 @@ Concludes w words request (Err fault) before after status said =
 -- what is asked for is done, and the status is that of it
 pub record RunsRequest (w : Environment) (words : SystemWords) (request : ParsedArgs) (before after : OutputsView) (status : ℕ)
     (said : Result (Unit {0}) AllocError) : Type 0 where
-  pub result : Result CommandOutcome Fault
+  pub result : Result Counts Fault
   pub done : OutputsView
   pub does : DoesAsked w request before done result
   pub concludes : Concludes w words request result done after status said

@@ -10,10 +10,9 @@ use crate::command_line::asked::{Subcommand, name_of};
 use crate::command_line::words::Word;
 use crate::fault::{Fault, InputFile, fault_of_run};
 use crate::run::difference::{StateMismatch, difference_of};
-use crate::run::encode::encode_log;
-use crate::run::ending::{CommandOutcome, ending_of};
 use crate::save::keeper::{SaveError, StateStore};
 use crate::system::machine::OutputStreams;
+use n2k_encode_run::run_encode;
 use n2k_join::Counts;
 use n2k_run::{
     Options, Part, PartFault, RunFault, Sink, Source, run_frames_counted, run_part,
@@ -22,13 +21,13 @@ use n2k_run::{
 use n2k_table::Table;
 use std::alloc::{AllocError, Global};
 
-/// Writes the summary of what a run has counted, and returns what these counts come to.
-fn sum_up<E: Sink>(counts: &Counts, errors: &mut E) -> Result<CommandOutcome, Fault>
+/// Writes the summary of what a run has counted, and returns that.
+fn sum_up<E: Sink>(counts: &Counts, errors: &mut E) -> Result<Counts, Fault>
     ensures { SumsUp (place (E.contents errors.old) (E.failed_calls errors.old))
         (place (E.contents errors.new) (E.failed_calls errors.new)) counts.now result }
 {
     write_summary(counts, errors).map_err(|_| Fault::Report)?;
-    Ok(ending_of(counts))
+    Ok(*counts)
 }
 
 /// Keeps the state of a part, if there is a name for it.
@@ -48,11 +47,11 @@ fn keep<K: StateStore, E: Sink>(
 }
 
 /// What follows the run of a whole log, which counted so much.
-pub(crate) fn close_whole<E: Sink>(
+fn close_whole<E: Sink>(
     counts: &Counts,
     ended: Result<(), RunFault>,
     errors: &mut E,
-) -> Result<CommandOutcome, Fault>
+) -> Result<Counts, Fault>
     ensures closes { ClosesWhole (place (E.contents errors.old) (E.failed_calls errors.old))
         (place (E.contents errors.new) (E.failed_calls errors.new)) counts.now ended result }
     ensures begun { IfErr result (λ fault. IsRefusal fault → ⊥) }
@@ -89,7 +88,7 @@ fn close_part<K: StateStore, E: Sink>(
     of: Result<Option<StateMismatch>, AllocError>,
     keeper: &mut K,
     errors: &mut E,
-) -> Result<CommandOutcome, Fault>
+) -> Result<Counts, Fault>
     ensures closes { ClosesPart of (shelf save.now (K.kept keeper.old)) (shelf save.now (K.kept keeper.new))
         (place (E.contents errors.old) (E.failed_calls errors.old))
         (place (E.contents errors.new) (E.failed_calls errors.new)) ended result }
@@ -119,9 +118,9 @@ fn close_part<K: StateStore, E: Sink>(
 
 /// Runs a command, from the bytes of a table and of a state as far as it has them. The output gets the texts: plain
 /// lines, JSON lines, or the lines of frames. The errors get the reports of bad lines and of broken groups, and then
-/// the summary. Returns the status, which is 0, or 1 if a line was bad, and whether the log has another form.
+/// the summary. Returns what was counted.
 ///
-/// `decode` goes on from the state, or begins a log (`None`), and its status is that of all lines so far. The state
+/// `decode` goes on from the state, or begins a log (`None`), and its counts are those of all lines so far. The state
 /// after it goes to the keeper, and the summary is written after that, also if the state can't be saved. After a
 /// failed read what was read is saved and summed up; at the limit of lines it is summed up alone. After any other
 /// fault, and after each fault of the other commands, there is no summary, except a part of it if the errors
@@ -135,7 +134,7 @@ pub fn run_command<R: Source, W: Sink, E: Sink, K: StateStore>(
     state: Option<&[u8]>,
     log: &mut R,
     outlets: &mut OutputStreams<W, E, K>,
-) -> Result<CommandOutcome, Fault>
+) -> Result<Counts, Fault>
     ensures performs { let before = seen R.Source W.Sink E.Sink log.old outlets.old.output outlets.old.errors in
         let after = seen R.Source W.Sink E.Sink log.new outlets.new.output outlets.new.errors in
         Performs task.now table.now (option_map (λ bytes. bytes.now) state.entry) before after
@@ -176,6 +175,12 @@ pub fn run_command<R: Source, W: Sink, E: Sink, K: StateStore>(
             }
             Err(fault) => Err(Fault::Table(fault)),
         },
-        Subcommand::Encode { nearest } => encode_log(alloc, *nearest, table, log, output, errors),
+        Subcommand::Encode { nearest } => match Table::read(alloc, table) {
+            Ok(table) => {
+                let ended = run_encode(alloc, &table, *nearest, &mut counts, log, output, errors);
+                close_whole(&counts, ended, errors)
+            }
+            Err(fault) => Err(Fault::Table(fault)),
+        },
     }
 }

@@ -1,24 +1,14 @@
-//! What a command that comes to its end tells the program: its status, and whether its log has another form.
+//! What is said of a log that has another form.
 ghost use Rattle.std.specs.Prelude.{◌≡◌};
-ghost use Rattle.n2kdec.specs.Run.CommandOutcome.{ending_of, has_other_form, hint};
+ghost use Rattle.n2kdec.specs.Run.Hint.{has_other_form, hint};
 
-use crate::fault::exit_status;
 use n2k_join::Counts;
 
 /// The fewest bad lines by which a log is recognized to have another form.
 const FEWEST_LINES: u64 = 100;
 
-/// How a command came to its end.
-#[derive(Clone, Copy)]
-pub struct CommandOutcome {
-    /// The exit status: 0, or 1 if a line was bad.
-    pub status: u8,
-    /// Whether its log has another form.
-    pub has_other_form: bool,
-}
-
 /// Whether a log is taken to have another form: 100 of its lines are bad, or more, and none is good.
-fn has_other_form(counts: &Counts) -> bool
+pub fn has_other_form(counts: &Counts) -> bool
     ensures { result ≡ has_other_form counts.now }
 {
     counts.bad >= FEWEST_LINES
@@ -26,16 +16,6 @@ fn has_other_form(counts: &Counts) -> bool
         && counts.unknown == 0
         && counts.broken == 0
         && counts.held == 0
-}
-
-/// What a command comes to that has counted so much.
-pub fn ending_of(counts: &Counts) -> CommandOutcome
-    ensures { result ≡ ending_of counts.now }
-{
-    CommandOutcome {
-        status: exit_status(counts),
-        has_other_form: has_other_form(counts),
-    }
 }
 
 /// The advice on a terminal after the summary of a log that has another form, by its counts: it may as well have

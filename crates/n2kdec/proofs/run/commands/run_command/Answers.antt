@@ -1,8 +1,7 @@
 use Rattle.std.proofs.Common.{◌≡◌, ℕ, List, Bor, option_map}
 use Rattle.n2k_run.specs.Runs.{Devices, seen}
 use Rattle.n2kdec.specs.Run.Commands.{Place, place}
-use Rattle.n2kdec.proofs.run.CommandLemmas.{decode_refused, frames_refused, performs_decode, performs_frames, performs_plain}
-use Rattle.n2kdec.proofs.run.EncodeLemmas.{performs_encode}
+use Rattle.n2kdec.proofs.run.CommandLemmas.{performs_decode, performs_frames, performs_plain, refused}
 use Rattle.n2kdec.proofs.run.commands.run_command.Goals as goal
 
 pub returns-in-Plain-clause-performs : goal.returns-in-Plain-clause-performs
@@ -22,8 +21,7 @@ returns-in-Ok-clause-performs g c =
     c.in-Ok.table c.in-Decode.is c.in-Ok.ensures.sound c.run_part-ended.ensures.runs c.close_part.ensures.closes c.of_end-of.ensures
 
 pub returns-in-Err-clause-performs : goal.returns-in-Err-clause-performs
-returns-in-Err-clause-performs g c =
-    decode_refused c.args.task.now c.args.table.now _ _ (g.K.StateStore.kept c.args.outlets.now.keeper) c.in-Err.fault c.in-Err.ensures.stands c.in-Decode.options _ c.in-Decode.is
+returns-in-Err-clause-performs g c = refused c.args.task.now c.args.table.now _ _ (g.K.StateStore.kept c.args.outlets.now.keeper) c.in-Err.fault c.in-Err.ensures.stands (λ plain. cc)
 
 pub returns-in-Ok-read-clause-performs : goal.returns-in-Ok-read-clause-performs
 returns-in-Ok-read-clause-performs g c =
@@ -34,11 +32,4 @@ returns-in-Ok-read-clause-performs g c =
     c.in-Frames.interface _ c.in-Ok-read.table c.in-Frames.is c.name_of-name.ensures.same c.in-Ok-read.ensures.sound c.run_frames_counted-ended.ensures.runs
 
 pub returns-in-Err-read-clause-performs : goal.returns-in-Err-read-clause-performs
-returns-in-Err-read-clause-performs g c =
-    frames_refused c.args.task.now c.args.table.now _ _ (g.K.StateStore.kept c.args.outlets.now.keeper) c.in-Err-read.fault c.in-Err-read.ensures.stands c.in-Frames.interface c.in-Frames.is
-
-pub returns-in-Encode-clause-performs : goal.returns-in-Encode-clause-performs
-returns-in-Encode-clause-performs g c =
-    let before = seen g.R.Source g.W.Sink g.E.Sink c.args.log.now c.args.outlets.now.output c.args.outlets.now.errors in
-    let after = seen g.R.Source g.W.Sink g.E.Sink c.encode_log.new.log c.encode_log.new.output c.encode_log.new.errors in
-    performs_encode c.args.task.now c.args.table.now _ before after (g.K.StateStore.kept c.args.outlets.now.keeper) c.in-Encode.nearest c.encode_log.result c.in-Encode.is c.encode_log.ensures.encodes
+returns-in-Err-read-clause-performs g c = refused c.args.task.now c.args.table.now _ _ (g.K.StateStore.kept c.args.outlets.now.keeper) c.in-Err-read.fault c.in-Err-read.ensures.stands (λ plain. cc)
