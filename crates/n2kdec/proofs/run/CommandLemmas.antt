@@ -1,5 +1,5 @@
 -- From the run of a command and its closing to what the command leaves.
-use Rattle.std.proofs.Common.{◌≡◌, ◌++◌, true, arith, Bool, ℕ, List, [], Option, None, Some, Ok, Err, Result, IfOk, IfErr, IfSome, ap, inl, subst, sym, append_assoc, refl, false, ◌≢◌, Contains}
+use Rattle.std.proofs.Common.{◌≡◌, ◌++◌, true, arith, Bool, ℕ, List, [], Option, None, Some, Ok, Err, Result, IfOk, IfErr, IfSome, inl, subst, sym, append_assoc, refl, false, ◌≢◌, Contains}
 use Rattle.std.proofs.KnownBytes.{Appends-trans}
 use Rattle.std.specs.Io.KnownBytes.{Appends}
 use Rattle.clap.specs.Words.{Text}
@@ -26,7 +26,7 @@ use Rattle.n2k_encode_run.specs.Encodes.{Encodes}
 use Rattle.n2k_run.proofs.Parting.{line_prefixes, told_ok, told_stopped}
 use Rattle.n2k_run.proofs.Running.{known_more}
 use Rattle.n2kdec.specs.CommandLine.Asked.{save_name}
-use Rattle.n2kdec.specs.Run.Commands.{ClosesWhole, Decodes, Effect, Ends, EndsByTable, EncodesByTable, EncodesLog, EndsUnlessRefused, IsRefusal, IsSaved, IsStopped, IsUntouched, IsWrittenUnlessFailed, SaveAttempt, Performs, Place, PrintsRest, Replaces, StoreView, SumsUpPart, decode_from, decode_to, entries_for, frames_effect, no_saving, place, shelf}
+use Rattle.n2kdec.specs.Run.Commands.{ClosesWhole, Decodes, Effect, Ends, EndsByTable, EncodesByTable, EncodesLog, EndsUnlessRefused, IsRefusal, IsSaved, IsStopped, IsUntouched, IsWrittenUnlessFailed, SaveAttempt, Performs, Place, PrintsRest, Replaces, StoreView, SumsUpPart, decode_to, entries_for, frames_effect, no_saving, place, shelf}
 use Rattle.n2kdec.specs.Fault.{fault_of_run}
 use Rattle.n2kdec.specs.Inner.Closing.{Closes, ClosesPart, IsOfEnd}
 use Rattle.n2kdec.specs.Run.Difference.{Told}

@@ -1,5 +1,5 @@
 -- From what a call leaves to what the program leaves.
-use Rattle.std.proofs.Common.{arith, ◌≡◌, ◌⊎◌, ◌++◌, append_assoc, ℕ, List, [], ◌∷◌, Option, Some, None, Result, Ok, Err, IfErr, option_map, inl, inr, refl, subst, sym, ◌<◌, ◌≤◌, IfSome, IsErrAnd, IsSome, length, unwrap_or}
+use Rattle.std.proofs.Common.{arith, ◌≡◌, ◌⊎◌, ◌++◌, append_assoc, ℕ, List, [], ◌∷◌, Option, Some, None, Result, Ok, Err, option_map, inl, inr, refl, subst, sym, ◌<◌, ◌≤◌, IfSome, IsErrAnd, IsSome, length, unwrap_or}
 use Rattle.std.specs.declared.alloc.AllocError.{AllocError}
 use Rattle.std.specs.declared.io.Error.{Error}
 use Rattle.clap.specs.Words.{Text}

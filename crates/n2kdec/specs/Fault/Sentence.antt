@@ -109,16 +109,13 @@ IsSaidOf system (Some subject) command fault text =
     (words : Text) × (advice : Text) × AreWords system fault words
     × (text ≡ line_of (told_of command subject words fault advice))
 
--- the line of a fault; and if the state could not be kept after a failed read, the line of that read
+-- The line of a fault. If the state could not be kept after a failed read, the line that says why follows that of the
+-- read.
 abbrev pub IsLine : SystemWords → Option Command → Fault → List ℕ → Type 0
 IsLine system command fault text = IsSaidOf system (subject_of command fault) command fault text
 
-abbrev pub IsNextLine : SystemWords → Option Command → Fault → List ℕ → Type 0
-IsNextLine system command (Read lines why (Some unkept)) text = IsLine system command (Save unkept) text
-IsNextLine system command _ text = text ≡ []
-
--- the sentence of a fault
 abbrev pub IsSentence : SystemWords → Option Command → Fault → List ℕ → Type 0
-IsSentence system command fault text =
-    (line next : List ℕ) × IsLine system command fault line × IsNextLine system command fault next
-    × (text ≡ line ++ next)
+IsSentence system command (Read lines why (Some unkept)) text =
+    (line next : List ℕ) × IsLine system command (Read lines why (Some unkept)) line
+    × IsLine system command (Save unkept) next × (text ≡ line ++ next)
+IsSentence system command fault text = IsLine system command fault text

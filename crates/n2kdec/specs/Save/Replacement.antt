@@ -1,6 +1,6 @@
 -- How a text comes to a name: it takes the place of another, so that at each moment one of the two is there, whole; or,
 -- if the folder does not allow that or the file has other names, it is written over the file itself.
-use Rattle.std.specs.Prelude.{◌≡◌, ◌⊎◌, ◌++◌, ℕ, Bool, true, false, List, [], ◌∷◌, Option, Some, None, IfSome}
+use Rattle.std.specs.Prelude.{◌≡◌, ◌⊎◌, ◌++◌, ℕ, true, false, List, [], ◌∷◌, Option, Some, None, IfSome}
 use Rattle.std.specs.Prelude.{IsErrAnd, OnOk, Result, Ok, Err, if◌then◌else◌, option_map}
 use Rattle.std.specs.Option.{is_none}
 use Rattle.std.specs.IoError.{error_kind}

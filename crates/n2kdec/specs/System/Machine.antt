@@ -1,7 +1,7 @@
 -- What the program meets, and what comes of the words that were typed: the files that they name are read, their command
 -- is performed, its state is kept under the name that they have for it, and a fault is reported.
 use Rattle.std.specs.Prelude.{◌≡◌, ◌⊎◌, ◌<◌, ◌≤◌, ◌++◌, ℕ, Bool, List, [], ◌∷◌, Option, Some, None}
-use Rattle.std.specs.Prelude.{IfErr, IfSome, IsOkAnd, IsSome, MatchResult, Result, Ok, Err, length, true, false}
+use Rattle.std.specs.Prelude.{IfSome, IsOkAnd, IsSome, MatchResult, Result, Ok, Err, length, true, false}
 use Rattle.std.specs.declared.alloc.AllocError.{AllocError}
 use Rattle.std.specs.declared.io.Error.{Error}
 use Rattle.clap.specs.Words.{Text}

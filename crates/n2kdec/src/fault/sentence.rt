@@ -229,12 +229,13 @@ pub fn fault_sentence<M: Machine>(
     ensures { IfOk result (λ text. IsSentence M.words (option_map (λ c. c.now) command.entry) fault text.items) }
 {
     let mut text = line_of(alloc, machine, command, fault, advice_of(fault))?;
-    match fault {
-        Fault::Read(_, _, Some(why)) => {
-            let next = line_of(alloc, machine, command, Fault::Save(why), UNSURE)?;
-            text.extend_from_slice(&next)?;
-            Ok(text)
-        }
-        _ => Ok(text),
-    }
+    let Fault::Read(_, _, unkept) = fault else {
+        return Ok(text);
+    };
+    let Some(why) = unkept else {
+        return Ok(text);
+    };
+    let next = line_of(alloc, machine, command, Fault::Save(why), UNSURE)?;
+    text.extend_from_slice(&next)?;
+    Ok(text)
 }

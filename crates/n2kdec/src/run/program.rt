@@ -190,11 +190,7 @@ fn run_admitted<M: Machine, K: StateStore>(
 }
 
 /// Prints the text of the help or of the version.
-fn show<M: Machine>(
-    machine: &M,
-    text: &Word,
-    output: &mut M::Output,
-) -> Result<Counts, Fault>
+fn show<M: Machine>(machine: &M, text: &Word, output: &mut M::Output) -> Result<Counts, Fault>
     ensures { Shows text.now (place (M.Output.contents output.old) (M.Output.failed_calls output.old))
         (place (M.Output.contents output.new) (M.Output.failed_calls output.new)) (M.Output.why output.new) result }
 {

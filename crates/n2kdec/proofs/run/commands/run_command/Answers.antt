@@ -1,6 +1,5 @@
-use Rattle.std.proofs.Common.{◌≡◌, ℕ, List, Bor, option_map}
-use Rattle.n2k_run.specs.Runs.{Devices, seen}
-use Rattle.n2kdec.specs.Run.Commands.{Place, place}
+use Rattle.n2k_run.specs.Runs.{seen}
+use Rattle.n2kdec.specs.Run.Commands.{place}
 use Rattle.n2kdec.proofs.run.CommandLemmas.{performs_decode, performs_frames, performs_plain, refused}
 use Rattle.n2kdec.proofs.run.commands.run_command.Goals as goal
 
