@@ -26,7 +26,7 @@ use Rattle.n2k_encode_run.specs.Encodes.{Encodes}
 use Rattle.n2k_run.proofs.Parting.{line_prefixes, told_ok, told_stopped}
 use Rattle.n2k_run.proofs.Running.{known_more}
 use Rattle.n2kdec.specs.CommandLine.Asked.{save_name}
-use Rattle.n2kdec.specs.Run.Commands.{ClosesWhole, Decodes, Effect, Ends, EndsByTable, EncodesByTable, EncodesLog, EndsUnlessRefused, IsRefusal, IsSaved, IsStopped, IsUntouched, IsWrittenUnlessFailed, SaveAttempt, Performs, Place, PrintsRest, Replaces, StoreView, SumsUpPart, decode_to, entries_for, frames_effect, no_saving, place, shelf}
+use Rattle.n2kdec.specs.Run.Commands.{ByTable, ClosesWhole, Decodes, Effect, Ends, EncodesLog, EndsUnlessRefused, IsRefusal, IsSaved, IsStopped, IsUntouched, IsWrittenUnlessFailed, SaveAttempt, Performs, Place, PrintsRest, Replaces, StoreView, SumsUpPart, decode_to, entries_for, frames_effect, no_saving, place, shelf}
 use Rattle.n2kdec.specs.Fault.{fault_of_run}
 use Rattle.n2kdec.specs.Inner.Closing.{Closes, ClosesPart, IsOfEnd}
 use Rattle.n2kdec.specs.Run.Difference.{Told}
@@ -154,10 +154,11 @@ module _ (before after : Devices) (errors : Place) where
       headline = λ prefix is. rest_of prefix of ended r (runs.headline prefix is) closes;
     }
 
--- a command that has no state ends so by a table that is taken
-by_table : (found : List TableFault) (c : Effect) (before after : Devices) (r : Result Counts Fault) → found ≡ [] → Ends c before after r → EndsByTable found c before after r
-by_table found c before after (Ok counts) none done = (none, done)
-by_table found c before after (Err fault) none stopped = grind arith
+-- a command that is closed ends by no fault of its table
+by_table : (found : List TableFault) (before after : Devices) (r : Result Counts Fault) (P : Type 0) → found ≡ [] → IfErr r (λ fault. IsRefusal fault → ⊥) → P → ByTable found before after r P
+by_table found before after (Ok counts) P none begun done = (none, done)
+by_table found before after (Err (Table f)) P none begun done = absurd (begun tt)
+by_table found before after (Err _) P none begun done = (none, done)
 
 -- The command that was named does what its run and the closing say.
 module _ (task : Subcommand) (bytes : List ℕ) (handed : Option (List ℕ)) (before after : Devices) (errors : Place) (r : Result Counts Fault) where
@@ -177,10 +178,10 @@ module _ (task : Subcommand) (bytes : List ℕ) (handed : Option (List ℕ)) (be
       ran_frames : runs_by (table_of bytes) interface
       ran_frames = subst (runs_by (table_of bytes)) is_told (subst (λ t. runs_by t told) read.1 ran)
 
-      pub performs_frames : performs_with had had task
-      performs_frames = subst (performs_with had had) (sym is) (
+      pub performs_frames : IfErr r (λ fault. IsRefusal fault → ⊥) → performs_with had had task
+      performs_frames begun = subst (performs_with had had) (sym is) (
         refl,
-        by_table (faults bytes) (frames_effect (table_of bytes) interface) before after r read.0
+        by_table (faults bytes) before after r _ read.0 begun
             (ended_whole before after errors (frames_output (table_of bytes) interface) (frame_counts_of (kind (table_of bytes)) interface) counts ended r ran_frames closes),
       )
 
@@ -193,19 +194,13 @@ module _ (task : Subcommand) (bytes : List ℕ) (handed : Option (List ℕ)) (be
     performs_decode of_end = subst (performs_with had has) (sym is) (decoded before after errors bytes o handed (shelf save had) (shelf save has) of ended r read.0 ran_part
         (subst (λ t. IsOfEnd t.id o handed ended of) read.1 of_end) closes)
 
--- a run of `encode` that is closed ends by no fault of a table
-encoded : (found : List TableFault) (t : TableParts) (nearest : Bool) (before after : Devices) (r : Result Counts Fault) → found ≡ [] → IfErr r (λ fault. IsRefusal fault → ⊥) → EncodesLog t nearest before after r → EncodesByTable found t nearest before after r
-encoded found t nearest before after (Ok counts) none begun log = (none, log)
-encoded found t nearest before after (Err (Table f)) none begun log = absurd (begun tt)
-encoded found t nearest before after (Err _) none begun log = (none, log)
-
 pub performs_encode : (task : Subcommand) (bytes : List ℕ) (handed : Option (List ℕ)) (before after : Devices) (errors : Place) (r : Result Counts Fault) (had : Option (List SaveAttempt)) (counts : Counts) (ended : Result (Unit {0}) RunFault) (nearest : Bool) (t : TableParts)
     → task ≡ Encode nearest → (faults bytes ≡ []) × (t ≡ table_of bytes) → Encodes t nearest before (mid before after errors) counts ended → ClosesWhole errors (summed before after errors) counts ended r → IfErr r (λ fault. IsRefusal fault → ⊥)
     → Performs task bytes handed before after (shelf (save_name task) had) (shelf (save_name task) had) r
 performs_encode task bytes handed before after errors r had counts ended nearest t is read ran closes begun =
     let runs = subst (λ t. Encodes t nearest before (mid before after errors) counts ended) read.1 ran in
     subst (λ k. Performs k bytes handed before after (shelf (save_name k) had) (shelf (save_name k) had) r) (sym is)
-    (refl, encoded (faults bytes) (table_of bytes) nearest before after r read.0 begun (record { errors = errors; counts = counts; ended = ended; runs = runs; closes = closes }))
+    (refl, by_table (faults bytes) before after r _ read.0 begun (record { errors = errors; counts = counts; ended = ended; runs = runs; closes = closes }))
 
 -- the table is refused
 pub refused : (task : Subcommand) (bytes : List ℕ) (handed : Option (List ℕ)) (at : Devices) (had : Option (List SaveAttempt)) (fault : TableFault) → (fault ≢ table_faults.Memory → Contains (faults bytes) fault) → task ≢ Plain

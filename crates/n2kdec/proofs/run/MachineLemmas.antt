@@ -6,7 +6,7 @@ use Rattle.clap.specs.Words.{Text}
 use Rattle.n2kdec.specs.CommandLine.Asked.{save_name}
 use Rattle.n2kdec.specs.Run.Commands.{Performs, Place, shelf}
 use Rattle.n2kdec.specs.Fault.Sentence.{SystemWords}
-use Rattle.n2kdec.specs.System.Machine.{Calls, DoesAsked, Hints, IsAdmittedSo, IsNotRead, IsPerformed, IsPerformedOver, IsRead, IsReadBefore, IsUnread, LogAfter, Makes, OutputsView, ReadsFile, ReportsFault, RunsCommand, RunsRequest, Environment, table_bytes, too_large, with_log}
+use Rattle.n2kdec.specs.System.Machine.{Calls, DoesAsked, Hints, IsAdmittedSo, IsNotRead, IsPerformed, IsRead, IsReadBefore, IsUnread, LogAfter, Makes, OutputsView, ReadsFile, ReportsFault, RunsCommand, RunsRequest, Environment, too_large, with_log}
 use Rattle.n2k_join.specs.declared.counts.Counts.{Counts}
 use Rattle.n2k_run.specs.Device.{IsWhy}
 use Rattle.n2kdec.specs.Run.Hint.{has_other_form}
@@ -68,11 +68,11 @@ module _ (task : Subcommand) (table : List ℕ) (handed : Option (List ℕ)) (be
       (shelf (save_name task) before.kept) (shelf (save_name task) after.kept) result
 
   pub performed_over : (held : List ℕ) (lent left known : Option (List ℕ)) (calls failed : ℕ) → held ≡ table → lent ≡ handed → left ≡ known → calls ≡ 0 → failed ≡ 0
-      → PerformsAfter held lent left calls failed → IsPerformedOver task table handed known log before after result
+      → PerformsAfter held lent left calls failed → PerformsAfter table handed known 0 0
   performed_over held lent left known calls failed is_table is_state is none none_failed performs = grind arith
 
 -- the bytes of a table that was read, or none
-pub table_is : {T : Type 0} (items : T → List ℕ) (read : Option T) (none held : T) → items none ≡ [] → held ≡ unwrap_or read none → items held ≡ table_bytes (option_map items read)
+pub table_is : {T : Type 0} (items : T → List ℕ) (read : Option T) (none held : T) → items none ≡ [] → held ≡ unwrap_or read none → items held ≡ unwrap_or (option_map items read) []
 table_is items read none held empty is = grind arith
 
 -- a command that is performed is run

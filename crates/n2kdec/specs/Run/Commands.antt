@@ -299,11 +299,11 @@ IsJudged found t o handed (State fault of) =
     × Differs t.id o handed fault of
 IsJudged found t o handed fault = (found ≡ []) × IsOk (begun t o handed)
 
--- The table is refused, by its fault or because memory is refused, and no device is touched; or it has no
--- fault, and the command is stopped by another.
-abbrev pub IsRefusedOrStopped : List TableFault → Effect → Devices → Devices → Fault → Type 0
-IsRefusedOrStopped found c before after (Table fault) = (fault ≢ table.Memory → Contains found fault) × (after ≡ before)
-IsRefusedOrStopped found c before after fault = (found ≡ []) × IsStopped c before after fault
+-- The table is refused, by its fault or because memory is refused, and no device is touched; or it has no fault, and
+-- this holds.
+abbrev pub ByTable : List TableFault → Devices → Devices → Result Counts Fault → Type 0 → Type 0
+ByTable found before after (Err (Table fault)) P = (fault ≢ table.Memory → Contains found fault) × (after ≡ before)
+ByTable found before after result P = (found ≡ []) × P
 
 -- how a command ends whose state is taken, if its table is
 abbrev pub EndsUnlessRefused : Effect → Devices → Devices → Result Counts Fault → Type 0
@@ -355,20 +355,7 @@ pub record EncodesLog (t : TableParts) (nearest : Bool) (before after : Devices)
       ended
   pub closes : ClosesWhole errors (place after.reported after.failed_reports) counts ended result
 
--- The table is refused, for a fault in it or because memory is refused, and no device changes; or the table has no
--- fault, and the log is encoded.
-abbrev pub EncodesByTable : List TableFault → TableParts → Bool → Devices → Devices → Result Counts Fault → Type 0
-EncodesByTable found t nearest before after (Err (Table fault)) =
-    (fault ≢ table.Memory → Contains found fault) × (after ≡ before)
-EncodesByTable found t nearest before after (Err fault) = (found ≡ []) × EncodesLog t nearest before after (Err fault)
-EncodesByTable found t nearest before after (Ok counts) = (found ≡ []) × EncodesLog t nearest before after (Ok counts)
-
 -- ---- by the command
-
--- how a command ends that reads a table and has no state
-abbrev pub EndsByTable : List TableFault → Effect → Devices → Devices → Result Counts Fault → Type 0
-EndsByTable found c before after result =
-    MatchResult result (λ counts. (found ≡ []) × IsDone c before after counts) (IsRefusedOrStopped found c before after)
 
 -- How `decode` ends, given the bytes of a table, options, and a state to resume.
 pub record Decodes (bytes : List ℕ) (o : Options) (handed : Option (List ℕ)) (before after : Devices)
@@ -397,6 +384,7 @@ Performs Plain bytes handed before after keeper kept result =
 Performs (Decode o save) bytes handed before after keeper kept result =
     Decodes bytes o handed before after keeper kept result
 Performs (Frames interface) bytes handed before after keeper kept result =
-    (kept ≡ keeper) × EndsByTable (faults bytes) (frames_effect (table_of bytes) interface) before after result
+    (kept ≡ keeper)
+    × ByTable (faults bytes) before after result (Ends (frames_effect (table_of bytes) interface) before after result)
 Performs (Encode nearest) bytes handed before after keeper kept result =
-    (kept ≡ keeper) × EncodesByTable (faults bytes) (table_of bytes) nearest before after result
+    (kept ≡ keeper) × ByTable (faults bytes) before after result (EncodesLog (table_of bytes) nearest before after result)

@@ -2,6 +2,7 @@
 -- is performed, its state is kept under the name that they have for it, and a fault is reported.
 use Rattle.std.specs.Prelude.{◌≡◌, ◌⊎◌, ◌<◌, ◌≤◌, ◌++◌, ℕ, Bool, List, [], ◌∷◌, Option, Some, None}
 use Rattle.std.specs.Prelude.{IfSome, IsOkAnd, IsSome, MatchResult, Result, Ok, Err, length, true, false}
+use Rattle.std.specs.Option.{unwrap_or}
 use Rattle.std.specs.declared.alloc.AllocError.{AllocError}
 use Rattle.std.specs.declared.io.Error.{Error}
 use Rattle.clap.specs.Words.{Text}
@@ -94,11 +95,6 @@ IsOfFile w None read = read ≡ None
 IsOfFile w (Some name) None = ⊥
 IsOfFile w (Some name) (Some bytes) = IfSome (w.file name) (λ known. bytes ≡ known)
 
--- a command without a table has one of no bytes
-abbrev pub table_bytes : Option (List ℕ) → List ℕ
-table_bytes None = []
-table_bytes (Some bytes) = bytes
-
 -- a file was opened and closed again, and no call of it failed
 abbrev pub IsTaken : Text → List FileCall → Type 0
 IsTaken name made = (reads : ℕ) × (made ≡ Opened (Some name) None ∷ Closed reads None ∷ [])
@@ -142,13 +138,6 @@ pub record LogAfter : Type 0 where
 abbrev pub with_log : Option (List ℕ) → ℕ → ℕ → OutputsView → Devices
 with_log left calls failed o = devices left calls failed o.output.text o.output.failed o.errors.text o.errors.failed
 
--- The command is performed by these bytes of a table and of a state, over a log with these bytes.
-abbrev pub IsPerformedOver : Subcommand → List ℕ → Option (List ℕ) → Option (List ℕ) → LogAfter → OutputsView → OutputsView
-    → Result Counts Fault → Type 0
-IsPerformedOver task table handed left log before after result =
-    Performs task table handed (with_log left 0 0 before) (with_log log.left log.calls log.failed after)
-    (shelf (save_name task) before.kept) (shelf (save_name task) after.kept) result
-
 -- A command's result, where the fault of its log has why the last read of that failed, and the fault of its output why
 -- the last write did.
 abbrev pub explained : Option Error → Option Error → Result Counts Fault → Result Counts Fault
@@ -182,8 +171,9 @@ pub record IsPerformed (w : Environment) (command : Command) (before after : Out
   pub calls : Makes (of_table ++ of_state ++ Opened command.files.log None ∷ Closed log.calls why ∷ []) before.calls
       after.calls
   pub ended : Result Counts Fault
-  pub over : IsPerformedOver command.task (table_bytes table) handed (bytes_named w command.files.log) log before after
-      ended
+  pub over : Performs command.task (unwrap_or table []) handed (with_log (bytes_named w command.files.log) 0 0 before)
+      (with_log log.left log.calls log.failed after) (shelf (save_name command.task) before.kept)
+      (shelf (save_name command.task) after.kept) ended
   pub told : result ≡ explained why after.unwritten ended
 
 -- The state may not be kept under the name that the command has for it, for this, and all is as it was.

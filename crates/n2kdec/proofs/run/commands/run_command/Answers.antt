@@ -28,7 +28,7 @@ returns-in-Ok-read-clause-performs g c =
     let after = seen g.R.Source g.W.Sink g.E.Sink c.run_frames_counted-ended.new.reader c.run_frames_counted-ended.new.writer c.close_whole-in-Ok-read.new.errors in
     let errors = place (g.E.Sink.contents c.run_frames_counted-ended.new.reporter) (g.E.Sink.failed_calls c.run_frames_counted-ended.new.reporter) in
     performs_frames c.args.task.now c.args.table.now _ before after errors c.close_whole-in-Ok-read.result (g.K.StateStore.kept c.args.outlets.now.keeper) c.run_frames_counted-ended.new.counts c.run_frames_counted-ended.result c.close_whole-in-Ok-read.ensures.closes
-    c.in-Frames.interface _ c.in-Ok-read.table c.in-Frames.is c.name_of-name.ensures.same c.in-Ok-read.ensures.sound c.run_frames_counted-ended.ensures.runs
+    c.in-Frames.interface _ c.in-Ok-read.table c.in-Frames.is c.name_of-name.ensures.same c.in-Ok-read.ensures.sound c.run_frames_counted-ended.ensures.runs c.close_whole-in-Ok-read.ensures.begun
 
 pub returns-in-Err-read-clause-performs : goal.returns-in-Err-read-clause-performs
 returns-in-Err-read-clause-performs g c = refused c.args.task.now c.args.table.now _ _ (g.K.StateStore.kept c.args.outlets.now.keeper) c.in-Err-read.fault c.in-Err-read.ensures.stands (λ plain. cc)
