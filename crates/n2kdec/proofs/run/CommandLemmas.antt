@@ -26,7 +26,7 @@ use Rattle.n2k_encode_run.specs.Encodes.{Encodes}
 use Rattle.n2k_run.proofs.Parting.{line_prefixes, told_ok, told_stopped}
 use Rattle.n2k_run.proofs.Running.{known_more}
 use Rattle.n2kdec.specs.CommandLine.Asked.{save_name}
-use Rattle.n2kdec.specs.Run.Commands.{ByTable, ClosesWhole, Decodes, Effect, Ends, EncodesLog, EndsUnlessRefused, IsRefusal, IsSaved, IsStopped, IsUntouched, IsWrittenUnlessFailed, SaveAttempt, Performs, Place, PrintsRest, Replaces, StoreView, SumsUpPart, decode_to, entries_for, frames_effect, no_saving, place, shelf}
+use Rattle.n2kdec.specs.Run.Commands.{ByTable, ClosesWhole, Decodes, Effect, Ends, EndsUnlessRefused, IsRefusal, IsSaved, IsStopped, IsUntouched, IsWrittenUnlessFailed, SaveAttempt, Performs, Place, PrintsRest, Replaces, StoreView, SumsUpPart, decode_to, entries_for, no_saving, place, shelf}
 use Rattle.n2kdec.specs.Fault.{fault_of_run}
 use Rattle.n2kdec.specs.Inner.Closing.{Closes, ClosesPart, IsOfEnd}
 use Rattle.n2kdec.specs.Run.Difference.{Told}

@@ -1,18 +1,14 @@
 -- From what a call leaves to what the program leaves.
 use Rattle.std.proofs.Common.{arith, ◌≡◌, ◌⊎◌, ◌++◌, append_assoc, ℕ, List, [], ◌∷◌, Option, Some, None, Result, Ok, Err, option_map, inl, inr, refl, subst, sym, ◌<◌, ◌≤◌, IfSome, IsErrAnd, IsSome, length, unwrap_or}
-use Rattle.std.specs.declared.alloc.AllocError.{AllocError}
 use Rattle.std.specs.declared.io.Error.{Error}
 use Rattle.clap.specs.Words.{Text}
 use Rattle.n2kdec.specs.CommandLine.Asked.{save_name}
-use Rattle.n2kdec.specs.Run.Commands.{Performs, Place, shelf}
-use Rattle.n2kdec.specs.Fault.Sentence.{SystemWords}
-use Rattle.n2kdec.specs.System.Machine.{Calls, DoesAsked, Hints, IsAdmittedSo, IsNotRead, IsPerformed, IsRead, IsReadBefore, IsUnread, LogAfter, Makes, OutputsView, ReadsFile, ReportsFault, RunsCommand, RunsRequest, Environment, too_large, with_log}
+use Rattle.n2kdec.specs.Run.Commands.{Performs, shelf}
+use Rattle.n2kdec.specs.System.Machine.{Calls, IsAdmittedSo, IsNotRead, IsPerformed, IsRead, IsReadBefore, IsUnread, LogAfter, Makes, OutputsView, ReadsFile, RunsCommand, Environment, too_large, with_log}
 use Rattle.n2k_join.specs.declared.counts.Counts.{Counts}
 use Rattle.n2k_run.specs.Device.{IsWhy}
-use Rattle.n2kdec.specs.Run.Hint.{has_other_form}
-use Rattle.n2kdec.specs.Fault.{exit_status, longest_file, status_of, unopened, unread}
+use Rattle.n2kdec.specs.Fault.{longest_file, unopened, unread}
 use Rattle.n2kdec.specs.System.Disk.{IsOfMemory}
-use Rattle.n2kdec.specs.declared.command_line.asked.ParsedArgs.{ParsedArgs}
 use Rattle.n2kdec.specs.declared.command_line.asked.Command.{Command}
 use Rattle.n2kdec.specs.declared.command_line.asked.Files.{Files}
 use Rattle.n2kdec.specs.declared.command_line.asked.Subcommand.{Subcommand}
@@ -112,14 +108,3 @@ module _ (w : Environment) (command : Command) (o : OutputsView) (used : Calls) 
 pub all_calls : (files : Files) (a b c d e : Calls) (of_table of_state : List FileCall) (reads : ℕ) (why : Option Error) → Makes of_table a b → Makes of_state b c
     → Makes (Opened files.log None ∷ []) c d → Makes (Closed reads why ∷ []) d e → Makes (of_table ++ of_state ++ Opened files.log None ∷ Closed reads why ∷ []) a e
 all_calls files a b c d e of_table of_state reads why table state opened closed = grind (arith, append_assoc)
-
--- a fault of what was typed is reported
-pub reported : (w : Environment) (words : SystemWords) (request : ParsedArgs) (before done : OutputsView) (result : Result Counts Fault) (fault : Fault) (said : Result (Unit {0}) AllocError) (errors : Place) (status : ℕ)
-    → DoesAsked w request before done result → result ≡ Err fault → ReportsFault w words request fault said done.errors errors → status ≡ status_of fault
-    → RunsRequest w words request before (record done { errors = errors }) status said
-reported w words request before done result fault said errors status does is reports answered = grind arith
-
--- a command that came to its end, of which is said what there is to say
-pub ended : (w : Environment) (words : SystemWords) (request : ParsedArgs) (before done : OutputsView) (result : Result Counts Fault) (counts : Counts) (said : Result (Unit {0}) AllocError) (errors : Place) (status : ℕ)
-    → DoesAsked w request before done result → result ≡ Ok counts → Hints w (has_other_form counts) done.errors errors → status ≡ exit_status counts → said ≡ Ok tt → RunsRequest w words request before (record done { errors = errors }) status said
-ended w words request before done result counts said errors status does is hints answered none = grind arith

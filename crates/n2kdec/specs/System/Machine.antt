@@ -20,7 +20,6 @@ use Rattle.n2kdec.specs.System.Disk.{IsOfMemory}
 use Rattle.n2kdec.specs.declared.command_line.asked.ParsedArgs.{ParsedArgs}
 use Rattle.n2kdec.specs.declared.command_line.asked.ParsedArgs.TheVariants as to
 use Rattle.n2kdec.specs.declared.command_line.asked.Command.{Command}
-use Rattle.n2kdec.specs.declared.command_line.asked.Subcommand.{Subcommand}
 use Rattle.n2kdec.specs.declared.command_line.asked.Files.{Files}
 use Rattle.n2kdec.specs.declared.fault.Fault.{Fault}
 use Rattle.n2kdec.specs.declared.fault.Fault.TheVariants.{Words, TableSize, StateSize, Read, Memory, Save, Write}
@@ -294,17 +293,12 @@ Concludes w words request (Err fault) before after status said =
     (status ≡ status_of fault) × ReportsFault w words request fault said before.errors after.errors
     × (after ≡ record before { errors = after.errors })
 
--- what is asked for is done, and the status is that of it
-pub record RunsRequest (w : Environment) (words : SystemWords) (request : ParsedArgs) (before after : OutputsView) (status : ℕ)
-    (said : Result (Unit {0}) AllocError) : Type 0 where
-  pub result : Result Counts Fault
-  pub done : OutputsView
-  pub does : DoesAsked w request before done result
-  pub concludes : Concludes w words request result done after status said
-
--- The program: what was typed is done.
+-- The program: what was typed is done, and the status is that of it.
 pub record RunsTyped (w : Environment) (words : SystemWords) (before after : OutputsView) (status : ℕ)
     (said : Result (Unit {0}) AllocError) : Type 0 where
   pub request : ParsedArgs
   pub asks : AsksFor w request
-  pub runs : RunsRequest w words request before after status said
+  pub result : Result Counts Fault
+  pub done : OutputsView
+  pub does : DoesAsked w request before done result
+  pub concludes : Concludes w words request result done after status said

@@ -6,7 +6,7 @@ ghost use Rattle.clap.specs.Walk.{texts};
 ghost use Rattle.n2kdec.specs.CommandLine.Asked.{save_name};
 ghost use Rattle.n2kdec.specs.Run.Commands.{place};
 ghost use Rattle.n2kdec.specs.System.Machine.{AsksFor, DoesAsked, Hints, IsAdmittedSo, IsOfFile, Makes};
-ghost use Rattle.n2kdec.specs.System.Machine.{Opens, ReadsFile, RunsCommand, RunsRequest, RunsTyped, Shows};
+ghost use Rattle.n2kdec.specs.System.Machine.{Opens, ReadsFile, RunsCommand, RunsTyped, Shows};
 ghost use Rattle.n2kdec.specs.System.Machine.{bytes_named, explained, outside, too_large as too_large_of};
 ghost use Rattle.n2kdec.specs.declared.system.machine.FileCall.{FileCall};
 
@@ -232,34 +232,8 @@ fn say_hint<M: Machine, E: Sink>(machine: &M, counts: &Counts, errors: &mut E)
     }
 }
 
-/// Does what is asked for, reports on it, and returns the exit status. An error
-/// beside it if memory for the sentence of a fault is refused.
-#[tactic(auto, using(crate::proofs::run::MachineLemmas::reported, crate::proofs::run::MachineLemmas::ended))]
-fn run_request<M: Machine, K: StateStore>(
-    alloc: Global,
-    machine: &mut M,
-    request: &ParsedArgs,
-    outlets: &mut OutputStreams<M::Output, M::Errors, K>,
-) -> (ExitCode, Result<(), AllocError>)
-    ensures { RunsRequest (M.world machine.old) M.words request.now
-        (outside M.Output.Sink M.Errors.Sink K.StateStore (M.calls machine.old) outlets.old)
-        (outside M.Output.Sink M.Errors.Sink K.StateStore (M.calls machine.new) outlets.new)
-        (status_of_code result.0) result.1 }
-{
-    match do_request(alloc, machine, request, outlets) {
-        Ok(counts) => {
-            say_hint(machine, &counts, &mut outlets.errors);
-            (ExitCode::from(exit_status(&counts)), Ok(()))
-        }
-        Err(fault) => {
-            let said = write_fault(alloc, machine, request, fault, &mut outlets.errors);
-            (ExitCode::from(status(&fault)), said)
-        }
-    }
-}
-
-/// Does what was typed, and returns the exit status. An error beside it if memory for what is
-/// said of a fault is refused.
+/// Does what was typed, reports on it, and returns the exit status. An error beside it if memory for what is said of a
+/// fault is refused.
 pub fn run<M: Machine, K: StateStore>(
     alloc: Global,
     machine: &mut M,
@@ -271,5 +245,14 @@ pub fn run<M: Machine, K: StateStore>(
         (status_of_code result.0) result.1 }
 {
     let request = typed_request(alloc, machine);
-    run_request(alloc, machine, &request, outlets)
+    match do_request(alloc, machine, &request, outlets) {
+        Ok(counts) => {
+            say_hint(machine, &counts, &mut outlets.errors);
+            (ExitCode::from(exit_status(&counts)), Ok(()))
+        }
+        Err(fault) => {
+            let said = write_fault(alloc, machine, &request, fault, &mut outlets.errors);
+            (ExitCode::from(status(&fault)), said)
+        }
+    }
 }
