@@ -1,5 +1,5 @@
 -- From the run of a command and its closing to what the command leaves.
-use Rattle.std.proofs.Common.{◌≡◌, ◌++◌, true, arith, Bool, ℕ, List, [], Option, None, Some, Ok, Err, Result, IfOk, IfErr, IfSome, inl, subst, sym, append_assoc, refl, false, ◌≢◌, Contains}
+use Rattle.std.proofs.Common.{◌≡◌, ◌++◌, true, arith, ℕ, List, [], Option, None, Some, Ok, Err, Result, IfOk, IfErr, IfSome, inl, subst, sym, append_assoc, refl, false, ◌≢◌, Contains}
 use Rattle.std.proofs.KnownBytes.{Appends-trans}
 use Rattle.std.specs.Io.KnownBytes.{Appends}
 use Rattle.clap.specs.Words.{Text}
@@ -22,7 +22,6 @@ use Rattle.n2k_run.specs.declared.options.Options.{Options}
 use Rattle.n2k_run.specs.declared.part.Part.{Part}
 use Rattle.n2k_run.specs.declared.part.PartFault.{PartFault}
 use Rattle.n2k_run.specs.declared.part.PartFault.TheVariants as part_faults
-use Rattle.n2k_encode_run.specs.Encodes.{Encodes}
 use Rattle.n2k_run.proofs.Parting.{line_prefixes, told_ok, told_stopped}
 use Rattle.n2k_run.proofs.Running.{known_more}
 use Rattle.n2kdec.specs.CommandLine.Asked.{save_name}
@@ -193,14 +192,6 @@ module _ (task : Subcommand) (bytes : List ℕ) (handed : Option (List ℕ)) (be
     pub performs_decode : IsOfEnd t.id o handed ended of → performs_with had has task
     performs_decode of_end = subst (performs_with had has) (sym is) (decoded before after errors bytes o handed (shelf save had) (shelf save has) of ended r read.0 ran_part
         (subst (λ t. IsOfEnd t.id o handed ended of) read.1 of_end) closes)
-
-pub performs_encode : (task : Subcommand) (bytes : List ℕ) (handed : Option (List ℕ)) (before after : Devices) (errors : Place) (r : Result Counts Fault) (had : Option (List SaveAttempt)) (counts : Counts) (ended : Result (Unit {0}) RunFault) (nearest : Bool) (t : TableParts)
-    → task ≡ Encode nearest → (faults bytes ≡ []) × (t ≡ table_of bytes) → Encodes t nearest before (mid before after errors) counts ended → ClosesWhole errors (summed before after errors) counts ended r → IfErr r (λ fault. IsRefusal fault → ⊥)
-    → Performs task bytes handed before after (shelf (save_name task) had) (shelf (save_name task) had) r
-performs_encode task bytes handed before after errors r had counts ended nearest t is read ran closes begun =
-    let runs = subst (λ t. Encodes t nearest before (mid before after errors) counts ended) read.1 ran in
-    subst (λ k. Performs k bytes handed before after (shelf (save_name k) had) (shelf (save_name k) had) r) (sym is)
-    (refl, by_table (faults bytes) before after r _ read.0 begun (record { errors = errors; counts = counts; ended = ended; runs = runs; closes = closes }))
 
 -- the table is refused
 pub refused : (task : Subcommand) (bytes : List ℕ) (handed : Option (List ℕ)) (at : Devices) (had : Option (List SaveAttempt)) (fault : TableFault) → (fault ≢ table_faults.Memory → Contains (faults bytes) fault) → task ≢ Plain
