@@ -270,8 +270,9 @@ fn names_of_values(rt: HostRuntime) -> Result<(), Fail> {
     assert_eq!(rt; names.text_of(1), Some("Magnetic"));
     assert_eq!(rt; names.text_of(3), None);
 
-    assert_eq!(rt; names.value_of("Error"), Some(2));
-    assert_eq!(rt; names.value_of("Grid"), None);
+    assert_eq!(rt; names.value_of("Error", 3), Some(2));
+    assert_eq!(rt; names.value_of("Error", 1), None);
+    assert_eq!(rt; names.value_of("Grid", 3), None);
     Ok(())
 }
 
