@@ -10,6 +10,9 @@ __asm__(".pushsection .rodata\n"
 
 extern const uint8_t own_table[] __attribute__((visibility("hidden"))), own_table_end[] __attribute__((visibility("hidden")));
 
+/* Programs that were compiled before `encode` had 0 there, a reserved byte. */
+_Static_assert(offsetof(struct n2k_settings, encode) == 7 && sizeof(struct n2k_settings) == 32, "settings have their layout");
+
 int32_t proved_n2k_open(const uint8_t *, size_t, bool, const uint8_t *, size_t, const struct n2k_settings *, struct n2k_decoder *);
 int32_t proved_n2k_feed(struct n2k_decoder *, const uint8_t *, size_t);
 int32_t proved_n2k_frame(struct n2k_decoder *, uint32_t, const uint8_t *, size_t, uint64_t, uint32_t);
@@ -73,8 +76,9 @@ uint32_t n2k_version(void) {
 const char *n2k_status_text(int32_t status) {
     static const char *const plain[] = {
         "done", "the room is too small", "memory", "a window has 32 to 1,000,000 lines", "lines", "no decoder is open",
-        "a decoder is open", "the log has ended", "a reserved byte of the settings is not 0",
+        "a decoder is open", "the log has ended", "a reserved byte of the settings is not 0, or encode is over 2",
         "no CAN frame has this identifier, these data or this time", "bytes of an unfinished line wait",
+        "an encoder has no state and takes no frames",
     };
     static const char *const tables[] = {
         "table 1 NotToml", "table 2 Format", "table 3 Key", "table 4 Range", "table 5 Text", "table 6 Twice", "table 7 Lookup",
@@ -84,7 +88,7 @@ const char *n2k_status_text(int32_t status) {
         "state 1 NotJson", "state 2 Format", "state 3 Shape", "state 4 TableDiffers", "state 5 Invalid", "memory",
         "state 7 WindowDiffers",
     };
-    if (status >= 0 && status <= N2K_UNFINISHED) return plain[status];
+    if (status >= 0 && status <= N2K_ENCODER) return plain[status];
     if (status > N2K_TABLE && status <= N2K_TABLE + 9) return tables[status - N2K_TABLE - 1];
     if (status > N2K_STATE && status <= N2K_STATE + 7) return states[status - N2K_STATE - 1];
     return "no status of this version";

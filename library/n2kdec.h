@@ -1,4 +1,4 @@
-/* n2kdec's decoder for programs in C: recorded NMEA 2000 traffic in, a line of JSON for each message out.
+/* n2kdec for programs in C: recorded NMEA 2000 traffic in, a line of JSON for each message out, or the other way round.
 
    A decoder is kept between calls. Feed it the bytes of a log in chunks of any size; an unfinished line waits for its
    rest. Then take what it has printed and reported. All calls together print what `n2kdec decode` prints for the log,
@@ -13,6 +13,16 @@
            ..
        }
        n2k_close(&d);
+
+   An encoder is a decoder that was opened with `encode`. Feed it lines of JSON, in chunks of any size. It prints a plain
+   line for each message, and reports each line that it refuses. All calls together print what `n2kdec encode` prints. An
+   encoder has no state and takes no frames.
+
+       struct n2k_settings settings = {.encode = 1};
+       const char line[] = "{\"pgn\":128267,\"fields\":{\"Depth\":3.4}}\n";
+       status = n2k_open(NULL, 0, false, NULL, 0, &settings, &d);
+       if (status == N2K_DONE) status = n2k_feed(&d, (const uint8_t *)line, sizeof line - 1);
+       if (status == N2K_DONE) status = n2k_next(&d, room, sizeof room, &size);
 
    Rules for the caller:
    - A `struct n2k_decoder` is zeros before its first n2k_open. Only these calls read or write it and what it points to.
@@ -47,16 +57,18 @@ struct n2k_decoder {
     } hold;
 };
 
-/* How to read a log: the options of `n2kdec decode`. */
+/* How to read a log: the options of `n2kdec decode`. An encoder reads only `encode` and `reserved`. */
 struct n2k_settings {
     uint32_t window;      /* --window: 32 to 1,000,000 lines; the program's default is 10,000 */
     bool in_order;        /* --in-order */
     bool empty;           /* --empty */
     bool whole;           /* --whole */
-    uint8_t reserved[25]; /* 0: a later version may give them a meaning; this version refuses other values */
+    uint8_t encode;       /* 0: decode, 1: encode, 2: encode with --nearest; other values are refused */
+    uint8_t reserved[24]; /* 0: a later version may give them a meaning; this version refuses other values */
 };
 
-/* The counts of the summary, for all lines that were taken, including those before a saved state. */
+/* The counts of the summary, for all lines that were taken, including those before a saved state. Those of an encoder are
+   `lines`, `messages` and `bad`; the rest is 0. */
 struct n2k_counted {
     uint64_t lines, messages, bad, unknown, broken, open;
     uint64_t reserved[2]; /* 0 */
@@ -72,21 +84,23 @@ enum n2k_status {
     N2K_CLOSED = 5,   /* no decoder is open */
     N2K_OPEN = 6,     /* a decoder is open */
     N2K_ENDED = 7,    /* the log has ended */
-    N2K_RESERVED = 8, /* a reserved byte of the settings is not 0 */
+    N2K_RESERVED = 8, /* a reserved byte of the settings is not 0, or `encode` is over 2 */
     N2K_FRAME = 9,    /* no CAN frame has this identifier, these data or this time */
     N2K_UNFINISHED = 10, /* bytes of an unfinished line wait: feed its rest first */
+    N2K_ENCODER = 11, /* an encoder has no state and takes no frames */
     N2K_TABLE = 100,  /* plus the number of the fault line, 1 to 9: `n2kdec: table 3 Key` is 103 */
     N2K_STATE = 200   /* plus the number of the fault line, 1 to 7: `n2kdec: state 4 TableDiffers` is 204 */
 };
 
-/* Reads a table and opens a decoder with it. If the table is null, it is the one of n2k_table. If `resumes` is true the
-   decoder continues from this state, otherwise it begins a log. If the call is refused, a decoder that was open is still
-   open. */
+/* Reads a table and opens a decoder, or an encoder, with it. If the table is null, it is the one of n2k_table. If `resumes`
+   is true the decoder continues from this state, otherwise it begins a log; an encoder cannot continue. If the call is
+   refused, a decoder that was open is still open. */
 int32_t n2k_open(const uint8_t *table, size_t table_size, bool resumes, const uint8_t *state, size_t state_size,
                  const struct n2k_settings *settings, struct n2k_decoder *decoder);
 
-/* Feeds more of the log. After N2K_MEMORY and N2K_TOO_MUCH the decoder is closed, and what waited in it is lost. An
-   unfinished line is kept whole until its line feed comes, however long it is: input without line feeds fills the memory. */
+/* Feeds more of the log, or of an encoder's lines of JSON. After N2K_MEMORY and N2K_TOO_MUCH the decoder is closed, and what
+   waited in it is lost. An unfinished line is kept whole until its line feed comes, however long it is: input without line
+   feeds fills the memory. */
 int32_t n2k_feed(struct n2k_decoder *decoder, const uint8_t *bytes, size_t size);
 
 /* Takes one CAN frame: the 29 bits of its identifier (without flags), its data of at most 8 bytes, and its time, seconds
@@ -104,8 +118,8 @@ int32_t n2k_end(struct n2k_decoder *decoder);
 int32_t n2k_take(struct n2k_decoder *decoder, uint8_t *room, size_t room_size, size_t *size);
 int32_t n2k_take_reports(struct n2k_decoder *decoder, uint8_t *room, size_t room_size, size_t *size);
 
-/* Moves the next message of the waiting output to the start of the room: its line of JSON with the line feed. If no message
-   waits, the size is 0. */
+/* Moves the next message of the waiting output to the start of the room: its line of JSON, or the plain line of an encoder,
+   with the line feed. If no message waits, the size is 0. */
 int32_t n2k_next(struct n2k_decoder *decoder, uint8_t *room, size_t room_size, size_t *size);
 
 /* Returns the counts. */

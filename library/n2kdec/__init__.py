@@ -1,9 +1,12 @@
-"""n2kdec's decoder: recorded NMEA 2000 traffic in, messages out.
+"""n2kdec's decoder: recorded NMEA 2000 traffic in, messages out; and its encoder: messages in, frames out.
 
     import n2kdec
 
     for message in n2kdec.decode("trip.log", in_order=True):
         print(message["description"], message["fields"])
+
+    for identifier, data in n2kdec.frames({"pgn": 128267, "fields": {"Depth": 3.4}}):
+        bus.send(can.Message(arbitration_id=identifier, data=data))
 
 A log is what `candump -L` or canboat's readers write, or CAN frames of python-can. A message is one line of JSON of
 `n2kdec decode`, as a dict: `Message` has its members. A number with a point is a float, or with `decimals=True` a Decimal
@@ -30,7 +33,8 @@ from collections.abc import Callable, Iterable, Iterator
 from decimal import Decimal
 from typing import Any, BinaryIO, NamedTuple, Optional, Protocol, TypedDict, Union
 
-__all__ = ["ArgumentError", "CanFrame", "Counts", "Decoder", "Error", "FieldValue", "Message", "decode", "frame"]
+__all__ = ["ArgumentError", "CanFrame", "Counts", "Decoder", "EncodeError", "Encoder", "Error", "FieldValue", "Message", "decode", "encode",
+           "frame", "frames"]
 __version__ = "1.1.0"
 
 #: A number, a name or text, the names of flags, the sets of a message that repeats, or None if the field is absent
@@ -117,7 +121,8 @@ class _Settings(ctypes.Structure):
         ("in_order", ctypes.c_bool),
         ("empty", ctypes.c_bool),
         ("whole", ctypes.c_bool),
-        ("reserved", ctypes.c_uint8 * 25),
+        ("encode", ctypes.c_uint8),
+        ("reserved", ctypes.c_uint8 * 24),
     ]
 
 
@@ -696,3 +701,7 @@ def frame(logs: Union[Name, Iterable[Name]], pgn: int, fields: Optional[Iterable
     """
     from . import _frame
     return _frame.frame(logs, pgn, None if fields is None else list(fields), table, divisions, skip)
+
+
+# These use the names above.
+from ._encode import EncodeError, Encoder, encode, frames  # noqa: E402

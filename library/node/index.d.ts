@@ -48,6 +48,15 @@ export interface Options {
   onReport?: (line: string) => void;
 }
 
+/** A message for `encode`: one that `decode` gave, or its text in JSON, which keeps numbers exact. */
+export type ToEncode = string | (Partial<Message> & Pick<Message, "pgn" | "fields">);
+
+/** The options of `n2kdec encode`; the others are those of Options. */
+export interface EncodeOptions extends Pick<Options, "table" | "program" | "onReport"> {
+  /** Round numbers to the nearest that their fields can show; by default such messages are refused. */
+  nearest?: boolean;
+}
+
 /** The run failed, with the program's status; the message is its last line, for example "n2kdec: table 3 Key". */
 export class N2kdecError extends Error {
   readonly status: number | null;
@@ -59,6 +68,11 @@ export class N2kdecError extends Error {
  * Numbers are those of JavaScript; `lines` gives them exactly.
  */
 export function decode(log: string | AsyncIterable<Uint8Array | string | CanFrame>, options?: Options): AsyncGenerator<Message, void, undefined>;
+
+/**
+ * Gives the plain line of each message, in order. A refused message is reported, as `line 2 bad B17 value "Depth"`, and has none.
+ */
+export function encode(messages: Iterable<ToEncode> | AsyncIterable<ToEncode>, options?: EncodeOptions): AsyncGenerator<string, void, undefined>;
 
 /** As `decode`, with each message as its line of JSON. */
 export function lines(log: string | AsyncIterable<Uint8Array | string | CanFrame>, options?: Options): AsyncGenerator<string, void, undefined>;

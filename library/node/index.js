@@ -48,6 +48,11 @@ async function* textsOf(log) {
   for await (const it of log) yield typeof it === "string" || it instanceof Uint8Array ? it : lineOf(it);
 }
 
+/** The lines of JSON of messages. Within JSON a tab is white space where a line feed is. */
+async function* jsonOf(messages) {
+  for await (const it of messages) yield `${typeof it === "string" ? it.replace(/[\r\n]/g, "\t") : JSON.stringify(it)}\n`;
+}
+
 /** Gives the lines of a stream of text as they come. */
 async function* linesOf(stream) {
   let rest = "";
@@ -60,9 +65,9 @@ async function* linesOf(stream) {
   if (rest) yield rest;
 }
 
-async function* lines(log, options = {}) {
-  const words = argumentsOf(log, options);
-  const child = spawn(options.program ?? "n2kdec", words, { stdio: [typeof log === "string" ? "ignore" : "pipe", "pipe", "pipe"] });
+/** Gives the lines that the program prints for an input, which `toText` turns into text, or without one for a file that it reads. */
+async function* printed(words, input, toText, options) {
+  const child = spawn(options.program ?? "n2kdec", words, { stdio: [input === null ? "ignore" : "pipe", "pipe", "pipe"] });
   const ended = new Promise((resolve, reject) => {
     child.on("error", reject);
     child.on("close", (status, signal) => resolve({ status, signal }));
@@ -77,10 +82,10 @@ async function* lines(log, options = {}) {
     }
   })();
   reports.catch(() => child.kill());
-  // If the program ends first, its own fault tells more than the broken pipe. If reading the log fails, what came before is decoded.
+  // If the program ends first, its own fault tells more than the broken pipe. If the input fails, what came before is printed.
   let fault;
-  if (typeof log !== "string") {
-    pipeline(log, textsOf, child.stdin).catch((error) => {
+  if (input !== null) {
+    pipeline(input, toText, child.stdin).catch((error) => {
       if (error.code !== "EPIPE" && error.code !== "ERR_STREAM_PREMATURE_CLOSE") fault = error;
     });
   }
@@ -98,8 +103,17 @@ async function* lines(log, options = {}) {
   if (signal || status > 1) throw new N2kdecError(signal ? `n2kdec was ended by ${signal}` : last, status);
 }
 
+async function* lines(log, options = {}) {
+  yield* printed(argumentsOf(log, options), typeof log === "string" ? null : log, textsOf, options);
+}
+
 async function* decode(log, options = {}) {
   for await (const line of lines(log, options)) yield JSON.parse(line);
 }
 
-module.exports = { decode, lines, N2kdecError };
+async function* encode(messages, options = {}) {
+  const { table = installedTable(), nearest } = options;
+  yield* printed(["encode", "--table", table, ...(nearest ? ["--nearest"] : [])], messages, jsonOf, options);
+}
+
+module.exports = { decode, encode, lines, N2kdecError };

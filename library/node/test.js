@@ -7,7 +7,7 @@ const { createReadStream, readFileSync } = require("node:fs");
 const { join } = require("node:path");
 const { Readable } = require("node:stream");
 const { test } = require("node:test");
-const { decode, lines, N2kdecError } = require("./index.js");
+const { decode, encode, lines, N2kdecError } = require("./index.js");
 
 const root = join(__dirname, "../..");
 const program = process.env.N2KDEC_PROGRAM;
@@ -54,6 +54,19 @@ test("frames print what their lines print", async () => {
 test("messages are objects", async () => {
   const depths = (await all(decode(trip, { table, program, inOrder: true }))).filter((it) => it.pgn === 128267);
   assert.deepStrictEqual(depths.map((it) => [it.timestamp, it.fields.Depth]), [["2025-07-04T06:00:00.160Z", 3.42], ["2025-07-04T06:00:00.660Z", 4.22]]);
+});
+
+test("messages become plain lines or are reported", async () => {
+  const reports = [];
+  const onReport = (line) => reports.push(line);
+  const messages = [{ pgn: 127250, fields: { Heading: 1.5708, Reference: "Magnetic" } }, { pgn: 128267, fields: { Depth: 3.401 } }, '{"pgn":128267,"src":5,"fields":{"SID":1,"Depth":3.40,"Offset":-0.5}}'];
+  const [heading, depth] = ["1970-01-01T00:00:00.000Z,6,127250,0,255,8,ff,5c,3d,ff,7f,ff,7f,fd", "1970-01-01T00:00:00.000Z,6,128267,5,255,8,01,54,01,00,00,0c,fe,ff"];
+  assert.deepStrictEqual(await all(encode(messages, { table, program, onReport })), [heading, depth]);
+  assert.deepStrictEqual(reports, ['line 2 bad B17 value "Depth"', "lines 3 messages 2 bad 1 unknown 0 broken 0 open 0"]);
+  assert.deepStrictEqual(await all(encode(messages.slice(1, 2), { table, program, nearest: true })), ["1970-01-01T00:00:00.000Z,6,128267,0,255,8,ff,54,01,00,00,ff,7f,ff"]);
+  const decoded = await all(decode(trip, { table, program }));
+  assert.deepStrictEqual(await all(decode(Readable.from(encode(decoded, { table, program })).map((line) => `${line}\n`), { table, program, whole: true })), decoded);
+  await assert.rejects(all(encode([{ pgn: 1n, fields: {} }], { table, program })), TypeError);
 });
 
 test("a fault is an error with the words of the program", async () => {

@@ -3,7 +3,7 @@
 
 int main() {
     n2k_decoder decoder = {};
-    const n2k_settings settings = {10000, true, false, false, {}};
+    const n2k_settings settings = {10000, true, false, false, 0, {}};
     const char table[] = "format = 1\n";
     const auto bytes = reinterpret_cast<const uint8_t *>(table);
     const int32_t status = n2k_open(bytes, sizeof table - 1, false, nullptr, 0, &settings, &decoder);

@@ -84,8 +84,13 @@ static void refused_settings(struct text table) {
     struct n2k_decoder d = {0};
     for (size_t at = 0; at < sizeof usual.reserved; at++) {
         struct n2k_settings settings = usual;
-        settings.reserved[at] = (uint8_t)(1 << at % 8);
+        settings.reserved[at] = (uint8_t)(1 << at % 8), settings.encode = at % 3;
         want(N2K_RESERVED, open_with(&d, table, NULL, &settings), "open with a setting that it does not know");
+        stays_closed(&d);
+    }
+    for (int encode = 3; encode <= UINT8_MAX; encode++) {
+        struct n2k_settings settings = {.window = 10000, .encode = (uint8_t)encode};
+        want(N2K_RESERVED, open_with(&d, table, NULL, &settings), "open with another value of encode");
         stays_closed(&d);
     }
 }
@@ -96,14 +101,15 @@ static void texts(void) {
         int32_t status;
         const char *text;
     } wanted[] = {
-        {N2K_DONE, "done"},  {N2K_MEMORY, "memory"},        {N2K_RESERVED, "a reserved byte of the settings is not 0"},
+        {N2K_DONE, "done"},  {N2K_MEMORY, "memory"},        {N2K_RESERVED, "a reserved byte of the settings is not 0, or encode is over 2"},
         {101, "table 1 NotToml"}, {109, "table 9 TooMany"}, {201, "state 1 NotJson"},
         {206, "memory"},     {207, "state 7 WindowDiffers"}, {N2K_UNFINISHED, "bytes of an unfinished line wait"},
+        {N2K_ENCODER, "an encoder has no state and takes no frames"},
     };
     for (size_t at = 0; at < sizeof wanted / sizeof *wanted; at++)
         if (strcmp(n2k_status_text(wanted[at].status), wanted[at].text) != 0) fail("another text of status", wanted[at].status);
     for (int32_t status = -300; status < 300; status++) {
-        bool is_one = (status >= 0 && status <= 10) || (status > 100 && status < 110) || (status > 200 && status < 208);
+        bool is_one = (status >= 0 && status <= 11) || (status > 100 && status < 110) || (status > 200 && status < 208);
         if (is_one == (strcmp(n2k_status_text(status), "no status of this version") == 0)) fail("a text of status", status);
     }
     if (n2k_version() != N2KDEC_VERSION) fail("the library has version", (long)n2k_version());
@@ -218,6 +224,71 @@ static void own_table(void) {
     n2k_close(&d);
 }
 
+// Feeds a text, one byte at a time.
+static void feed_text(struct n2k_decoder *d, const char *text) {
+    for (; *text != 0; text++) want(N2K_DONE, n2k_feed(d, (const uint8_t *)text, 1), "feed of a byte to an encoder");
+}
+
+static void want_text(struct text *got, const char *wanted) {
+    if (got->size != strlen(wanted) || memcmp(got->bytes, wanted, got->size) != 0) {
+        fwrite(got->bytes, 1, got->size, stderr);
+        fail(wanted, (long)got->size);
+    }
+    free(got->bytes);
+    *got = (struct text){0};
+}
+
+// A call that only a decoder has changes nothing in an encoder.
+static void refused_by_an_encoder(struct n2k_decoder *d) {
+    uint8_t room[9] = {0};
+    size_t size = 12345;
+    want(N2K_ENCODER, n2k_frame(d, 0x09F80203, room, 8, 1, 0), "frame of an encoder");
+    want(N2K_ENCODER, n2k_save(d, room, sizeof room, &size), "save of an encoder");
+    if (size != 12345 || room[0] != 0) fail("save of an encoder wrote", (long)size);
+}
+
+// An encoder reads no other setting, has no state and takes no frames. A rate counts 0.00000003125: 163,083 (0b 7d 02 00) is
+// 0.00509634375, and 0.00000004 is 1.28.
+static void encoder(struct text table) {
+    static const char begin[] = "{\"pgn\":127251,\"src\":36,\"fields\":{\"SID\":125,\"Rate\":0.005";
+    struct n2k_settings settings = {.window = 1, .in_order = true, .empty = true, .whole = true, .encode = 1};
+    struct n2k_decoder d = {0};
+    struct text printed = {0}, reported = {0}, state = {0};
+    struct n2k_counted counted;
+    size_t size;
+    want(N2K_ENCODER, open_with(&d, table, &state, &settings), "open of an encoder with a state");
+    stays_closed(&d);
+    for (; settings.encode <= 2; settings.encode++) {
+        want(N2K_DONE, open_with(&d, table, NULL, &settings), "open of an encoder");
+        want(N2K_OPEN, open_with(&d, table, NULL, &settings), "open of one that is open");
+        refused_by_an_encoder(&d);
+        feed_text(&d, "# a comment\n\n");
+        feed_text(&d, begin);
+        refused_by_an_encoder(&d);
+        want(N2K_DONE, n2k_waiting(&d, &size), "waiting");
+        if (size != strlen(begin)) fail("other bytes wait", (long)size);
+        want(N2K_DONE, n2k_take(&d, NULL, 0, &size), "take of nothing");
+        feed_text(&d, "09634375}}\n{\"pgn\":127251,\"fields\":{\"Rate\":0.00000004}}\r\n[]\n");
+        take_in_small_rooms(&d, n2k_next, &printed);
+        want_text(&printed, "1970-01-01T00:00:00.000Z,6,127251,36,255,8,7d,0b,7d,02,00,ff,ff,ff\n");
+        take_in_small_rooms(&d, n2k_take, &printed);
+        take_in_small_rooms(&d, n2k_take_reports, &reported);
+        want_text(&printed, settings.encode == 1 ? "" : "1970-01-01T00:00:00.000Z,6,127251,0,255,8,ff,01,00,00,00,ff,ff,ff\n");
+        want_text(&reported, settings.encode == 1 ? "line 4 bad B17 value \"Rate\"\nline 5 bad B13 json\n" : "line 5 bad B13 json\n");
+        feed_text(&d, "{\"pgn\":1,\"fields\":{}}");
+        want(N2K_DONE, n2k_end(&d), "end of an encoder");
+        want(N2K_ENDED, n2k_end(&d), "end of an ended encoder");
+        want(N2K_ENDED, n2k_feed(&d, (const uint8_t *)"x", 1), "feed of an ended encoder");
+        take_in_small_rooms(&d, n2k_take_reports, &reported);
+        want_text(&reported, "line 6 bad B8 unknown\n");
+        want(N2K_DONE, n2k_counts(&d, &counted), "counts of an encoder");
+        if (counted.lines != 6 || counted.messages != settings.encode || counted.messages + counted.bad != 4) fail("other counts", (long)counted.bad);
+        if (counted.unknown || counted.broken || counted.open || counted.reserved[0] || counted.reserved[1]) fail("counts of a decoder", (long)counted.open);
+        n2k_close(&d);
+        stays_closed(&d);
+    }
+}
+
 int main(int count, char **words) {
     if (count != 5) return 2;
     struct text table = file(words[1]), log = file(words[2]), output = file(words[3]), errors = file(words[4]);
@@ -231,6 +302,7 @@ int main(int count, char **words) {
     refused_tables(table);
     too_much(table);
     own_table();
+    encoder(table);
     want(N2K_DONE, open_with(&d, table, NULL, &usual), "open");
     for (size_t at = 0; at < log.size; at++) {
         if (log.bytes[at] != '\n') continue;

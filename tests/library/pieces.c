@@ -5,7 +5,7 @@
 //     pieces CALLS SEED TABLE LOG OUTPUT ERRORS STATE WINDOW OPTIONS [THREADS]
 //
 // OUTPUT, ERRORS and STATE are the program's for that log; OPTIONS has the letters o (in order), e (empty) and w
-// (whole), in any order. The log is fed repeatedly until CALLS calls were made. The chunks of one decoder have 1 byte
+// (whole), or for an encoder j (JSON) or n (nearest), in any order. An encoder has no frames and no state. The log is fed repeatedly until CALLS calls were made. The chunks of one decoder have 1 byte
 // up to a limit, which is a power of 2 up to 64 KiB. With THREADS, twice as many decoders go from thread to thread: a
 // thread takes one, under a mutex, makes a few calls, and puts it back.
 #include "texts.h"
@@ -139,14 +139,15 @@ static void go_on(struct run *run) {
 
 // Begins at the line that the decoder has not taken, and chooses after how many lines it is saved.
 static void begin(struct run *run) {
-    run->at = run->start, run->lines = 0, run->wanted = 1 + below(run, 40), run->most = (size_t)1 << below(run, 17);
+    run->at = run->start, run->lines = 0, run->most = (size_t)1 << below(run, 17);
+    run->wanted = settings.encode ? SIZE_MAX : 1 + below(run, 40);
 }
 
 // Feeds a chunk or a frame, and takes its results. The lines of the chunks are counted, so that a decoder resumes from
 // a state only after at least one line: the line cut there is fed again, and a long line would otherwise never be
 // passed.
 static void step(struct run *run) {
-    size_t at = run->at, size = at == run->start && below(run, 2) ? feed_frame(run, at) : 0;
+    size_t at = run->at, size = at == run->start && !settings.encode && below(run, 2) ? feed_frame(run, at) : 0;
     if (size == 0) {
         size = 1 + below(run, run->most);
         if (size > log_text.size - at) size = log_text.size - at;
@@ -184,7 +185,7 @@ static void finish(struct run *run) {
     if (status != N2K_DONE) fail("end", status);
     is_cut(run, 0);
     take_both(run);
-    take(run, n2k_save, &state);
+    if (!settings.encode) take(run, n2k_save, &state);
     status = n2k_counts(&run->decoder, &counted);
     if (status != N2K_DONE) fail("counts", status);
     append_summary(&run->reported, &counted);
@@ -192,7 +193,7 @@ static void finish(struct run *run) {
     close_decoder(run);
     if (!same(run->printed, output)) fail("another output", run->calls);
     if (!same(run->reported, errors)) fail("other reports or counts", run->calls);
-    if (!same(state, end)) fail("another state", run->calls);
+    if (!settings.encode && !same(state, end)) fail("another state", run->calls);
     free(run->printed.bytes), free(run->reported.bytes), free(state.bytes);
 }
 
@@ -246,6 +247,7 @@ int main(int count, char **words) {
     table = file(words[3]), log_text = file(words[4]), output = file(words[5]), errors = file(words[6]), end = file(words[7]);
     settings.window = (uint32_t)atol(words[8]), settings.in_order = strchr(words[9], 'o') != NULL;
     settings.empty = strchr(words[9], 'e') != NULL, settings.whole = strchr(words[9], 'w') != NULL;
+    settings.encode = strchr(words[9], 'j') != NULL ? 1 : strchr(words[9], 'n') != NULL ? 2 : 0;
     size_t threads = count == 11 ? (size_t)atol(words[10]) : 0;
     pthread_t *others = calloc(threads + 1, sizeof *others);
     ring_size = threads == 0 ? 1 : 2 * threads, ring = calloc(ring_size, sizeof *ring);

@@ -2,10 +2,12 @@
 import ast
 import asyncio
 import collections
+import collections.abc
 import concurrent.futures
 import contextlib
 import copy
 import dis
+import enum
 import gc
 import hashlib
 import io
@@ -23,12 +25,14 @@ import tempfile
 import threading
 import time
 import unittest
+import unittest.mock
 import warnings
 from decimal import Decimal
 
 import n2kdec
 
 ROOT = pathlib.Path(__file__).resolve().parents[2]
+sys.path.append(str(ROOT / "tests/random"))
 PROGRAM = os.environ["N2KDEC_PROGRAM"]
 TABLE, TRIP = ROOT / "tables/n2k.toml", ROOT / "examples/trip.log"
 SAMPLE = ROOT / "examples/sample.toml"
@@ -651,13 +655,13 @@ class Interrupts(unittest.TestCase):
         self.reports = wanted.stderr.decode().splitlines()[:-1]
 
     @staticmethod
-    def is_interrupted(number, run):
+    def is_interrupted(number, run, file=n2kdec.__file__):
         """Runs a function with KeyboardInterrupt before the instruction of this number; False if it has fewer."""
         count = 0
 
         def trace(frame, event, _):
             nonlocal count
-            if frame.f_code.co_filename != n2kdec.__file__:
+            if frame.f_code.co_filename != file:
                 return None
             frame.f_trace_opcodes, frame.f_trace_lines = True, False
             # Python 3.11 and later run no handler before a function returns: its result has been passed on by then.
@@ -772,6 +776,260 @@ class Ended(unittest.TestCase):
                 messages += decoder.decode(log[cut:])
                 self.assertTrue(decoder.ended)
                 self.assertEqual((messages, list(decoder.decode())), (wanted, []))
+
+
+class Encoding(unittest.TestCase):
+    """Expected bytes are those of the examples in the rules, made by hand."""
+
+    HEADING = {"pgn": 127250, "fields": {"Heading": 1.5708, "Reference": "Magnetic"}}
+    DEPTH = {"pgn": 128267, "src": 5, "fields": {"SID": 1, "Depth": 3.4, "Offset": -0.5}}
+
+    @staticmethod
+    def depth(value):
+        return {"pgn": 128267, "fields": {"Depth": value}}
+
+    def refused(self, message, text, **options):
+        with self.assertRaises(n2kdec.EncodeError) as caught:
+            n2kdec.encode(message, **options)
+        error = pickle.loads(pickle.dumps(caught.exception))
+        code, word, *name = text.split(" ", 2)
+        self.assertEqual((str(error), error.code, error.word, error.field), (text, code, word, json.loads(name[0]) if name else None))
+        self.assertTrue(isinstance(error, ValueError) and isinstance(error, n2kdec.Error))
+        with self.assertRaises(n2kdec.EncodeError):
+            n2kdec.frames(message, **options)
+
+    def test_worked_examples(self):
+        self.assertEqual(n2kdec.encode(self.HEADING), "1970-01-01T00:00:00.000Z,6,127250,0,255,8,ff,5c,3d,ff,7f,ff,7f,fd")
+        self.assertEqual(n2kdec.encode(self.DEPTH, TABLE), "1970-01-01T00:00:00.000Z,6,128267,5,255,8,01,54,01,00,00,0c,fe,ff")
+        # Priority 6, PGN 127250 (1F112) and 128267 (1F50B).
+        self.assertEqual(n2kdec.frames(self.HEADING), [(0x19F11200, bytes.fromhex("ff5c3dff7fff7ffd"))])
+        self.assertEqual(n2kdec.frames(self.DEPTH), [(0x19F50B05, bytes.fromhex("01540100000cfeff"))])
+        self.refused(self.depth(3.401), 'B17 value "Depth"')
+        self.refused({"pgn": 128267, "fields": {"Dept": 3.4}}, 'B16 field "Dept"')
+        self.refused({"pgn": 127250, "fields": {"Heading": 6.5535}}, 'B17 value "Heading"')
+        nearest = n2kdec.Encoder(nearest=True)
+        self.assertEqual((nearest.encode(self.depth(3.401)), n2kdec.encode(self.depth(3.401), nearest=True)), 2 * (n2kdec.encode(self.depth(3.4)),))
+        stamped = {**self.HEADING, "timestamp": "2026-01-02T03:04:05.678Z", "prio": 2, "dst": 255, "description": "Vessel Heading"}
+        self.assertEqual(n2kdec.encode(stamped), "2026-01-02T03:04:05.678Z,2,127250,0,255,8,ff,5c,3d,ff,7f,ff,7f,fd")
+
+    def test_each_refusal(self):
+        text = json.dumps(self.DEPTH)
+        self.refused(text + 65_536 * "x", "B1 long")
+        for wrong in ("[]", "", "  ", "\n", "\r", "# comment", "{", b"\xff", "\ud800", '{"pgn":1,"pgn":1}', f"{text}\n{text}", '{"a\nb":1}', '"a\rb"'):
+            self.refused(wrong, "B13 json")
+        for fields in ({"\ud800": 1}, {"Depth": "\ud800"}):
+            self.refused({"pgn": 128267, "fields": fields}, "B13 json")
+        for wrong in ({}, {"pgn": 128267}, {"fields": {}}, {**self.DEPTH, "source": 1}, {**self.DEPTH, "prio": 8}, {**self.DEPTH, "src": True},
+                      {**self.DEPTH, "timestamp": "1,2"}, {**self.DEPTH, "pgn": 131072}):
+            self.refused(wrong, "B14 member")
+        self.refused({"pgn": 1, "fields": {}}, "B8 unknown")
+        self.refused({**self.DEPTH, "dst": 9}, "B12 address")
+        self.refused({**self.DEPTH, "description": "Depth"}, "B15 description")
+        self.refused({"pgn": 128267, "fields": {'a" é\n': 1}}, 'B16 field "a\\" é\\n"')
+        for wrong in (True, "3.4", [3.4], {"a": 3.4}, -1, 1e300, Decimal("1E+999999"), 3.401, Decimal("3.4000000000000000000001")):
+            self.refused(self.depth(wrong), 'B17 value "Depth"')
+        self.refused({"pgn": 128267, "description": "Unmatched", "fields": {"Data": "00 " * 8 + "00"}}, "B9 size")
+        self.refused({"pgn": 128267, "description": "Unmatched", "fields": {"Data": "00"}}, 'B18 data "Data"')
+
+    def test_numbers_are_those_of_python(self):
+        class Half(float):
+            def __repr__(self):
+                return "half"
+
+        wanted = n2kdec.encode('{"pgn":128267,"fields":{"Depth":340e-2}}')
+        for number in (3.4, Decimal("3.4"), Decimal("3.40"), Decimal("34E-1"), Half(3.4)):
+            self.assertEqual(n2kdec.encode(self.depth(number)), wanted)
+        for number in (3, Decimal(3), Decimal("3E0"), 3.0, Decimal("0.3E+1"), enum.IntEnum("Depth", {"three": 3}).three):
+            self.assertEqual(n2kdec.encode(self.depth(number)), n2kdec.encode('{"pgn":128267,"fields":{"Depth":3.00}}'))
+        self.assertEqual(n2kdec.encode(self.depth(-0.0)), n2kdec.encode(self.depth(0)))
+        # 1e-05 and 1e+16 of `repr`.
+        self.refused(self.depth(0.00001), 'B17 value "Depth"')
+        self.refused(self.depth(1e16), 'B17 value "Depth"')
+        self.assertEqual(n2kdec.encode(self.depth(0.00001), nearest=True), n2kdec.encode(self.depth(0)))
+        # 64 bits: the greatest value that is shown, and a float that has lost its last digits.
+        table = b'format = 1\n[[pgn]]\nnumber = 127251\nkind = "single"\ndescription = "x"\nfields = [{ name = "N", kind = "number", at = 0, bits = 64 }]\n'
+        encoder = n2kdec.Encoder(table)
+        for number in (2**64 - 3, Decimal(2**64 - 3)):
+            self.assertEqual(encoder.encode({"pgn": 127251, "fields": {"N": number}}).split(",", 6)[6], "fd,ff,ff,ff,ff,ff,ff,ff")
+        with self.assertRaisesRegex(n2kdec.EncodeError, '^B17 value "N"$'):
+            encoder.encode({"pgn": 127251, "fields": {"N": float(2**64 - 3)}})
+
+    def test_what_is_no_json(self):
+        for wrong in (float("nan"), float("inf"), -float("inf"), Decimal("NaN"), Decimal("sNaN"), Decimal("-Infinity")):
+            for value in (wrong, [wrong], {"a": wrong}):
+                with self.assertRaisesRegex(ValueError, "leave the field out") as caught:
+                    n2kdec.encode(self.depth(value))
+                self.assertNotIsInstance(caught.exception, n2kdec.EncodeError)
+        for wrong in (b"\1\2", bytearray(1), {1}, object(), 1j):
+            with self.assertRaisesRegex(TypeError, type(wrong).__name__):
+                n2kdec.encode(self.depth(wrong))
+        for wrong in ({1: 2}, {b"Depth": 3.4}, {None: 1}):
+            with self.assertRaisesRegex(TypeError, "the name of a field is a str"):
+                n2kdec.encode({"pgn": 128267, "fields": wrong})
+        for wrong in (None, 1, [("pgn", 128267)]):
+            with self.assertRaisesRegex(TypeError, "a message is a dict or JSON text"):
+                n2kdec.encode(wrong)
+        for wrong in (-1, 8):
+            with self.assertRaisesRegex(ValueError, "a sequence is 0 to 7"):
+                n2kdec.frames(self.DEPTH, sequence=wrong)
+
+    def test_kinds_of_messages(self):
+        """Any mapping, and JSON text in several lines."""
+        class Mapping(collections.abc.Mapping):
+            def __getitem__(self, name):
+                return Encoding.DEPTH[name]
+
+            def __iter__(self):
+                return iter(Encoding.DEPTH)
+
+            def __len__(self):
+                return len(Encoding.DEPTH)
+
+        wanted, text = n2kdec.encode(self.DEPTH), json.dumps(self.DEPTH, indent=1)
+        for message in (Mapping(), text, f"\r\n{text}\n\n", text.replace("\n", "\r\n"), text.encode(), bytearray(text.encode()), memoryview(text.encode())):
+            self.assertEqual(n2kdec.encode(message), wanted)
+        self.assertEqual(n2kdec.encode({**self.DEPTH, "fields": {**self.DEPTH["fields"], "Range": None}}), wanted)
+
+    def test_what_decode_gives_becomes_the_same_again(self):
+        for options in ({}, {"decimals": True}, {"empty": True}):
+            for message in n2kdec.decode(TRIP, in_order=True, **options):
+                [again] = n2kdec.decode(n2kdec.encode(message).encode(), whole=True, **options)
+                self.assertEqual(again, message)
+        plain = b"2011-11-24-22:42:04.388,2,127251,36,255,8,7d,0b,7d,02,00,ff,ff,ff"
+        [message] = n2kdec.decode(plain, table=SAMPLE)
+        self.assertEqual(n2kdec.encode(message, SAMPLE), plain.decode())
+
+    def test_frames_of_a_fast_packet(self):
+        """A product of 20 bytes: the total 14, then six and seven bytes a frame; each message has the next sequence."""
+        table = (b'format = 3\n[[pgn]]\nnumber = 130820\nkind = "fast"\ndescription = "x"\nfields = [{ name = "T", kind = "text", at = 0, bits = 160, short = true }]\n'
+                 b'[[pgn]]\nnumber = 126208\nkind = "fast"\ndescription = "y"\nfields = [{ name = "B", kind = "bytes", at = 0, bits = 64, short = true }]\n')
+        encoder, message = n2kdec.Encoder(table), {"pgn": 130820, "src": 4, "prio": 7, "fields": {"T": "ABCDEFGHIJKLMNOPQRST"}}
+        for sequence in (*range(8), 0):
+            first = 32 * sequence
+            wanted = [(0x1DFF0404, bytes([first]) + b"\x14ABCDEF"), (0x1DFF0404, bytes([first + 1]) + b"GHIJKLM"), (0x1DFF0404, bytes([first + 2]) + b"NOPQRST")]
+            self.assertEqual(encoder.frames(message), wanted)
+            self.assertEqual(n2kdec.frames(message, table, sequence=sequence), wanted)
+            self.assertEqual(encoder.frames(message, sequence=sequence), wanted)
+        self.assertEqual(n2kdec.frames(message, table)[0][1][0], 0)
+        # Another source begins at 0, and so does another destination, 17, in the place of the low byte of 126208 (1ED00).
+        self.assertEqual(encoder.frames({**message, "src": 5})[0], (0x1DFF0405, b"\0\x14ABCDEF"))
+        for dst, count, data in ((255, 1, "0006010203040506"), (17, 2, "0007010203040506"), (17, 2, "2008010203040506")):
+            its = bytes(range(1, int(data[2:4]) + 1)).hex(" ")
+            found = encoder.frames({"pgn": 126208, "dst": dst, "fields": {"B": its}})
+            self.assertEqual((len(found), found[0]), (count, (0x19ED0000 | dst << 8, bytes.fromhex(data))))
+
+    def test_frames_without_data(self):
+        of = '[[pgn]]\nnumber = {}\nkind = "{}"\ndescription = "x"\nfields = [{{ name = "A", kind = "number", at = 0, bits = 8, match = 1 }}]\n'
+        encoder = n2kdec.Encoder(f"format = 1\n{of.format(130820, 'fast')}{of.format(130821, 'single')}".encode())
+        for pgn, data in ((130820, "0000ffffffffffff"), (130821, ""), (130820, "2000ffffffffffff")):
+            found = encoder.frames({"pgn": pgn, "description": "Unmatched", "fields": {"Data": ""}})
+            self.assertEqual(found, [(6 << 26 | pgn << 8, bytes.fromhex(data))])
+
+    def random_lines(self, count):
+        """Lines of JSON that the program prints of random messages of the shipped table."""
+        import encoded_again
+        import tomllib
+        chance, definitions = random.Random(109), tomllib.loads(TABLE.read_text(encoding="utf-8"))["pgn"]
+        plain = []
+        for definition in chance.choices(definitions, k=count):
+            pgn = definition["number"]
+            dst = 255 if pgn >> 8 & 255 >= 240 else chance.randrange(256)
+            plain.append(encoded_again.plain(chance, pgn, dst, encoded_again.data_of(chance, definition)))
+        printed = program("decode", "--whole", "--table", TABLE, log="".join(f"{it}\n" for it in plain).encode()).stdout
+        return printed.decode().split("\n")[:-1]
+
+    @unittest.skipIf(sys.version_info < (3, 11), "tests/random needs Python 3.11")
+    def test_random_messages(self):
+        """The lines, reports and frames of the program, and the same messages again."""
+        lines = self.random_lines(5000)
+        wanted = program("encode", "--table", TABLE, log="".join(f"{it}\n" for it in lines).encode())
+        plain = wanted.stdout.decode().splitlines()
+        self.assertEqual((len(lines), wanted.stderr.decode()), (len(plain), f"lines {len(lines)} messages {len(lines)} bad 0 unknown 0 broken 0 open 0\n"))
+        encoder = n2kdec.Encoder()
+        self.assertEqual([encoder.encode(it) for it in lines], plain)
+        self.assertEqual([encoder.encode(json.loads(it, parse_float=Decimal)) for it in lines], plain)
+        self.assertEqual([encoder.encode(it) for it in n2kdec.decode(wanted.stdout, whole=True, decimals=True)], plain)
+        frames = [f"{identifier:08X}#{data.hex().upper()}" for it in lines for identifier, data in encoder.frames(it)]
+        by_program = program("frames", "--candump", "can0", "--table", TABLE, log=wanted.stdout).stdout.decode().splitlines()
+        self.assertEqual(frames, [it.split(" ")[2] for it in by_program])
+
+    def test_threads(self):
+        """Eight threads call an encoder, and the functions, at once: refusals and lines are those of their own messages."""
+        encoder, interval = n2kdec.Encoder(), sys.getswitchinterval()
+        self.addCleanup(sys.setswitchinterval, interval)
+        sys.setswitchinterval(1e-5)
+        depths = [Decimal(it) / 1000 for it in range(400)]
+
+        def encoded(call, depth):
+            try:
+                return call(self.depth(depth))
+            except n2kdec.EncodeError as error:
+                return str(error)
+
+        wanted = [f"1970-01-01T00:00:00.000Z,6,128267,0,255,8,ff,{it // 10:02x},00,00,00,ff,7f,ff" if it % 10 == 0 else 'B17 value "Depth"'
+                  for it in range(400)]
+        with concurrent.futures.ThreadPoolExecutor(8) as pool:
+            for call in (encoder.encode, n2kdec.encode):
+                for found in [pool.submit(lambda: [encoded(call, it) for it in depths]) for _ in range(16)]:
+                    self.assertEqual(found.result(), wanted)
+            message = {"pgn": 126996, "fields": {"Model ID": "x"}}
+            sequences = list(pool.map(lambda _: encoder.frames(message)[0][1][0] >> 5, range(800)))
+            self.assertEqual(collections.Counter(sequences), dict.fromkeys(range(8), 100))
+
+    def test_a_table_that_changes_is_read_again(self):
+        with tempfile.TemporaryDirectory() as folder:
+            table = pathlib.Path(folder, "table.toml")
+            for resolution, data in (("0.01", "54"), ("0.02", "aa"), ("0.1", "22")):
+                table.write_text('format = 1\n[[pgn]]\nnumber = 128267\nkind = "single"\ndescription = "x"\n'
+                                 f'fields = [{{ name = "Depth", kind = "number", at = 0, bits = 32, resolution = "{resolution}" }}]\n', encoding="utf-8")
+                for name in (table, str(table), os.path.relpath(table)):
+                    self.assertEqual(n2kdec.encode(self.depth(3.4), name).split(",")[6], data)
+            table.write_bytes(b"[")
+            with self.assertRaisesRegex(n2kdec.ArgumentError, "table 1 NotToml"):
+                n2kdec.encode(self.DEPTH, table)
+            with self.assertRaises(FileNotFoundError):
+                n2kdec.encode(self.DEPTH, folder + "/none")
+        for wrong in (b"[", b"format = 9\n"):
+            with self.assertRaises(n2kdec.ArgumentError):
+                n2kdec.Encoder(wrong)
+
+    def test_few_tables_stay_in_memory(self):
+        table = SAMPLE.read_bytes()
+        closed, gone = [], n2kdec._encode._Coder.__del__
+        with unittest.mock.patch.object(n2kdec._encode._Coder, "__del__", lambda it: (closed.append(it), gone(it))):
+            for number in range(20):
+                with self.assertRaises(n2kdec.EncodeError):
+                    n2kdec.encode(self.DEPTH, table + b"# %d\n" % number)
+            self.assertGreaterEqual(len(closed), 16)
+            self.assertFalse(any(it._handle.live for it in closed))
+
+    def test_an_interrupted_call_leaves_no_line_behind(self):
+        encoder, number = n2kdec.Encoder(SAMPLE), 0
+        message = {"pgn": 127251, "src": 36, "fields": {"SID": 125, "Rate": 0.00509634375}}
+        wanted, other = encoder.encode(message), encoder.encode({**message, "src": 37})
+        while Interrupts.is_interrupted(number := number + 1, lambda: encoder.encode({**message, "src": 37}), n2kdec._encode.__file__):
+            self.assertEqual(encoder.encode(message), wanted)
+        self.assertGreater(number, 100)
+        self.assertEqual(encoder.encode({**message, "src": 37}), other)
+
+    def test_python_can_sends_it(self):
+        with warnings.catch_warnings():
+            warnings.simplefilter("ignore")
+            try:
+                import can
+            except ImportError:
+                print("left out for want of python3-can: frames sent to its bus", file=sys.stderr)
+                return
+        product = {"pgn": 126996, "src": 9, "fields": {"Model ID": "A model", "Product Code": 7}}
+        encoder = n2kdec.Encoder()
+        with can.Bus("n2kdec", interface="virtual") as bus, can.Bus("n2kdec", interface="virtual") as other:
+            for message in (self.HEADING, product, self.DEPTH, product):
+                for identifier, data in encoder.frames(message):
+                    bus.send(can.Message(arbitration_id=identifier, data=data))
+            received = [other.recv(10) for _ in range(2 + 2 * 20)]
+        messages = list(n2kdec.decode(received, in_order=True))
+        self.assertEqual([(it["pgn"], it["src"], it["fields"]) for it in messages],
+                         [(it["pgn"], it.get("src", 0), it["fields"]) for it in (self.HEADING, product, self.DEPTH, product)])
 
 
 if __name__ == "__main__":

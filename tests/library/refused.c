@@ -1,8 +1,10 @@
-// Refuses each allocation of a decoder's life in turn: the call returns N2K_MEMORY or succeeds; the output so far is a
-// prefix of the whole; after a refused n2k_feed or n2k_end the decoder is closed; after a refused n2k_open or n2k_save
-// everything is unchanged; and no allocation is left. Linked with --wrap=malloc, --wrap=realloc and --wrap=free.
+// Refuses each allocation of a decoder's or an encoder's life in turn: the call returns N2K_MEMORY or succeeds; the output
+// so far is a prefix of the whole; after a refused n2k_feed or n2k_end the decoder is closed; after a refused n2k_open or
+// n2k_save everything is unchanged; and no allocation is left. Linked with --wrap=malloc, --wrap=realloc and --wrap=free.
 //
-//     refused TABLE LOG OUTPUT STATE
+//     refused TABLE LOG OUTPUT STATE JSON ENCODED
+//
+// OUTPUT and STATE are the program's for LOG, and ENCODED is what it encodes of JSON.
 #include "texts.h"
 
 void *__real_malloc(size_t size), *__real_realloc(void *old, size_t size), __real_free(void *old);
@@ -36,7 +38,12 @@ void __wrap_free(void *old) {
     __real_free(old);
 }
 
-static struct text table, tape, output, saved;
+// How a life begins.
+enum way { WITHOUT_STATE, FROM_STATE, ENCODING };
+
+static struct text table, saved;
+// What is fed, and the whole output of it; after a state, which counts lines, the output is another one.
+static struct text fed, output;
 static uint8_t room[1 << 16];
 static long done, memory;
 
@@ -51,59 +58,70 @@ static void want_open(const struct n2k_decoder *d, bool wanted) {
     if (d->live != wanted || (d->hold.at != NULL) != wanted) fail("the decoder is open", d->live);
 }
 
-// Feeds the log in chunks until a call is refused.
-static bool feed_all(struct n2k_decoder *d, bool resumes) {
+// Feeds the input in chunks until a call is refused.
+static bool feed_all(struct n2k_decoder *d, enum way way) {
     size_t printed = 0, size;
-    for (size_t at = 0; at < tape.size; at += 40) {
-        bool is_fed = is_done(n2k_feed(d, tape.bytes + at, tape.size - at < 40 ? tape.size - at : 40));
+    for (size_t at = 0; at < fed.size; at += 40) {
+        bool is_fed = is_done(n2k_feed(d, fed.bytes + at, fed.size - at < 40 ? fed.size - at : 40));
         want_open(d, is_fed);
         if (!is_fed) return false;
         if (n2k_take(d, room, sizeof room, &size) != N2K_DONE) fail("take at byte", (long)at);
-        if (!resumes && (printed + size > output.size || memcmp(output.bytes + printed, room, size) != 0)) fail("another output at byte", (long)at);
+        if (way != FROM_STATE && (printed + size > output.size || memcmp(output.bytes + printed, room, size) != 0)) fail("another output at byte", (long)at);
         printed += size;
     }
     return true;
 }
 
-// One life of a decoder, with or without a state.
-static void live(bool resumes) {
-    const struct n2k_settings settings = {.window = 10000};
+// Saves a state. After a refusal everything is unchanged: a second try succeeds.
+static void save(struct n2k_decoder *d) {
+    static uint8_t kept[sizeof room];
+    size_t size = 12345, wanted;
+    memcpy(kept, room, sizeof room);
+    if (is_done(n2k_save(d, room, sizeof room, &size))) return;
+    want_open(d, true);
+    if (memcmp(kept, room, sizeof room) != 0 || size != 12345) fail("a refused save wrote to the room or the size", (long)size);
+    if (n2k_save(d, room, 3, &wanted) != N2K_ROOM || n2k_save(d, room, sizeof room, &size) != N2K_DONE || size != wanted)
+        fail("a state that was refused is not saved", (long)size);
+}
+
+// One life of a decoder or an encoder.
+static void live(enum way way) {
+    const struct n2k_settings settings = {.window = 10000, .encode = way == ENCODING};
     struct n2k_decoder d = {0};
-    size_t size, wanted;
-    bool is_open = is_done(n2k_open(table.bytes, table.size, resumes, saved.bytes, saved.size, &settings, &d));
+    bool is_open = is_done(n2k_open(table.bytes, table.size, way == FROM_STATE, saved.bytes, saved.size, &settings, &d));
     want_open(&d, is_open);
-    if (is_open && feed_all(&d, resumes)) {
+    if (is_open && feed_all(&d, way)) {
         bool is_ended = is_done(n2k_end(&d));
         want_open(&d, is_ended);
-        static uint8_t kept[sizeof room];
-        memcpy(kept, room, sizeof room), size = 12345;
-        if (is_ended && !is_done(n2k_save(&d, room, sizeof room, &size))) {
-            // Everything is unchanged: a second try succeeds.
-            want_open(&d, true);
-            if (memcmp(kept, room, sizeof room) != 0 || size != 12345) fail("a refused save wrote to the room or the size", (long)size);
-            if (n2k_save(&d, room, 3, &wanted) != N2K_ROOM || n2k_save(&d, room, sizeof room, &size) != N2K_DONE || size != wanted)
-                fail("a state that was refused is not saved", (long)size);
-        }
+        if (is_ended && way != ENCODING) save(&d);
     }
     n2k_close(&d);
     want_open(&d, false);
 }
 
-int main(int count, char **words) {
-    if (count != 5) return 2;
-    table = file(words[1]), tape = file(words[2]), output = file(words[3]), saved = file(words[4]);
-    for (int resumes = 0; resumes < 2; resumes++) {
-        long number = 0;
-        for (;; number++) {
-            long before = blocks;
-            allowed = number, is_refused = false;
-            live(resumes);
-            allowed = -1;
-            if (blocks != before) fail("blocks are left", blocks - before);
-            if (!is_refused) break;
-        }
-        printf("%ld allocations refused %s a state, answers: %ld done, %ld memory\n", number, resumes ? "from" : "without", done, memory);
+// Refuses each allocation of such a life.
+static void refuse_each(enum way way) {
+    static const char *const ways[] = {"without a state", "from a state", "of an encoder"};
+    long number = 0;
+    for (;; number++) {
+        long before = blocks;
+        allowed = number, is_refused = false;
+        live(way);
+        allowed = -1;
+        if (blocks != before) fail("blocks are left", blocks - before);
+        if (!is_refused) break;
     }
-    free(table.bytes), free(tape.bytes), free(output.bytes), free(saved.bytes);
+    printf("%ld allocations refused %s, answers: %ld done, %ld memory\n", number, ways[way], done, memory);
+}
+
+int main(int count, char **words) {
+    if (count != 7) return 2;
+    table = file(words[1]), fed = file(words[2]), output = file(words[3]), saved = file(words[4]);
+    refuse_each(WITHOUT_STATE);
+    refuse_each(FROM_STATE);
+    free(fed.bytes), free(output.bytes);
+    fed = file(words[5]), output = file(words[6]);
+    refuse_each(ENCODING);
+    free(table.bytes), free(fed.bytes), free(output.bytes), free(saved.bytes);
     return 0;
 }

@@ -8,9 +8,11 @@ makes COUNT random messages of the definitions in TABLE, or those of COUNT rando
 (random_messages.py), all as fast packets to all. `PROGRAM decode --whole` prints their lines, `PROGRAM encode` makes
 plain lines from these, and `decode --whole` has to print the same lines again. Refusals of `encode` are counted by
 code: with the shipped table there may be none; in a random table fields may share bits, and no data show two values of
-one bit (B18). The last line ends with `N failures` (Python 3.11 or newer).
+one bit (B18). A report without a field's name is a failure, and so is a refused value (B17), except of flags with a name
+twice. The last line ends with `N failures` (Python 3.11 or newer).
 """
 import collections
+import json
 import os
 import random
 import re
@@ -76,6 +78,50 @@ def plain(rng, pgn, dst, data):
     return ",".join([stamp, str(rng.randrange(8)), str(pgn), str(rng.randrange(256)), str(dst), str(len(data)), *(f"{b:02x}" for b in data)])
 
 
+def with_rare_parts(rng, tree):
+    """Changes parts of a random table: names of several values, own fields inside sets, no own fields, and a definition
+    that is described like data which none matches."""
+    for lookup in tree.get("lookup", []):
+        if rng.random() < 0.5:
+            for entry in lookup["entries"]:
+                entry[1] = rng.choice([entry[1], lookup["entries"][0][1]])
+    for d in tree.get("pgn", []):
+        if rng.random() < 0.1:
+            d["description"] = "Unmatched"
+        if "repeat" in d and rng.random() < 0.3:
+            d["repeat"]["at"] = 0
+        if "repeat" in d and "after" not in d["repeat"] and rng.random() < 0.1:
+            d["fields"] = []
+
+
+def has_twice(value):
+    """Whether an array in a line has a text twice."""
+    if isinstance(value, dict):
+        return any(map(has_twice, value.values()))
+    if isinstance(value, list):
+        texts = [one for one in value if isinstance(one, str)]
+        return len(texts) > len({*texts}) or any(map(has_twice, value))
+    return False
+
+
+def without_order(value):
+    """A line's value with flags in a fixed order: the first bit of a name may not be the one that was set."""
+    if isinstance(value, dict):
+        return {key: without_order(one) for key, one in value.items()}
+    if isinstance(value, list):
+        return sorted((without_order(one) for one in value), key=str) if value and isinstance(value[0], str) else [*map(without_order, value)]
+    return value
+
+
+def is_same(line, other):
+    return line == other or without_order(read(line)) == without_order(read(other))
+
+
+def read(line):
+    """The line's JSON; numbers stay text."""
+    return json.loads(line, parse_float=str, parse_int=str)
+
+
 class Judge:
     def __init__(self, program):
         self.program, self.refused = program, collections.Counter()
@@ -89,12 +135,14 @@ class Judge:
         shown = [line for line in self.run("decode", "--whole", "--table", table, given=messages)[0] if line.startswith("{")]
         plain_lines, reports = self.run("encode", "--table", table, given=shown)
         bad = {int(n) - 1: code for n, code in re.findall(r"^line (\d+) bad (B\d+) ", reports, re.M)}
+        self.failures += len(re.findall(r"^line \d+ bad B1[678] \w+( \"\")?$", reports, re.M))
+        self.failures += sum(code == "B17" and not has_twice(json.loads(shown[n])) for n, code in bad.items())
         self.refused.update(bad.values())
         kept = [line for n, line in enumerate(shown) if n not in bad]
         again = self.run("decode", "--whole", "--table", table, given=plain_lines)[0] if plain_lines else []
         self.lines += len(shown)
         self.accepted += len(kept)
-        self.failures += sum(a != b for a, b in zip(kept, again)) + abs(len(kept) - len(again))
+        self.failures += sum(not is_same(a, b) for a, b in zip(kept, again)) + abs(len(kept) - len(again))
 
 
 def main(program, table, seed, count):
@@ -111,6 +159,7 @@ def main(program, table, seed, count):
         for number in range(int(count)):
             rng = random.Random(f"{seed} {number}")
             tree = random_messages.new_table(rng, int(rng.choice("123333")))
+            with_rare_parts(rng, tree)
             numbers = {}
             for d in tree.get("pgn", []):
                 d["number"], d["kind"] = numbers.setdefault(d["number"], 130816 + len(numbers)), "fast"

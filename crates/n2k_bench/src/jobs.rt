@@ -125,7 +125,8 @@ fn next_part(
 
 /// Decodes a lossy bus in parts: a first one and `rounds` more, each from the saved state of the previous part.
 fn parts(rt: &impl Print, alloc: Global, input: &Input, rounds: u64, seed: u64) -> Result<()> {
-    let table = Table::read(alloc, input.table().as_bytes())?;
+    let mut table = Table::read(alloc, input.table().as_bytes())?;
+    table.compute_id();
     let mut log = Replay::new(alloc, input.bus(), SECONDS, LOST, seed)?;
     let mut texts = Digest::new(alloc);
     let mut reports = Digest::new(alloc);

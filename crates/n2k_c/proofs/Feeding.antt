@@ -1,36 +1,29 @@
 -- A decoder with more bytes fed, at the end of its log, and with what waits taken out.
-use Rattle.std.proofs.Common.{◌≡◌, inl, inr, ℕ, zero, suc, ◌+◌, ◌-◌, ◌<◌, ◌≤◌, Bool, true, false, List, [], ◌∷◌, ◌++◌, length, take, drop, get_or, Some, None, Result, Ok, Err, refl, sym, ap, subst, ◌∙◌, arith, append_assoc, eqb-true, append-nil, length-append}
+use Rattle.std.proofs.Common.{◌≡◌, inl, inr, ℕ, zero, suc, ◌+◌, ◌-◌, ◌<◌, ◌≤◌, Bool, true, false, List, [], ◌∷◌, ◌++◌, length, take, drop, get_or, Result, Ok, Err, MatchResult, refl, sym, ap, subst, ◌∙◌, arith, append_assoc, eqb-true, append-nil, length-append}
 use Rattle.std.specs.Io.{IsEmptyOrEndsWith}
 use Rattle.std.proofs.Math.Seq.{take-suc}
 use Rattle.std.proofs.lemmas.Bool.{false_from_ne_true}
 use Rattle.std.proofs.lemmas.List.Elements.{All-append}
 use Rattle.std.proofs.lemmas.List.{append_cancel_left, get_or-drop, length-drop, take-append-drop}
 use Rattle.memchr.specs.Find.{Nowhere, Passes, NoneAfter, is_byte}
-use Rattle.n2k_wire.specs.declared.entry.Packing.{Packing}
-use Rattle.n2k_table.specs.Table.{TableParts, kind}
+use Rattle.n2k_table.specs.Table.{TableParts}
 use Rattle.n2k_join.specs.Counts.{most_lines}
-use Rattle.n2k_join.specs.Messages.{counts}
 use Rattle.n2k_join.specs.State.{State}
-use Rattle.n2k_join.specs.Saved.{state_text}
-use Rattle.n2k_join.specs.Window.{Window}
-use Rattle.n2k_join.specs.declared.counts.Counts.{Counts}
 use Rattle.n2k_join.specs.declared.fault.StateFault.{StateFault}
 use Rattle.n2k_run.specs.declared.fault.RunFault.{RunFault}
 use Rattle.n2k_run.specs.declared.fault.RunFault.TheVariants as of_run
-use Rattle.n2k_run.specs.declared.options.Options.{Options}
 use Rattle.n2k_run.specs.Blocks.{HasNoFeed}
-use Rattle.n2k_run.specs.Decoded.{out, reports}
-use Rattle.n2k_run.specs.Entries.{entries}
-use Rattle.n2k_run.specs.Headline.{save, state_after}
-use Rattle.n2k_run.specs.Lines.{line_feed, is_line_feed, whole_lines}
-use Rattle.n2k_run.specs.More.{EndsMore}
+use Rattle.n2k_run.specs.Lines.{line_feed, is_line_feed, lines as log_lines, whole_lines}
 use Rattle.n2k_run.specs.Reading.{most_reads}
-use Rattle.n2k_run.specs.Runs.{Devices}
-use Rattle.n2k_run.proofs.Prefixes.{ends_feed, entries-append, whole_prefix}
+use Rattle.n2k_run.proofs.Prefixes.{ends_feed, whole_prefix}
+use Rattle.n2k_run.proofs.Splits.{lines-append}
 use Rattle.n2k_c.specs.declared.decoder.Decoder.{Decoder}
-use Rattle.n2k_c.specs.Answers.{EndsLog, ClosesDecoder}
-use Rattle.n2k_c.specs.Inner.{RunsCut, refusal_of_run}
-use Rattle.n2k_c.specs.Stands.{HasDecoded, Stands, taken_of}
+use Rattle.n2k_c.specs.Answers.{EndsLog, IsStateOf, ClosesDecoder}
+use Rattle.n2k_c.specs.declared.refusal.Refusal.{Refusal}
+use Rattle.n2k_c.specs.Inner.{Gains, IsSavedOf, NotSavedOf, RunsCut, RunsMore, refusal_of_run}
+use Rattle.n2k_c.specs.Job.{AreReports, IsOutput, Job}
+use Rattle.n2k_c.specs.Queue.{Waiting}
+use Rattle.n2k_c.specs.Stands.{HasTaken, IsAfter, Stands, taken_of}
 
 -- ---- whole lines
 
@@ -116,63 +109,49 @@ ends_at_feed bytes lines last is none passes =
 
 -- ---- a line that is cut, taken as it is
 
-options_are : (p : Packing) (e : Bool) (w : Window) (o : Options) → p ≡ o.packing → e ≡ o.empty → w ≡ o.window → (let x : Options = record { packing = p; empty = e; window = w } in x) ≡ o
-options_are p e w o is_p is_e is_w = rw (is_p, is_e, is_w) refl
-
--- what a run over more promises, after each prefix
-More : TableParts → Options → State → List ℕ → Devices → Devices → State → Result (Unit {0}) RunFault → Type 0
-More t o old more before after new result = (prefix : List ℕ) → IsEmptyOrEndsWith prefix line_feed → old ≡ state_after t o prefix → EndsMore t o prefix more before after new result
-
--- the devices of a run whose sinks are what waits
-abbrev pub sinks : List ℕ → List ℕ → ℕ → ℕ → Devices
-sinks output report failed_writes failed_reports = record {
-  left = None;
-  calls = 0;
-  failed_reads = 0;
-  written = Some output;
-  failed_writes = failed_writes;
-  reported = Some report;
-  failed_reports = failed_reports;
+-- what was taken, of a decoder with the same table, work and texts
+pub same_taken : (t : TableParts) (job : Job) (taken printed reported : List ℕ) (d d' : Decoder) → d'.table ≡ d.table → d'.work ≡ d.work → d'.output ≡ d.output → d'.reports ≡ d.reports
+    → HasTaken t job taken printed reported d → HasTaken t job taken printed reported d'
+same_taken t job taken printed reported d d' table work output waiting b = record {
+  table = table ∙ b.table;
+  leads_to = subst (IsAfter t job taken) (sym work) b.leads_to;
+  output = subst (λ (w : Waiting). IsOutput t job taken (printed ++ w.held)) (sym output) b.output;
+  reports = subst (λ (w : Waiting). AreReports t job taken (reported ++ w.held)) (sym waiting) b.reports;
 }
 
-module _ (t : TableParts) (o : Options) (taken printed reported : List ℕ) (d d' : Decoder) where
-  ends_cut : (fw fr fw' fr' : ℕ) (result : Result (Unit {0}) RunFault) → d'.table ≡ d.table → d'.packing ≡ d.packing → d'.empty ≡ d.empty → HasDecoded t o taken printed reported d
-      → EndsMore t o taken d.cut.items (sinks d.output.held d.reports.held fw fr) (sinks d'.output.held d'.reports.held fw' fr') d'.join result → RunsCut t o taken printed reported d d' result
-  ends_cut fw fr fw' fr' (Ok x) same_t same_p same_e b more = record {
-    table = same_t ∙ b.table;
-    packing = same_p ∙ b.packing;
-    empty = same_e ∙ b.empty;
+module _ (t : TableParts) (job : Job) (taken printed reported : List ℕ) (d d' : Decoder) where
+  gains_cut : d'.table ≡ d.table → HasTaken t job taken printed reported d → Gains t job taken d.cut.items d'.work d.output.held d'.output.held d.reports.held d'.reports.held
+      → HasTaken t job (taken ++ d.cut.items) printed reported d'
+  gains_cut same b more = record {
+    table = same ∙ b.table;
     leads_to = more.leads_to;
-    output = more.output ∙ ap (λ x. x ++ more.text) b.output ∙ append_assoc printed d.output.held more.text ∙ ap (λ x. printed ++ x) (sym more.printed);
-    reports = more.all_reports ∙ ap (λ x. x ++ more.report) b.reports ∙ append_assoc reported d.reports.held more.report ∙ ap (λ x. reported ++ x) (sym more.reported);
+    output = subst (IsOutput t job (taken ++ d.cut.items)) (append_assoc printed d.output.held more.text ∙ ap (λ x. printed ++ x) (sym more.printed)) (more.output_is (printed ++ d.output.held) b.output);
+    reports = subst (AreReports t job (taken ++ d.cut.items)) (append_assoc reported d.reports.held more.report ∙ ap (λ x. reported ++ x) (sym more.reported)) (more.reports_are (reported ++ d.reports.held) b.reports);
   }
-  ends_cut fw fr fw' fr' (Err of_run.TooManyLines) same_t same_p same_e b more = more
-  ends_cut fw fr fw' fr' (Err of_run.Read) same_t same_p same_e b more = more
-  ends_cut fw fr fw' fr' (Err _) same_t same_p same_e b more = tt
 
-  pub runs_cut : (window : Window) (more : List ℕ) (fw fr fw' fr' : ℕ) (result : Result (Unit {0}) RunFault) → window ≡ d.join.window → more ≡ d.cut.items
-      → d'.table ≡ d.table → d'.packing ≡ d.packing → d'.empty ≡ d.empty
-      → ((prefix : List ℕ) → IsEmptyOrEndsWith prefix line_feed → d.join ≡ state_after d.table (record { packing = d.packing; empty = d.empty; window = window }) prefix
-      → EndsMore d.table (record { packing = d.packing; empty = d.empty; window = window }) prefix more (sinks d.output.held d.reports.held fw fr) (sinks d'.output.held d'.reports.held fw' fr') d'.join result)
-      → IsEmptyOrEndsWith taken line_feed → HasDecoded t o taken printed reported d → RunsCut t o taken printed reported d d' result
-  unfolding More
-  runs_cut window more fw fr fw' fr' result is_window is_more same_t same_p same_e head whole b =
-      let own : Options = record { packing = d.packing; empty = d.empty; window = window } in
-      let before : Devices = sinks d.output.held d.reports.held fw fr in
-      let after : Devices = sinks d'.output.held d'.reports.held fw' fr' in
-      let is_o : own ≡ o = options_are d.packing d.empty window o b.packing b.empty (is_window ∙ ap (λ (s : State). s.window) b.leads_to) in
-      let h : More d.table own d.join more before after d'.join result = head in
-      let h' = subst (λ (x : Options). More d.table x d.join more before after d'.join result) is_o h in
-      let h'' = subst (λ (x : TableParts). More x o d.join more before after d'.join result) b.table h' in
-      ends_cut fw fr fw' fr' result same_t same_p same_e b (subst (λ m. EndsMore t o taken m before after d'.join result) is_more (h'' taken whole b.leads_to))
+  ends_cut : (result : Result (Unit {0}) RunFault) → d'.table ≡ d.table → HasTaken t job taken printed reported d
+      → RunsMore t job taken d.cut.items d'.work d.output.held d'.output.held d.reports.held d'.reports.held result → RunsCut t job taken printed reported d d' result
+  ends_cut (Ok x) same b more = gains_cut same b more
+  ends_cut (Err of_run.TooManyLines) same b more = more
+  ends_cut (Err of_run.Read) same b more = more
+  ends_cut (Err _) same b more = tt
+
+  pub runs_cut : (more : List ℕ) (result : Result (Unit {0}) RunFault) → more ≡ d.cut.items → d'.table ≡ d.table
+      → ((j : Job) (prefix : List ℕ) → IsEmptyOrEndsWith prefix line_feed → IsAfter d.table j prefix d.work
+      → RunsMore d.table j prefix more d'.work d.output.held d'.output.held d.reports.held d'.reports.held result)
+      → IsEmptyOrEndsWith taken line_feed → HasTaken t job taken printed reported d → RunsCut t job taken printed reported d d' result
+  runs_cut more result is_more same runs whole b =
+      let after = subst (λ (x : TableParts). IsAfter x job taken d.work) (sym b.table) b.leads_to in
+      let ran = subst (λ (x : TableParts). RunsMore x job taken more d'.work d.output.held d'.output.held d.reports.held d'.reports.held result) b.table (runs job taken whole after) in
+      ends_cut result same b (subst (λ m. RunsMore t job taken m d'.work d.output.held d'.output.held d.reports.held d'.reports.held result) is_more ran)
 
 -- ---- n2k_feed
 
-module _ (t : TableParts) (o : Options) (fed printed reported : List ℕ) where
+module _ (t : TableParts) (job : Job) (fed printed reported : List ℕ) where
   -- no line ends in the bytes: they wait
   pub stands_longer : (d d' : Decoder) (bytes : List ℕ) → Nowhere (Passes (is_byte 10) bytes) 0 (length bytes) → d'.cut.items ≡ d.cut.items ++ bytes → d'.ended ≡ d.ended
-      → ((ls : List ℕ) → HasDecoded t o ls printed reported d → HasDecoded t o ls printed reported d')
-      → Stands t o fed false printed reported d → Stands t o (fed ++ bytes) false printed reported d'
+      → ((ls : List ℕ) → HasTaken t job ls printed reported d → HasTaken t job ls printed reported d')
+      → Stands t job fed false printed reported d → Stands t job (fed ++ bytes) false printed reported d'
   stands_longer d d' bytes none cut log to s =
       let both : HasNoFeed (d.cut.items ++ bytes) = both_no_feed d.cut.items bytes (waits_no_feed fed d.cut.items s.fed_is) (nowhere_no_feed bytes none) in
       let split : fed ++ bytes ≡ whole_lines fed ++ (d.cut.items ++ bytes) = ap (λ x. x ++ bytes) s.fed_is ∙ append_assoc (whole_lines fed) d.cut.items bytes in
@@ -180,12 +159,12 @@ module _ (t : TableParts) (o : Options) (fed printed reported : List ℕ) where
       record {
         ended = log ∙ s.ended;
         fed_is = split ∙ ap (λ x. x ++ (d.cut.items ++ bytes)) (sym whole) ∙ ap (λ x. whole_lines (fed ++ bytes) ++ x) (sym cut);
-        taken = subst (λ ls. HasDecoded t o ls printed reported d') (sym whole) (to (whole_lines fed) s.taken);
+        taken = subst (λ ls. HasTaken t job ls printed reported d') (sym whole) (to (whole_lines fed) s.taken);
       }
 
   -- d at first, d₁ with lines to take, d₂ after them, and d₃ with the rest
   module _ (d d₁ : Decoder) (bytes lines rest : List ℕ) (last : ℕ) (is_lines : lines ≡ take (last + 1) bytes) (is_rest : rest ≡ drop (last + 1) bytes)
-      (none : NoneAfter (Passes (is_byte 10) bytes) 0 (length bytes) last) (passes : Passes (is_byte 10) bytes last) (cut : d₁.cut.items ≡ d.cut.items ++ lines) (s : Stands t o fed false printed reported d) where
+      (none : NoneAfter (Passes (is_byte 10) bytes) 0 (length bytes) last) (passes : Passes (is_byte 10) bytes last) (cut : d₁.cut.items ≡ d.cut.items ++ lines) (s : Stands t job fed false printed reported d) where
     prefix : List ℕ
     prefix = whole_lines fed ++ d₁.cut.items
 
@@ -207,10 +186,10 @@ module _ (t : TableParts) (o : Options) (fed printed reported : List ℕ) where
         subst (λ x. IsEmptyOrEndsWith x line_feed) (sym shape) (ends_feed (whole_lines fed ++ (d.cut.items ++ before)))
 
     pub stands_more : (d₂ d₃ : Decoder) → d₂.cut.items ≡ [] → d₃.cut.items ≡ d₂.cut.items ++ rest → d₁.ended ≡ d.ended → d₂.ended ≡ d₁.ended → d₃.ended ≡ d₂.ended
-        → ((ls : List ℕ) → HasDecoded t o ls printed reported d → HasDecoded t o ls printed reported d₁)
-        → ((ls : List ℕ) → IsEmptyOrEndsWith ls line_feed → HasDecoded t o ls printed reported d₁ → HasDecoded t o (ls ++ d₁.cut.items) printed reported d₂)
-        → ((ls : List ℕ) → HasDecoded t o ls printed reported d₂ → HasDecoded t o ls printed reported d₃)
-        → Stands t o (fed ++ bytes) false printed reported d₃
+        → ((ls : List ℕ) → HasTaken t job ls printed reported d → HasTaken t job ls printed reported d₁)
+        → ((ls : List ℕ) → IsEmptyOrEndsWith ls line_feed → HasTaken t job ls printed reported d₁ → HasTaken t job (ls ++ d₁.cut.items) printed reported d₂)
+        → ((ls : List ℕ) → HasTaken t job ls printed reported d₂ → HasTaken t job ls printed reported d₃)
+        → Stands t job (fed ++ bytes) false printed reported d₃
     unfolding prefix
     stands_more d₂ d₃ none_left cut₃ log₁ log₂ log₃ to₁ to₂ to₃ =
         let left : d₃.cut.items ≡ rest = cut₃ ∙ ap (λ x. x ++ rest) none_left in
@@ -218,14 +197,14 @@ module _ (t : TableParts) (o : Options) (fed printed reported : List ℕ) where
         record {
           ended = log₃ ∙ log₂ ∙ log₁ ∙ s.ended;
           fed_is = all ∙ ap (λ x. x ++ rest) (sym is) ∙ ap (λ x. whole_lines (fed ++ bytes) ++ x) (sym left);
-          taken = subst (λ ls. HasDecoded t o ls printed reported d₃) (sym is) (to₃ prefix (to₂ (whole_lines fed) (whole_ends fed) (to₁ (whole_lines fed) s.taken)));
+          taken = subst (λ ls. HasTaken t job ls printed reported d₃) (sym is) (to₃ prefix (to₂ (whole_lines fed) (whole_ends fed) (to₁ (whole_lines fed) s.taken)));
         }
 
-    pub too_many : most_lines < length (entries o.packing (whole_lines fed ++ d₁.cut.items)) → most_lines < length (entries o.packing (fed ++ bytes))
+    pub too_many : most_lines < length (log_lines (whole_lines fed ++ d₁.cut.items)) → most_lines < length (log_lines (fed ++ bytes))
     unfolding prefix
     too_many past =
-        let es = ap length (ap (entries o.packing) all ∙ entries-append o.packing prefix rest whole) ∙ length-append (entries o.packing prefix) (entries o.packing rest) in
-        omega (arith, es, past)
+        let ls = ap length (ap log_lines all ∙ lines-append prefix rest whole) ∙ length-append (log_lines prefix) (log_lines rest) in
+        omega (arith, ls, past)
 
     pub too_long : most_reads ≤ length d₁.cut.items + 1 → most_reads ≤ length d.cut.items + length bytes + 1
     too_long many =
@@ -236,61 +215,59 @@ module _ (t : TableParts) (o : Options) (fed printed reported : List ℕ) where
 -- a fault while the lines of a piece are taken
 pub spends_more : (d d₁ d₂ : Decoder) (bytes lines rest : List ℕ) (last : ℕ) (fault : RunFault) → lines ≡ take (last + 1) bytes → rest ≡ drop (last + 1) bytes
     → NoneAfter (Passes (is_byte 10) bytes) 0 (length bytes) last → Passes (is_byte 10) bytes last → d₁.cut.items ≡ d.cut.items ++ lines
-    → ((t : TableParts) (o : Options) (ls printed reported : List ℕ) → HasDecoded t o ls printed reported d → HasDecoded t o ls printed reported d₁)
-    → ((t : TableParts) (o : Options) (ls printed reported : List ℕ) → IsEmptyOrEndsWith ls line_feed → HasDecoded t o ls printed reported d₁ → RunsCut t o ls printed reported d₁ d₂ (Err fault))
+    → ((t : TableParts) (job : Job) (ls printed reported : List ℕ) → HasTaken t job ls printed reported d → HasTaken t job ls printed reported d₁)
+    → ((t : TableParts) (job : Job) (ls printed reported : List ℕ) → IsEmptyOrEndsWith ls line_feed → HasTaken t job ls printed reported d₁ → RunsCut t job ls printed reported d₁ d₂ (Err fault))
     → ClosesDecoder bytes d (refusal_of_run fault)
-spends_more d d₁ d₂ bytes lines rest last of_run.TooManyLines is_lines is_rest none passes cut to runs = λ t o fed printed reported s.
-    inl (too_many t o fed printed reported d d₁ bytes lines rest last is_lines is_rest none passes cut s (runs t o (whole_lines fed) printed reported (whole_ends fed) (to t o (whole_lines fed) printed reported s.taken)))
-spends_more d d₁ d₂ bytes lines rest last of_run.Read is_lines is_rest none passes cut to runs = λ t o fed printed reported s.
-    inr (too_long t o fed printed reported d d₁ bytes lines rest last is_lines is_rest none passes cut s (runs t o (whole_lines fed) printed reported (whole_ends fed) (to t o (whole_lines fed) printed reported s.taken)))
+spends_more d d₁ d₂ bytes lines rest last of_run.TooManyLines is_lines is_rest none passes cut to runs = λ t job fed printed reported s.
+    inl (too_many t job fed printed reported d d₁ bytes lines rest last is_lines is_rest none passes cut s (runs t job (whole_lines fed) printed reported (whole_ends fed) (to t job (whole_lines fed) printed reported s.taken)))
+spends_more d d₁ d₂ bytes lines rest last of_run.Read is_lines is_rest none passes cut to runs = λ t job fed printed reported s.
+    let many = runs t job (whole_lines fed) printed reported (whole_ends fed) (to t job (whole_lines fed) printed reported s.taken) in
+    inr (many.0, too_long t job fed printed reported d d₁ bytes lines rest last is_lines is_rest none passes cut s many.1)
 spends_more d d₁ d₂ bytes lines rest last _ is_lines is_rest none passes cut to runs = tt
 
 -- ---- n2k_end
 
 pub ends_log : (d d' d'' : Decoder) → d'.cut.items ≡ [] → d''.cut.items ≡ d'.cut.items → d''.ended ≡ true
-    → ((t : TableParts) (o : Options) (ls printed reported : List ℕ) → IsEmptyOrEndsWith ls line_feed → HasDecoded t o ls printed reported d → HasDecoded t o (ls ++ d.cut.items) printed reported d')
-    → ((t : TableParts) (o : Options) (ls printed reported : List ℕ) → HasDecoded t o ls printed reported d' → HasDecoded t o ls printed reported d'') → EndsLog d d''
-ends_log d d' d'' cut cut' log to to' = λ t o fed printed reported s. record {
+    → ((t : TableParts) (job : Job) (ls printed reported : List ℕ) → IsEmptyOrEndsWith ls line_feed → HasTaken t job ls printed reported d → HasTaken t job (ls ++ d.cut.items) printed reported d')
+    → ((t : TableParts) (job : Job) (ls printed reported : List ℕ) → HasTaken t job ls printed reported d' → HasTaken t job ls printed reported d'') → EndsLog d d''
+ends_log d d' d'' cut cut' log to to' = λ t job fed printed reported s. record {
   ended = log;
   fed_is = sym (ap (λ x. fed ++ x) (cut' ∙ cut) ∙ append-nil fed);
-  taken = to' t o fed printed reported (subst (λ ls. HasDecoded t o ls printed reported d') (sym s.fed_is) (to t o (whole_lines fed) printed reported (whole_ends fed) s.taken));
+  taken = to' t job fed printed reported (subst (λ ls. HasTaken t job ls printed reported d') (sym s.fed_is) (to t job (whole_lines fed) printed reported (whole_ends fed) s.taken));
 }
 
 pub spends_end : (d d' : Decoder) (fault : RunFault)
-    → ((t : TableParts) (o : Options) (ls printed reported : List ℕ) → IsEmptyOrEndsWith ls line_feed → HasDecoded t o ls printed reported d → RunsCut t o ls printed reported d d' (Err fault)) → ClosesDecoder [] d (refusal_of_run fault)
-spends_end d d' of_run.TooManyLines runs = λ t o fed printed reported s.
-    inl (subst (λ x. most_lines < length (entries o.packing x)) (sym (append-nil fed ∙ s.fed_is)) (runs t o (whole_lines fed) printed reported (whole_ends fed) s.taken))
-spends_end d d' of_run.Read runs = λ t o fed printed reported s.
-    inr (let many : most_reads ≤ length d.cut.items + 1 = runs t o (whole_lines fed) printed reported (whole_ends fed) s.taken in omega (arith, many))
+    → ((t : TableParts) (job : Job) (ls printed reported : List ℕ) → IsEmptyOrEndsWith ls line_feed → HasTaken t job ls printed reported d → RunsCut t job ls printed reported d d' (Err fault)) → ClosesDecoder [] d (refusal_of_run fault)
+spends_end d d' of_run.TooManyLines runs = λ t job fed printed reported s.
+    inl (subst (λ x. most_lines < length (log_lines x)) (sym (append-nil fed ∙ s.fed_is)) (runs t job (whole_lines fed) printed reported (whole_ends fed) s.taken))
+spends_end d d' of_run.Read runs = λ t job fed printed reported s.
+    let many = runs t job (whole_lines fed) printed reported (whole_ends fed) s.taken in
+    inr (many.0, omega (arith, many.1))
 spends_end d d' _ runs = tt
 
--- ---- what is reported of a decoder
+-- ---- what is opened
 
-module _ (t : TableParts) (o : Options) (fed : List ℕ) (is_whole : Bool) (printed reported : List ℕ) (d : Decoder) (s : Stands t o fed is_whole printed reported d) where
-  pub saved_is : (text : List ℕ) → text ≡ state_text d.join → text ≡ save t o (taken_of is_whole fed)
-  unfolding save
-  saved_is text is = is ∙ ap state_text s.taken.leads_to
-
-  pub counts_are : (counted : Counts) → counted ≡ d.join.counts → counted ≡ counts o.window (kind t) (entries o.packing (taken_of is_whole fed))
-  counts_are counted is = is ∙ ap (λ (x : State). x.counts) s.taken.leads_to
-
--- a decoder that was opened after a prefix
-pub opened_at : (t : TableParts) (o : Options) (prefix : List ℕ) (d : Decoder) → d.table ≡ t → d.packing ≡ o.packing → d.empty ≡ o.empty → d.ended ≡ false → d.cut.items ≡ [] → d.output.held ≡ [] → d.reports.held ≡ []
-    → IsEmptyOrEndsWith prefix line_feed → d.join ≡ state_after t o prefix → Stands t o prefix false (out t o prefix) (reports t o prefix) d
-opened_at t o prefix d is_t is_p is_e log cut output told whole join =
+-- what was opened after these bytes
+pub opened_at : (t : TableParts) (job : Job) (prefix printed reported : List ℕ) (d : Decoder) → d.table ≡ t → d.ended ≡ false → d.cut.items ≡ [] → d.output.held ≡ [] → d.reports.held ≡ []
+    → IsEmptyOrEndsWith prefix line_feed → IsAfter t job prefix d.work → IsOutput t job prefix printed → AreReports t job prefix reported → Stands t job prefix false printed reported d
+opened_at t job prefix printed reported d table log cut output waiting whole after prints tells =
     let is : whole_lines prefix ≡ prefix = ap whole_lines (sym (append-nil prefix)) ∙ whole_prefix prefix [] whole (λ k d below. absurd (omega (arith, below))) in
     record {
       ended = log;
       fed_is = sym (ap (λ x. whole_lines prefix ++ x) cut ∙ append-nil (whole_lines prefix) ∙ is);
-      taken = subst (λ ls. HasDecoded t o ls (out t o prefix) (reports t o prefix) d) (sym is) (record {
-        table = is_t;
-        packing = is_p;
-        empty = is_e;
-        leads_to = join;
-        output = sym (ap (λ x. out t o prefix ++ x) output ∙ append-nil (out t o prefix));
-        reports = sym (ap (λ x. reports t o prefix ++ x) told ∙ append-nil (reports t o prefix));
+      taken = subst (λ ls. HasTaken t job ls printed reported d) (sym is) (record {
+        table = table;
+        leads_to = after;
+        output = subst (IsOutput t job prefix) (sym (ap (λ x. printed ++ x) output ∙ append-nil printed)) prints;
+        reports = subst (AreReports t job prefix) (sym (ap (λ x. reported ++ x) waiting ∙ append-nil reported)) tells;
       });
     }
+
+-- ---- what is saved
+
+pub state_of : {T : Type 0} (items : T → List ℕ) (d : Decoder) (result : Result T Refusal) → MatchResult result (λ text. IsSavedOf (items text) d.work) (NotSavedOf d.work) → MatchResult result (λ text. IsStateOf (items text) d) (NotSavedOf d.work)
+state_of items d (Ok text) saved = record { decodes = saved.decodes; is = λ t o fed ended printed reported s. saved.is t o (taken_of ended fed) s.taken.leads_to }
+state_of items d (Err refusal) saved = saved
 
 -- what a read gives is one
 value_of : State → Result State StateFault → State

@@ -7,7 +7,9 @@ use Rattle.n2k_run.specs.Inner.Block.{EndsAt}
 use Rattle.n2k_run.specs.Lines.{is_line_feed}
 use Rattle.n2k_c.specs.declared.decoder.Decoder.{Decoder}
 use Rattle.n2k_c.specs.Answers.{PrintsNext}
+use Rattle.n2k_c.specs.Job.{IsOutput}
 use Rattle.n2k_c.specs.Queue.{Waiting, first_line}
+use Rattle.n2k_c.specs.Stands.{taken_of}
 
 pub dropped_twice : (m n : ℕ) (bytes : List ℕ) → drop m (drop n bytes) ≡ drop (n + m) bytes
 dropped_twice = drop-drop
@@ -64,20 +66,18 @@ first_split (byte ∷ bytes) = split_at byte bytes (is_line_feed byte) (first_sp
 -- ---- n2k_next
 
 pub prints_next : (d : Decoder) (left : Waiting) (text : List ℕ) → text ≡ first_line d.output.held → left.held ≡ drop (length text) d.output.held → PrintsNext text d (record d { output = left })
-prints_next d left text is gone = λ t o fed ended printed reported s.
+prints_next d left text is gone = λ t job fed ended printed reported s.
     let b = s.taken in
     let rest = drop (length text) d.output.held in
     let whole : d.output.held ≡ text ++ rest = subst (λ (x : List ℕ). d.output.held ≡ x ++ drop (length x) d.output.held) (sym is) (first_split d.output.held) in (
-      record { rest = rest; is = b.output ∙ ap (λ h. printed ++ h) whole ∙ sym (append_assoc printed text rest); one = is ∙ ap first_line whole },
+      (printed ++ d.output.held, b.output, record { rest = rest; is = ap (λ h. printed ++ h) whole ∙ sym (append_assoc printed text rest); one = is ∙ ap first_line whole }),
       record {
         ended = s.ended;
         fed_is = s.fed_is;
         taken = record {
           table = b.table;
-          packing = b.packing;
-          empty = b.empty;
           leads_to = b.leads_to;
-          output = b.output ∙ ap (λ h. printed ++ h) (whole ∙ ap (λ r. text ++ r) (sym gone)) ∙ sym (append_assoc printed text left.held);
+          output = subst (IsOutput t job (taken_of ended fed)) (ap (λ h. printed ++ h) (whole ∙ ap (λ r. text ++ r) (sym gone)) ∙ sym (append_assoc printed text left.held)) b.output;
           reports = b.reports;
         };
       },

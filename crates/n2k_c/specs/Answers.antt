@@ -1,30 +1,30 @@
 -- What the calls of C answer.
-use Rattle.std.specs.Prelude.{◌≡◌, ◌⊎◌, ◌<◌, ◌≤◌, ◌+◌, ℕ, Bool, true, false, if◌then◌else◌, List, [], ◌∷◌, ◌++◌, length}
-use Rattle.std.specs.Prelude.{Option, Some, None, IsSome, Err, take, drop, replicate}
+use Rattle.std.specs.Prelude.{◌≡◌, ◌⊎◌, ◌<◌, ◌≤◌, ◌+◌, ◌==◌, ◌&&◌, nat_le, nat_lt, ℕ, Bool, true, false, if◌then◌else◌}
+use Rattle.std.specs.Prelude.{List, [], ◌∷◌, ◌++◌, length, Option, Some, None, IsSome, Err, take, drop, replicate}
 use Rattle.std.specs.List.{Contains}
 use Rattle.std.specs.Str.{bytes_eq}
 use Rattle.n2k_wire.specs.declared.entry.Packing.TheVariants as packed
-use Rattle.n2k_table.specs.Table.{TableParts, faults, kind, table}
+use Rattle.n2k_table.specs.Table.{TableParts, faults, table}
 use Rattle.n2k_join.specs.Counts.{most_lines}
-use Rattle.n2k_join.specs.Messages.{counts}
 use Rattle.n2k_join.specs.Window.{IsWindow}
 use Rattle.n2k_join.specs.declared.counts.Counts.{Counts}
 use Rattle.n2k_run.specs.declared.options.Options.{Options}
 use Rattle.n2k_run.specs.Decoded.{out, reports}
-use Rattle.n2k_run.specs.Entries.{entries}
 use Rattle.n2k_run.specs.Headline.{save}
+use Rattle.n2k_run.specs.Lines.{lines}
 use Rattle.n2k_run.specs.Parts.{IsPrefix, begun}
 use Rattle.n2k_run.specs.Reading.{most_reads}
 use Rattle.n2k_c.specs.Frame.{frame_line, is_frame}
+use Rattle.n2k_c.specs.Job.{AreCounts, AreReports, IsDecoding, IsOutput, Job, decoding, encoding}
 use Rattle.n2k_c.specs.Queue.{IsNextLine}
 use Rattle.n2k_c.specs.declared.Counted.{Counted}
 use Rattle.n2k_c.specs.declared.Settings.{Settings}
 use Rattle.n2k_c.specs.declared.decoder.Decoder.{Decoder}
 use Rattle.n2k_c.specs.declared.refusal.Refusal.{Refusal}
 use Rattle.n2k_c.specs.declared.refusal.Refusal.TheVariants.{Room, Memory, Window, TooMuch, Closed, Open, Ended}
-use Rattle.n2k_c.specs.declared.refusal.Refusal.TheVariants.{Reserved, Frame, Unfinished}
+use Rattle.n2k_c.specs.declared.refusal.Refusal.TheVariants.{Reserved, Frame, Unfinished, Encoder}
 use Rattle.n2k_c.specs.declared.refusal.Refusal.TheVariants.{Table, State}
-use Rattle.n2k_c.specs.Stands.{Stands, taken_of}
+use Rattle.n2k_c.specs.Stands.{Stands, is_encoder, taken_of}
 
 -- ---- n2k_open
 
@@ -38,7 +38,14 @@ settings_options settings = record {
 
 -- whether they have no option that a later version may give
 abbrev pub are_known : Settings → Bool
-are_known settings = bytes_eq settings.reserved (replicate 25 0)
+are_known settings = nat_le settings.encode 2 && bytes_eq settings.reserved (replicate 24 0)
+
+-- whether they ask for an encoder, and for one that takes the nearest numbers
+abbrev pub asks_encoder : Settings → Bool
+asks_encoder settings = nat_lt 0 settings.encode
+
+abbrev pub asks_nearest : Settings → Bool
+asks_nearest settings = settings.encode == 2
 
 -- the state that is handed in, if any
 abbrev pub handed_of : Bool → List ℕ → Option (List ℕ)
@@ -49,25 +56,39 @@ handed_of resumes state = if resumes then Some state else None
 pub record IsDecoderOf (toml : List ℕ) (settings : Settings) (handed : Option (List ℕ)) (d : Decoder) : Type 0 where
   pub sound : faults toml ≡ []
   pub known : are_known settings ≡ true
-  pub begins : handed ≡ None → Stands (table toml) (settings_options settings) [] false [] [] d
+  pub begins : handed ≡ None → Stands (table toml) (decoding (settings_options settings)) [] false [] [] d
   pub goes_on : (prefix : List ℕ) → IsPrefix (table toml) (settings_options settings) prefix handed
-      → Stands (table toml) (settings_options settings) prefix false (out (table toml) (settings_options settings) prefix)
-      (reports (table toml) (settings_options settings) prefix) d
+      → Stands (table toml) (decoding (settings_options settings)) prefix false
+      (out (table toml) (settings_options settings) prefix) (reports (table toml) (settings_options settings) prefix) d
 
--- none was open, and such a decoder is
+-- An encoder with a table without a fault, before the first line. No state was handed in.
+pub record IsEncoderOf (toml : List ℕ) (settings : Settings) (handed : Option (List ℕ)) (d : Decoder) : Type 0 where
+  pub sound : faults toml ≡ []
+  pub known : are_known settings ≡ true
+  pub no_state : handed ≡ None
+  pub begins : Stands (table toml) (encoding (asks_nearest settings)) [] false [] [] d
+
+-- what the settings ask for: an encoder, or a decoder
+abbrev pub IsMadeBy : Bool → List ℕ → Settings → Option (List ℕ) → Decoder → Type 0
+IsMadeBy true toml settings handed d = IsEncoderOf toml settings handed d
+IsMadeBy false toml settings handed d = IsDecoderOf toml settings handed d
+
+-- none was open, and such a decoder or encoder is
 pub record OpensDecoder (toml : List ℕ) (settings : Settings) (handed : Option (List ℕ))
     (old new : Option Decoder) : Type 0 where
   pub decoder : Decoder
   pub was : old ≡ None
   pub is : new ≡ Some decoder
-  pub decodes : IsDecoderOf toml settings handed decoder
+  pub made : IsMadeBy (asks_encoder settings) toml settings handed decoder
 
--- why there is no such decoder
+-- Why there is none. Window and state are refused to a decoder only.
 abbrev pub NotMade : List ℕ → Settings → Option (List ℕ) → Refusal → Type 0
-NotMade toml settings handed Window = IsWindow settings.window → ⊥
+NotMade toml settings handed Window = (asks_encoder settings ≡ false) × (IsWindow settings.window → ⊥)
 NotMade toml settings handed Reserved = are_known settings ≡ false
 NotMade toml settings handed (Table fault) = Contains (faults toml) fault
-NotMade toml settings handed (State fault) = begun (table toml) (settings_options settings) handed ≡ Err fault
+NotMade toml settings handed (State fault) =
+    (asks_encoder settings ≡ false) × (begun (table toml) (settings_options settings) handed ≡ Err fault)
+NotMade toml settings handed Encoder = (asks_encoder settings ≡ true) × IsSome handed
 NotMade toml settings handed Memory = Unit {0}
 NotMade toml settings handed _ = ⊥
 
@@ -76,9 +97,9 @@ abbrev pub NotOpened : List ℕ → Settings → Option (List ℕ) → Option De
 NotOpened toml settings handed old new Open = IsSome old × (new ≡ old)
 NotOpened toml settings handed old new refusal = (new ≡ old) × NotMade toml settings handed refusal
 
--- ---- calls of a decoder
+-- ---- calls of a decoder or an encoder: `Decoder` is either
 
--- a decoder was open and is so, and what became of it
+-- one was open and is so, and what became of it
 pub record Updates (old new : Option Decoder) (How : Decoder → Decoder → Type 0) : Type 0 where
   pub from : Decoder
   pub to : Decoder
@@ -95,21 +116,22 @@ IsClosed old new = (old ≡ None) × (new ≡ None)
 -- these bytes of the log were fed, and nothing was printed or reported of it
 abbrev pub Feeds : List ℕ → Decoder → Decoder → Type 0
 Feeds bytes old new =
-    (t : TableParts) (o : Options) (fed printed reported : List ℕ) → Stands t o fed false printed reported old
-    → Stands t o (fed ++ bytes) false printed reported new
+    (t : TableParts) (job : Job) (fed printed reported : List ℕ) → Stands t job fed false printed reported old
+    → Stands t job (fed ++ bytes) false printed reported new
 
 -- the log has ended, and nothing was printed or reported of it
 abbrev pub EndsLog : Decoder → Decoder → Type 0
 EndsLog old new =
-    (t : TableParts) (o : Options) (fed printed reported : List ℕ) → Stands t o fed false printed reported old
-    → Stands t o fed true printed reported new
+    (t : TableParts) (job : Job) (fed printed reported : List ℕ) → Stands t job fed false printed reported old
+    → Stands t job fed true printed reported new
 
--- The log has more lines than are counted, or these bytes and the line that waits have so many that 10^12 reads may
--- find no end.
+-- The log has more lines than are counted, or for a decoder these bytes and the line that waits are so many that 10^12
+-- reads may find no end.
 abbrev pub IsTooMuch : List ℕ → Decoder → Type 0
 IsTooMuch bytes d =
-    (t : TableParts) (o : Options) (fed printed reported : List ℕ) → Stands t o fed false printed reported d
-    → (most_lines < length (entries o.packing (fed ++ bytes))) ⊎ (most_reads ≤ length d.cut.items + length bytes + 1)
+    (t : TableParts) (job : Job) (fed printed reported : List ℕ) → Stands t job fed false printed reported d
+    → (most_lines < length (lines (fed ++ bytes)))
+    ⊎ (IsDecoding job × (most_reads ≤ length d.cut.items + length bytes + 1))
 
 -- why a decoder did not take these bytes, and is spent
 abbrev pub ClosesDecoder : List ℕ → Decoder → Refusal → Type 0
@@ -133,44 +155,50 @@ NotTaken bytes old new refusal =
 -- so many of the bytes fed belong to no line that was taken
 abbrev pub Waits : ℕ → Decoder → Type 0
 Waits size d =
-    (t : TableParts) (o : Options) (fed : List ℕ) (ended : Bool) (printed reported : List ℕ)
-    → Stands t o fed ended printed reported d → length fed ≡ length (taken_of ended fed) + size
+    (t : TableParts) (job : Job) (fed : List ℕ) (ended : Bool) (printed reported : List ℕ)
+    → Stands t job fed ended printed reported d → length fed ≡ length (taken_of ended fed) + size
 
--- the frame's candump line was fed, and no unfinished line was waiting
+-- the frame's candump line was fed to a decoder, and no unfinished line was waiting
 abbrev pub FeedsFrame : ℕ → List ℕ → ℕ → ℕ → Decoder → Decoder → Type 0
 FeedsFrame identifier payload seconds nanoseconds old new =
-    Waits 0 old × Feeds (frame_line identifier payload seconds nanoseconds) old new
+    (is_encoder old.work ≡ false) × Waits 0 old × Feeds (frame_line identifier payload seconds nanoseconds) old new
 
--- Why a frame was not taken: it is not valid, or an unfinished line is waiting, and then nothing has changed; or
--- its candump line was not taken.
+-- an encoder is open, and is as it was
+abbrev pub IsOfEncoder : Option Decoder → Option Decoder → Type 0
+IsOfEncoder old new = Updates old new (λ from to. (to ≡ from) × (is_encoder from.work ≡ true))
+
+-- Why a frame was not taken: it is not valid, an encoder is open, or an unfinished line is waiting, and then nothing has
+-- changed; or its candump line was not taken.
 abbrev pub NotFramed : ℕ → List ℕ → ℕ → ℕ → Option Decoder → Option Decoder → Refusal → Type 0
 NotFramed identifier payload seconds nanoseconds old new refusal =
     ((refusal ≡ Frame) × (is_frame identifier payload seconds nanoseconds ≡ false) × (new ≡ old))
+    ⊎ (((refusal ≡ Encoder) × IsOfEncoder old new)
     ⊎ (((refusal ≡ Unfinished) × Updates old new (λ from to. (to ≡ from) × (size : ℕ) × (0 < size) × Waits size from))
-    ⊎ NotTaken (frame_line identifier payload seconds nanoseconds) old new refusal)
+    ⊎ NotTaken (frame_line identifier payload seconds nanoseconds) old new refusal))
 
 -- ---- n2k_take, n2k_next, n2k_take_reports, n2k_counts and n2k_save
 
 -- this text waited: with what was printed before it is the whole output of the bytes that were taken
 abbrev pub Prints : List ℕ → Decoder → Decoder → Type 0
 Prints text old new =
-    (t : TableParts) (o : Options) (fed : List ℕ) (ended : Bool) (printed reported : List ℕ)
-    → Stands t o fed ended printed reported old
-    → (out t o (taken_of ended fed) ≡ printed ++ text) × Stands t o fed ended (printed ++ text) reported new
+    (t : TableParts) (job : Job) (fed : List ℕ) (ended : Bool) (printed reported : List ℕ)
+    → Stands t job fed ended printed reported old
+    → IsOutput t job (taken_of ended fed) (printed ++ text) × Stands t job fed ended (printed ++ text) reported new
 
 -- this text is the next line of the output, after what was printed before it; it is empty if all was printed
 abbrev pub PrintsNext : List ℕ → Decoder → Decoder → Type 0
 PrintsNext text old new =
-    (t : TableParts) (o : Options) (fed : List ℕ) (ended : Bool) (printed reported : List ℕ)
-    → Stands t o fed ended printed reported old
-    → IsNextLine (out t o (taken_of ended fed)) printed text × Stands t o fed ended (printed ++ text) reported new
+    (t : TableParts) (job : Job) (fed : List ℕ) (ended : Bool) (printed reported : List ℕ)
+    → Stands t job fed ended printed reported old
+    → ((all : List ℕ) × IsOutput t job (taken_of ended fed) all × IsNextLine all printed text)
+    × Stands t job fed ended (printed ++ text) reported new
 
 -- so for the reports
 abbrev pub TakesReports : List ℕ → Decoder → Decoder → Type 0
 TakesReports text old new =
-    (t : TableParts) (o : Options) (fed : List ℕ) (ended : Bool) (printed reported : List ℕ)
-    → Stands t o fed ended printed reported old
-    → (reports t o (taken_of ended fed) ≡ reported ++ text) × Stands t o fed ended printed (reported ++ text) new
+    (t : TableParts) (job : Job) (fed : List ℕ) (ended : Bool) (printed reported : List ℕ)
+    → Stands t job fed ended printed reported old
+    → AreReports t job (taken_of ended fed) (reported ++ text) × Stands t job fed ended printed (reported ++ text) new
 
 -- the counts as C has them
 abbrev pub counted_of : Counts → Counted
@@ -187,19 +215,19 @@ counted_of c = record {
 -- the counts of the bytes that were taken
 abbrev pub HasCounts : Counts → Decoder → Type 0
 HasCounts counted d =
-    (t : TableParts) (o : Options) (fed : List ℕ) (ended : Bool) (printed reported : List ℕ)
-    → Stands t o fed ended printed reported d
-    → counted ≡ counts o.window (kind t) (entries o.packing (taken_of ended fed))
+    (t : TableParts) (job : Job) (fed : List ℕ) (ended : Bool) (printed reported : List ℕ)
+    → Stands t job fed ended printed reported d
+    → AreCounts t job (taken_of ended fed) counted
 
 -- these, as C has them
 abbrev pub IsCounted : Counted → Decoder → Type 0
 IsCounted counted d = (c : Counts) × HasCounts c d × (counted ≡ counted_of c)
 
--- what is saved of the bytes that were taken
-abbrev pub IsStateOf : List ℕ → Decoder → Type 0
-IsStateOf text d =
-    (t : TableParts) (o : Options) (fed : List ℕ) (ended : Bool) (printed reported : List ℕ)
-    → Stands t o fed ended printed reported d → text ≡ save t o (taken_of ended fed)
+-- a decoder is open, and this is what is saved of the bytes that were taken
+pub record IsStateOf (text : List ℕ) (d : Decoder) : Type 0 where
+  pub decodes : is_encoder d.work ≡ false
+  pub is : (t : TableParts) (o : Options) (fed : List ℕ) (ended : Bool) (printed reported : List ℕ)
+      → Stands t (decoding o) fed ended printed reported d → text ≡ save t o (taken_of ended fed)
 
 -- At the beginning of a room a text of so many bytes was written, and nothing after it.
 pub record Fills (room_old room_new : List ℕ) (told : ℕ) : Type 0 where
@@ -232,6 +260,7 @@ NotMoved waiting was is old new _ = ⊥
 -- why a state did not come into a room
 abbrev pub NotSavedInto : Sized → Sized → Decoder → Refusal → Type 0
 NotSavedInto was is d Memory = is ≡ was
+NotSavedInto was is d Encoder = (is_encoder d.work ≡ true) × (is ≡ was)
 NotSavedInto was is d Room = (text : List ℕ) × IsStateOf text d × WantsRoom text was.0 is.0 is.1
 NotSavedInto was is d _ = ⊥
 

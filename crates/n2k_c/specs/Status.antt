@@ -6,7 +6,7 @@ use Rattle.n2k_join.specs.declared.fault.StateFault.{StateFault}
 use Rattle.n2k_join.specs.declared.fault.StateFault.TheVariants as of_state
 use Rattle.n2k_c.specs.declared.refusal.Refusal.{Refusal}
 use Rattle.n2k_c.specs.declared.refusal.Refusal.TheVariants.{Room, Memory, Window, TooMuch, Closed, Open, Ended}
-use Rattle.n2k_c.specs.declared.refusal.Refusal.TheVariants.{Reserved, Frame, Unfinished}
+use Rattle.n2k_c.specs.declared.refusal.Refusal.TheVariants.{Reserved, Frame, Unfinished, Encoder}
 use Rattle.n2k_c.specs.declared.refusal.Refusal.TheVariants.{Table, State}
 
 -- a refused table: 100, and the number that the program's fault line has
@@ -43,6 +43,7 @@ code Ended = pos 7
 code Reserved = pos 8
 code Frame = pos 9
 code Unfinished = pos 10
+code Encoder = pos 11
 code (Table fault) = table_code fault
 code (State fault) = state_code fault
 

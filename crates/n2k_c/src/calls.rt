@@ -1,7 +1,7 @@
 //! What the calls do, with their refusals by name.
-ghost use Rattle.std.specs.Prelude.{◌≡◌, ℕ, [], Err, MatchResult, None, Some, option_map, take};
+ghost use Rattle.std.specs.Prelude.{◌≡◌, ℕ, true, false, [], Err, MatchResult, None, Some, option_map, take};
 ghost use Rattle.n2k_join.specs.Window.{IsWindow};
-ghost use Rattle.n2k_c.specs.Answers.{IsDecoderOf, EndsLog, Feeds, FeedsFrame, Fills, IsClosed, IsCounted, IsNotUnderWay, IsStateOf, NotFramed, NotMade, NotMoved, NotOpened, NotSaved, NotSavedInto, NotTaken, NotTold, OpensDecoder, Prints, PrintsNext, TakesReports, Updates, Waits, are_known, handed_of, settings_options};
+ghost use Rattle.n2k_c.specs.Answers.{IsDecoderOf, IsEncoderOf, IsMadeBy, EndsLog, Feeds, FeedsFrame, Fills, IsClosed, IsCounted, IsNotUnderWay, IsStateOf, NotFramed, NotMade, NotMoved, NotOpened, NotSaved, NotSavedInto, NotTaken, NotTold, OpensDecoder, Prints, PrintsNext, TakesReports, Updates, Waits, are_known, handed_of, asks_encoder, asks_nearest, settings_options};
 ghost use Rattle.n2k_c.specs.Queue.{first_line};
 ghost use Rattle.n2k_c.specs.declared.Counted.{Counted as Counts};
 ghost use Rattle.n2k_c.specs.declared.refusal.Refusal.TheVariants.{Closed, Window as NoWindow};
@@ -23,7 +23,7 @@ use std::mem::replace;
 fn are_known(settings: &Settings) -> bool
     ensures { result ≡ are_known settings.now }
 {
-    settings.reserved == [0; 25]
+    settings.encode <= 2 && settings.reserved == [0; 24]
 }
 
 /// The options that the settings name.
@@ -99,19 +99,17 @@ fn keep_refused(
 }
 
 /// A decoder of the bytes of a table.
-fn made(
+fn decoder_of(
     alloc: Global,
     toml: &[u8],
     handed: Option<&[u8]>,
     settings: &Settings,
-) -> Result<Box<Decoder, Global>, Refusal>
-    ensures { MatchResult result
-        (λ b. IsDecoderOf toml.now settings.now (option_map (λ bytes. bytes.now) handed.entry) b.value)
-        (NotMade toml.now settings.now (option_map (λ bytes. bytes.now) handed.entry)) }
+) -> Result<Decoder, Refusal>
+    requires known { are_known settings.now ≡ true }
+    requires decodes { asks_encoder settings.now ≡ false }
+    ensures { let handed = option_map (λ bytes. bytes.now) handed.entry in
+        MatchResult result (IsDecoderOf toml.now settings.now handed) (NotMade toml.now settings.now handed) }
 {
-    if !are_known(settings) {
-        return Err(Refusal::Reserved);
-    }
     let options = match settings_options(settings) {
         Ok(options) => options,
         Err(refusal) => return Err(refusal),
@@ -120,9 +118,68 @@ fn made(
         Ok(table) => table,
         Err(fault) => return Err(Refusal::from(fault)),
     };
-    let decoder = match decoder::open(alloc, table, options, handed) {
+    match decoder::open(alloc, table, options, handed) {
+        Ok(decoder) => Ok(decoder),
+        Err(fault) => Err(Refusal::from(fault)),
+    }
+}
+
+/// An encoder of the bytes of a table.
+fn encoder_of(
+    alloc: Global,
+    toml: &[u8],
+    handed: Option<&[u8]>,
+    settings: &Settings,
+) -> Result<Decoder, Refusal>
+    requires known { are_known settings.now ≡ true }
+    requires encodes { asks_encoder settings.now ≡ true }
+    ensures { let handed = option_map (λ bytes. bytes.now) handed.entry in
+        MatchResult result (IsEncoderOf toml.now settings.now handed) (NotMade toml.now settings.now handed) }
+{
+    if handed.is_some() {
+        return Err(Refusal::Encoder);
+    }
+    match Table::read(alloc, toml) {
+        Ok(table) => Ok(decoder::open_encoder(alloc, table, settings.encode == 2)),
+        Err(fault) => Err(Refusal::from(fault)),
+    }
+}
+
+/// What the settings ask for.
+fn asked_of(
+    alloc: Global,
+    toml: &[u8],
+    handed: Option<&[u8]>,
+    settings: &Settings,
+) -> Result<Decoder, Refusal>
+    ensures { let handed = option_map (λ bytes. bytes.now) handed.entry in
+        MatchResult result (IsMadeBy (asks_encoder settings.now) toml.now settings.now handed)
+        (NotMade toml.now settings.now handed) }
+{
+    if !are_known(settings) {
+        return Err(Refusal::Reserved);
+    }
+    if settings.encode > 0 {
+        encoder_of(alloc, toml, handed, settings)
+    } else {
+        decoder_of(alloc, toml, handed, settings)
+    }
+}
+
+/// What the settings ask for, in a box.
+fn made(
+    alloc: Global,
+    toml: &[u8],
+    handed: Option<&[u8]>,
+    settings: &Settings,
+) -> Result<Box<Decoder, Global>, Refusal>
+    ensures { let handed = option_map (λ bytes. bytes.now) handed.entry in
+        MatchResult result (λ b. IsMadeBy (asks_encoder settings.now) toml.now settings.now handed b.value)
+        (NotMade toml.now settings.now handed) }
+{
+    let decoder = match asked_of(alloc, toml, handed, settings) {
         Ok(decoder) => decoder,
-        Err(fault) => return Err(Refusal::from(fault)),
+        Err(refusal) => return Err(refusal),
     };
     match Box::new(alloc, decoder) {
         Ok(kept) => Ok(kept),
@@ -130,7 +187,7 @@ fn made(
     }
 }
 
-/// Opens a decoder, if none is open.
+/// Opens a decoder or an encoder, if none is open.
 pub fn open(
     alloc: Global,
     toml: &[u8],
@@ -204,6 +261,10 @@ pub fn take_frame(alloc: Global, h: &mut Handle, frame: &Frame<'_>) -> Result<()
         Ok(decoder) => decoder,
         Err(refusal) => return Err(refusal),
     };
+    if decoder.is_encoder() {
+        keep(h, decoder);
+        return Err(Refusal::Encoder);
+    }
     if decoder.is_cut() {
         keep(h, decoder);
         return Err(Refusal::Unfinished);
@@ -352,7 +413,7 @@ fn save_into(
 {
     match decoder.save(alloc) {
         Ok(text) => put(room, &text, size),
-        Err(_) => Err(Refusal::Memory),
+        Err(refusal) => Err(refusal),
     }
 }
 

@@ -1,4 +1,4 @@
-//! A decoder that is kept between calls.
+//! A decoder or encoder that is kept between calls.
 ghost use Rattle.std.specs.Prelude.{◌≡◌, ◌≢◌, ◌<◌, ◌≤◌, ℕ, true, false, List, [], Err, IfOk, IfErr, OnOk, MatchResult, length, option_map, take};
 ghost use Rattle.std.specs.Io.{IsEmptyOrEndsWith};
 ghost use Rattle.memchr.specs.Find.{NoneAfter, Nowhere, Passes, is_byte};
@@ -13,34 +13,32 @@ ghost use Rattle.n2k_run.specs.Lines.{line_feed};
 ghost use Rattle.n2k_run.specs.Parts.{IsPrefix, begun};
 ghost use Rattle.n2k_c.specs.declared.refusal.Refusal.TheVariants.{Room};
 ghost use Rattle.n2k_c.specs.Answers.{EndsLog, Feeds, Fills, HasCounts, HasRoom, IsStateOf, Prints, PrintsNext, ClosesDecoder, TakesReports, Waits, WantsRoom};
-ghost use Rattle.n2k_c.specs.Inner.{RunsCut};
+ghost use Rattle.n2k_c.specs.Inner.{NotSavedOf, RunsCut};
+ghost use Rattle.n2k_c.specs.Job.{Job, decoding, encoding};
 ghost use Rattle.n2k_c.specs.Frame.{frame_line};
 ghost use Rattle.n2k_c.specs.Queue.{first_line};
-ghost use Rattle.n2k_c.specs.Stands.{HasDecoded, Stands};
+ghost use Rattle.n2k_c.specs.Stands.{HasTaken, Stands, is_encoder};
 
 use crate::frame::{Frame, line_of};
 use crate::queue::Queue;
 use crate::refusal::Refusal;
+use crate::work::{Decoding, Work};
 use memchr::{memchr, memrchr};
+use n2k_encode_run::Encoding;
 use n2k_join::{Counts, Join, StateFault};
-use n2k_run::{Options, RunFault, RunRoom, run_more};
+use n2k_run::{Options, RunFault, RunRoom};
 use n2k_table::Table;
-use n2k_wire::Packing;
-use std::alloc::{AllocError, Global};
+use std::alloc::Global;
 
-/// What is kept: the table, the join after the lines so far, a line that is cut, the texts that wait, and the room of its
-/// runs.
+/// What is kept: the table, what is done with the lines, a line that is cut, and the texts that wait.
 #[derive(Drop)]
 pub struct Decoder {
     pub table: Table,
-    pub join: Join,
-    pub packing: Packing,
-    pub empty: bool,
+    pub work: Work,
     pub ended: bool,
     pub cut: Vec<u8>,
     pub output: Queue,
     pub reports: Queue,
-    pub room: RunRoom,
 }
 
 /// The join that a log begins with, or goes on with.
@@ -68,52 +66,67 @@ pub fn open(
 ) -> Result<Decoder, StateFault>
     ensures stands { IfOk result (λ d. (prefix : List ℕ)
         → IsPrefix table options prefix (option_map (λ bytes. bytes.now) handed.entry)
-        → Stands table options prefix false (out table options prefix) (reports table options prefix) d) }
+        → Stands table (decoding options) prefix false (out table options prefix) (reports table options prefix) d) }
     ensures refused { IfErr result (λ fault. fault ≢ Memory
         → begun table options (option_map (λ bytes. bytes.now) handed.entry) ≡ Err fault) }
 {
     let join = begin(alloc, &table, &options, handed)?;
     let Options { packing, empty, .. } = options;
-    Ok(Decoder {
-        table,
+    let decoding = Decoding {
         join,
         packing,
         empty,
-        ended: false,
-        cut: Vec::new(alloc),
-        output: Queue::new(alloc),
-        reports: Queue::new(alloc),
         room: RunRoom::new(alloc),
-    })
+    };
+    Ok(Decoder::new(alloc, table, Work::Decodes(decoding)))
+}
+
+/// An encoder before the first line.
+pub fn open_encoder(alloc: Global, table: Table, nearest: bool) -> Decoder
+    ensures { Stands table (encoding nearest) [] false [] [] result }
+{
+    Decoder::new(alloc, table, Work::Encodes(Encoding::new(alloc, nearest)))
 }
 
 impl Decoder {
+    /// Nothing was fed.
+    fn new(alloc: Global, table: Table, work: Work) -> Decoder
+        ensures table { result.table ≡ table }
+        ensures work { result.work ≡ work }
+        ensures ended { result.ended ≡ false }
+        ensures cut { result.cut.items ≡ [] }
+        ensures output { result.output.held ≡ [] }
+        ensures reports { result.reports.held ≡ [] }
+    {
+        Decoder {
+            table,
+            work,
+            ended: false,
+            cut: Vec::new(alloc),
+            output: Queue::new(alloc),
+            reports: Queue::new(alloc),
+        }
+    }
+
     /// Takes the line that is cut as it is.
     fn run_cut(&mut self, alloc: Global) -> Result<(), RunFault>
         ensures log { OnOk result (self.new.ended ≡ self.old.ended) }
         ensures cut { OnOk result (self.new.cut.items ≡ []) }
-        ensures runs { (t : TableParts) (o : Options) (taken printed reported : List ℕ)
-            → IsEmptyOrEndsWith taken line_feed → HasDecoded t o taken printed reported self.old
-            → RunsCut t o taken printed reported self.old self.new result }
+        ensures runs { (t : TableParts) (job : Job) (taken printed reported : List ℕ)
+            → IsEmptyOrEndsWith taken line_feed → HasTaken t job taken printed reported self.old
+            → RunsCut t job taken printed reported self.old self.new result }
     {
-        let options = Options {
-            packing: self.packing,
-            empty: self.empty,
-            window: self.join.window(),
-        };
-        let ran = run_more(
-            alloc,
-            &self.table,
-            &mut self.join,
-            options,
-            &self.cut,
-            &mut self.room,
-            &mut self.output,
-            &mut self.reports,
-        );
-        match ran {
+        let Decoder {
+            table,
+            work,
+            cut,
+            output,
+            reports,
+            ..
+        } = self;
+        match work.take(alloc, table, cut, output, reports) {
             Ok(()) => {
-                self.cut.clear();
+                cut.clear();
                 Ok(())
             }
             Err(fault) => Err(fault),
@@ -214,7 +227,7 @@ impl Decoder {
     pub fn counts(&self) -> Counts
         ensures { HasCounts result self.now }
     {
-        self.join.counts()
+        self.work.counts()
     }
 
     /// How many bytes wait of a line that has not ended.
@@ -232,12 +245,18 @@ impl Decoder {
         self.waiting() > 0
     }
 
-    /// The state after the lines that were taken.
-    pub fn save(&self, alloc: Global) -> Result<Vec<u8>, AllocError>
-        ensures { IfOk result (λ text. IsStateOf text.items self.now) }
+    /// Whether it encodes.
+    pub fn is_encoder(&self) -> bool
+        ensures { result ≡ is_encoder self.now.work }
     {
-        let text = self.join.save(alloc)?;
-        Ok(text)
+        self.work.is_encoder()
+    }
+
+    /// The state after the lines that were taken.
+    pub fn save(&self, alloc: Global) -> Result<Vec<u8>, Refusal>
+        ensures { MatchResult result (λ text. IsStateOf text.items self.now) (NotSavedOf self.now.work) }
+    {
+        self.work.save(alloc)
     }
 }
 

@@ -1,4 +1,4 @@
-//! The decoder for callers in C, kept between calls: `n2kdec.h` says how to call it.
+//! The decoder and the encoder for callers in C, kept between calls: `n2kdec.h` says how to call them.
 #![tactic(auto)]
 
 ghost use Rattle.std.specs.Prelude.{◌≡◌, ℕ, [], None, is_some, take};
@@ -15,14 +15,16 @@ mod queue;
 mod raw_box;
 mod raw_decoder;
 mod refusal;
+mod work;
 
 use crate::frame::Frame;
 use crate::raw_decoder::RawDecoder;
 use crate::refusal::status;
 use std::alloc::Global;
 
-/// How a log is read: `whole` says that a line is a whole message, `empty` that absent fields are printed. What is
-/// reserved is 0.
+/// How a log is read: `whole` says that a line is a whole message, `empty` that absent fields are printed. If `encode` is
+/// not 0, lines of JSON are encoded, with exact numbers (1) or the nearest ones (2), and the options of decoding are not
+/// read. What is reserved is 0.
 #[repr(C)]
 #[derive(Clone, Copy)]
 pub struct Settings {
@@ -30,7 +32,8 @@ pub struct Settings {
     pub in_order: bool,
     pub empty: bool,
     pub whole: bool,
-    pub reserved: [u8; 25],
+    pub encode: u8,
+    pub reserved: [u8; 24],
 }
 
 /// What the lines count; `held` are the groups that are open.
@@ -46,7 +49,7 @@ pub struct Counted {
     pub reserved: [u64; 2],
 }
 
-/// What C keeps of a decoder: zeros, if none is open.
+/// What C keeps of a decoder or an encoder: zeros, if none is open.
 #[repr(C)]
 #[derive(Drop)]
 pub struct Handle {
@@ -55,7 +58,7 @@ pub struct Handle {
     pub ghost tied: { live ≡ is_some hold.holds },
 }
 
-/// Reads a table, and opens a decoder that begins a log, or goes on from a saved state.
+/// Reads a table, and opens a decoder that begins a log or goes on from a saved state, or an encoder.
 #[unsafe(no_mangle)]
 pub extern "C" fn n2k_open(
     alloc: Global,
@@ -81,7 +84,7 @@ pub extern "C" fn n2k_feed(alloc: Global, h: &mut Handle, bytes: &[u8]) -> i32
     status(calls::feed(alloc, h, bytes))
 }
 
-/// Takes a CAN frame, as the line that candump prints of it.
+/// Takes a CAN frame, as the line that candump prints of it. An encoder takes none.
 #[unsafe(no_mangle)]
 pub extern "C" fn n2k_frame(
     alloc: Global,
@@ -167,7 +170,7 @@ pub extern "C" fn n2k_waiting(alloc: Global, h: &mut Handle, size: &mut usize) -
     status(calls::waiting(alloc, h, size))
 }
 
-/// Puts the state after the lines that were taken into a room, if it fits, and returns its size.
+/// Puts the state after the lines that were taken into a room, if it fits, and returns its size. An encoder has none.
 #[unsafe(no_mangle)]
 pub extern "C" fn n2k_save(alloc: Global, h: &mut Handle, room: &mut [u8], size: &mut usize) -> i32
     ensures { StatusMeans result (Fills room.old room.new size.new

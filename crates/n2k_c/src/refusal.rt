@@ -31,6 +31,8 @@ pub enum Refusal {
     Frame,
     /// An unfinished line is waiting.
     Unfinished,
+    /// The handle encodes: it has no state, and takes no frames.
+    Encoder,
     /// The table is refused.
     Table(TableFault),
     /// The state is refused.
@@ -140,6 +142,7 @@ pub fn status(answer: Result<(), Refusal>) -> i32
         Err(Refusal::Reserved) => 8,
         Err(Refusal::Frame) => 9,
         Err(Refusal::Unfinished) => 10,
+        Err(Refusal::Encoder) => 11,
         Err(Refusal::Table(fault)) => table_code(fault),
         Err(Refusal::State(fault)) => state_code(fault),
     }

@@ -7,8 +7,9 @@ use Rattle.n2k_encode.specs.Refusal.{CauseParts}
 use Rattle.n2k_encode.specs.Steps.{before_all}
 
 -- one set more
-pub laid_more : (r : RepeatParts) (all : SetsParts) (cs : List CodedParts) (others : Result (List (List CodedParts)) CauseParts) → laid_sets r all (before_all (cs ∷ []) others) ≡ laid_sets r (with_set_of r all cs) others
-laid_more r all cs (Ok sets) = refl
-laid_more r all cs (Err cause) = refl
+pub laid_more : (r : RepeatParts) (own : List CodedParts) (all : SetsParts) (cs : List CodedParts) (others : Result (List (List CodedParts)) CauseParts)
+    → laid_sets r own all (before_all (cs ∷ []) others) ≡ laid_sets r own (with_set_of r own all cs) others
+laid_more r own all cs (Ok sets) = refl
+laid_more r own all cs (Err cause) = refl
 
 pub ruleset laid_rules = (laid_more)

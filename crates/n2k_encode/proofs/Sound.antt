@@ -19,9 +19,9 @@ use Rattle.n2k_encode.specs.declared.reading.Reading.{Reading}
 use Rattle.n2k_encode.specs.Encoded.{IsEncoded, IsEncodedLine, IsObjectOf, reads_as, shows_either}
 use Rattle.n2k_encode.specs.Draft.{draft_for, most_data}
 use Rattle.n2k_encode.specs.Given.{first_unknown, given, wrong_names}
-use Rattle.n2k_encode.specs.Payload.{culprit, cut, cut_draft, data_by, data_in, encoded, first_data, given_data, is_chosen, is_data, is_meant, is_unmatched, matched, or_else, payload_for, sized, unless, unmatched}
+use Rattle.n2k_encode.specs.Payload.{culprit, cut, cut_draft, data_by, data_in, encoded, first_data, given_data, is_chosen, is_data, is_meant, is_unmatched, matched, or_bytes, or_else, payload_for, sized, unless, unmatched}
 use Rattle.n2k_encode.specs.Reading.{shows_all}
-use Rattle.n2k_encode.specs.Refusal.{CauseParts, address, field, none_shows, size, unknown}
+use Rattle.n2k_encode.specs.Refusal.{CauseParts, address, field, is_description, none_shows, size, unknown}
 use Rattle.n2k_encode.specs.Request.{RequestParts, request, no_request}
 use Rattle.n2k_encode.specs.Says.{has_pairs}
 use Rattle.n2k_encode.specs.Steps.{first_of, is_some_with, Gives}
@@ -132,9 +132,14 @@ first_of_is (Some y) b x e = inl e
 
 cut_draft_is : (ds : List DefinitionParts) (kind : Kind) (k : ℕ) (d : DefinitionParts) (reading : Reading) (fields : Json) (draft : Draft) (payload : List ℕ)
     → cut_draft ds kind k d reading fields draft ≡ Some payload → IsCut ds k d reading fields payload
-cut_draft_is ds kind k d reading fields draft payload e = elim (first_of_is _ _ payload e) [
-  | inl whole ↦ cut_is ds kind k d reading fields draft.bytes draft.whole payload whole
-  | inr needed ↦ cut_is ds kind k d reading fields draft.bytes draft.needed payload needed
+cut_draft_is ds kind k d reading fields draft payload e = elim (cases_Bool draft.agree) [
+  | inl same ↦ elim (first_of_is _ _ payload (rw same at e)) [
+    | inl whole ↦ cut_is ds kind k d reading fields draft.bytes draft.whole payload whole
+    | inr needed ↦ cut_is ds kind k d reading fields draft.bytes draft.needed payload needed
+  ]
+  | inr other ↦
+      let none : None ≡ Some payload = rw other at e in
+      absurd cc
 ]
 
 through : (o : Option CauseParts) (m : Result Draft CauseParts) (cuts : Draft → Option (List ℕ)) (blame : Draft → CauseParts) (payload : List ℕ)
@@ -239,10 +244,20 @@ unmatched_reads t kind nearest r payload asked e =
     let free : choice t r.id.pgn payload ≡ None = none_is (choice t r.id.pgn payload) is.2 in
     rw free (rw (asked, names, bytes) refl)
 
+-- data that a definition gave, or bytes
+or_bytes_is : (asked : Bool) (a b : Result (List ℕ) CauseParts) (x : List ℕ) → or_bytes asked a b ≡ Ok x → (a ≡ Ok x) ⊎ ((asked ≡ true) × (b ≡ Ok x))
+or_bytes_is asked (Ok y) b x e = inl e
+or_bytes_is asked (Err c) b x e = elim (cases_Bool (is_description c && asked)) [
+  | inl bytes ↦ inr ((both _ _ bytes).1, rw bytes at e)
+  | inr other ↦
+      let none : Err c ≡ Ok x = rw other at e in
+      absurd cc
+]
+
 payload_reads : (t : TableParts) (kind : Kind) (nearest : Bool) (r : RequestParts) (payload : List ℕ) → payload_for t kind nearest r ≡ Ok payload → reads_as nearest (choice t r.id.pgn payload) r payload ≡ true
-payload_reads t kind nearest r payload e = elim (cases_Bool (is_unmatched r.description)) [
-  | inl asked ↦ unmatched_reads t kind nearest r payload asked (rw asked at e)
-  | inr other ↦ matched_reads t r.id.pgn kind nearest r payload (rw other at e)
+payload_reads t kind nearest r payload e = elim (or_bytes_is (is_unmatched r.description) _ _ payload e) [
+  | inl by ↦ matched_reads t r.id.pgn kind nearest r payload by
+  | inr bytes ↦ unmatched_reads t kind nearest r payload bytes.0 bytes.1
 ]
 
 -- what an encoded message went through

@@ -1,5 +1,5 @@
 -- The data of a message before they are read back, and their possible ends: docs/PROFILE.md, "The data".
-use Rattle.std.specs.Prelude.{ℕ, ◌+◌, ◌-◌, ◌/◌, nat_lt, nat_le, max, Bool, true, false, not, ◌&&◌, ◌||◌, List, [], ◌∷◌, length, replicate}
+use Rattle.std.specs.Prelude.{ℕ, ◌+◌, ◌-◌, ◌/◌, nat_lt, nat_le, max, Bool, true, false, not, ◌&&◌, ◌||◌, List, [], ◌∷◌, length, drop, replicate}
 use Rattle.std.specs.Prelude.{filter, fold, map, unwrap_or, Option, Some, None, Result, Ok, Err, if◌then◌else◌}
 use Rattle.std.specs.List.{list_all, find}
 use Rattle.std.specs.Option.{option_and_then}
@@ -9,7 +9,7 @@ use Rattle.n2k_wire.specs.Steps.{◌>>=◌, or_cause, holds_or}
 use Rattle.n2k_table.specs.declared.definition.Kind.{Kind}
 use Rattle.n2k_table.specs.declared.definition.Kind.TheVariants.{Single, Fast}
 use Rattle.n2k_table.specs.Definition.{DefinitionParts}
-use Rattle.n2k_table.specs.Field.{FieldParts, is_string}
+use Rattle.n2k_table.specs.Field.{is_string}
 use Rattle.n2k_table.specs.Repeat.{RepeatParts, from_first, sets_in}
 use Rattle.n2k_encode.specs.declared.coded.Layer.{Layer}
 use Rattle.n2k_encode.specs.declared.coded.Layer.TheVariants.{Reserved, Asked, Given}
@@ -18,7 +18,7 @@ use Rattle.n2k_encode.specs.declared.value.Style.{Style}
 use Rattle.n2k_encode.specs.Coded.{CodedParts, coded_all, coded_sets, is_given, is_reserved, is_same_layer}
 use Rattle.n2k_encode.specs.Given.{given_sets}
 use Rattle.n2k_encode.specs.Place.{put_bytes, put_code, end_of}
-use Rattle.n2k_encode.specs.Refusal.{CauseParts, is_size, size, none_shows}
+use Rattle.n2k_encode.specs.Refusal.{CauseParts, is_size, size}
 use Rattle.n2k_encode.specs.Value.{CodeParts, bits, bytes}
 
 -- A field is written in its layer. A string is also written in the first layer, because other fields are placed by it.
@@ -78,38 +78,63 @@ is_cut c = is_given c.layer && is_shorter (c.field.bits / 8) c.code
 abbrev pub short_end : List ℕ → List CodedParts → Option ℕ
 short_end payload cs = option_and_then (λ c. end_of c.field c.code payload) (find is_cut cs)
 
--- data with the first of these sets at byte `at`, and the end of the set, if there is a set and it fits
-abbrev pub with_set : List (List ℕ) → ℕ → List ℕ → List ℕ × Option ℕ
-with_set [] at payload = (payload, None)
-with_set (set ∷ sets) at payload =
-    if nat_le (at + length set) 223 then (put_bytes payload at set, Some (at + length set)) else (payload, None)
+-- the end of the first of these sets at byte `at`, if there is a set and it fits
+abbrev pub end_within : ℕ → List (List ℕ) → Option ℕ
+end_within at [] = None
+end_within at (set ∷ sets) = if nat_le (at + length set) 223 then Some (at + length set) else None
 
-abbrev pub with_next : RepeatParts → List ℕ → Option ℕ → List ℕ → List ℕ × Option ℕ
-with_next r room None payload = (payload, None)
-with_next r room (Some at) payload = with_set (sets_in r room) at payload
+-- the end of a set at byte `at`, if its strings have an end and it fits
+abbrev pub set_end : RepeatParts → List CodedParts → ℕ → Option ℕ
+set_end r cs at = end_within at (sets_in r (put_all cs blank))
 
--- data with sets: the end of the last set, if it is known, and whether in each set no two given fields disagree about a bit
+-- the data from byte `at` on, filled up with bits that are 1
+abbrev pub data_from : ℕ → List ℕ → List ℕ
+data_from at payload = put_bytes blank 0 (drop at payload)
+
+-- the data after the fields of one layer of a set are written, whose first byte is `at`
+abbrev pub put_set_layer : Layer → List CodedParts → ℕ → List ℕ → List ℕ
+put_set_layer layer cs at payload = put_bytes payload at (put_layer layer cs (data_from at payload))
+
+-- The data after a set is written. Fields of the definition may be inside it: those with `match` and given ones are written
+-- after the fields of the set that are "not available", and before its given ones.
+abbrev pub put_set : List CodedParts → List CodedParts → ℕ → List ℕ → List ℕ
+put_set own cs at payload =
+    put_set_layer Given cs at (put_layer Given own (put_layer Asked own (put_set_layer Reserved cs at payload)))
+
+-- no two given fields of the definition, and of the set that begins at byte `at`, disagree about a bit
+abbrev pub both_agree : List CodedParts → List CodedParts → ℕ → List ℕ → Bool
+both_agree own cs at payload = agree payload own && agree (data_from at payload) cs
+
+-- data with sets: the end of the last set, if it is known, and whether no two given fields disagree about a bit
 pub record SetsParts : Type 0 where
   pub payload : List ℕ
   pub end : Option ℕ
   pub agree : Bool
 
--- the data after one more set is appended
-abbrev pub with_set_of : RepeatParts → SetsParts → List CodedParts → SetsParts
-with_set_of r all cs = record {
-  payload = (with_next r (put_all cs blank) all.end all.payload).0;
-  end = (with_next r (put_all cs blank) all.end all.payload).1;
-  agree = all.agree && agree (put_all cs blank) cs;
+abbrev pub with_set_to : List CodedParts → SetsParts → List CodedParts → ℕ → Option ℕ → SetsParts
+with_set_to own all cs at None = record { payload = all.payload; end = None; agree = all.agree }
+with_set_to own all cs at (Some end) = record {
+  payload = put_set own cs at all.payload;
+  end = Some end;
+  agree = all.agree && both_agree own cs at (put_set own cs at all.payload);
 }
 
--- the data after all sets are appended in order, or the first refusal of a value
-abbrev pub laid_sets : RepeatParts → SetsParts → Result (List (List CodedParts)) CauseParts → Result SetsParts CauseParts
-laid_sets r start (Ok sets) = Ok (fold (with_set_of r) start sets)
-laid_sets r start (Err cause) = Err cause
+abbrev pub with_set_at : RepeatParts → List CodedParts → SetsParts → List CodedParts → Option ℕ → SetsParts
+with_set_at r own all cs None = all
+with_set_at r own all cs (Some at) = with_set_to own all cs at (set_end r cs at)
 
--- data without sets
-abbrev pub without_sets : List ℕ → SetsParts
-without_sets payload = record { payload = payload; end = Some 0; agree = true }
+-- the data after one more set is written, if it fits
+abbrev pub with_set_of : RepeatParts → List CodedParts → SetsParts → List CodedParts → SetsParts
+with_set_of r own all cs = with_set_at r own all cs all.end
+
+-- the data after all sets are written in order, or the first refusal of a value
+abbrev pub laid_sets : RepeatParts → List CodedParts → SetsParts → Result (List (List CodedParts)) CauseParts → Result SetsParts CauseParts
+laid_sets r own start (Ok sets) = Ok (fold (with_set_of r own) start sets)
+laid_sets r own start (Err cause) = Err cause
+
+-- data with these own fields and no sets yet, of which the first begins at this byte
+abbrev pub without_sets : List CodedParts → List ℕ → ℕ → SetsParts
+without_sets own payload first = record { payload = payload; end = Some first; agree = agree payload own }
 
 -- the byte at which the first set begins
 abbrev pub first_set : RepeatParts → List ℕ → ℕ
@@ -119,17 +144,13 @@ abbrev pub is_none_given : Items → Bool
 is_none_given no_items = true
 is_none_given (item j js) = false
 
--- the data after the given sets are appended
-abbrev pub laid_repeat : Style → Option RepeatParts → Option Items → List ℕ → Result SetsParts CauseParts
-laid_repeat s None js payload = Ok (without_sets payload)
-laid_repeat s (Some r) None payload = Ok (without_sets payload)
-laid_repeat s (Some r) (Some js) payload =
-    if is_none_given js then Ok (without_sets payload)
-    else laid_sets r (record { payload = payload; end = Some (first_set r payload); agree = true }) (coded_sets s r.fields js)
-
-abbrev pub name_of_first : List FieldParts → List ℕ
-name_of_first [] = []
-name_of_first (f ∷ fs) = f.name
+-- the data after the given sets are written
+abbrev pub laid_repeat : Style → Option RepeatParts → Option Items → List CodedParts → List ℕ → Result SetsParts CauseParts
+laid_repeat s None js own payload = Ok (without_sets own payload 0)
+laid_repeat s (Some r) None own payload = Ok (without_sets own payload 0)
+laid_repeat s (Some r) (Some js) own payload =
+    if is_none_given js then Ok (without_sets own payload 0)
+    else laid_sets r own (without_sets own payload (first_set r payload)) (coded_sets s r.fields js)
 
 -- The end of the first short field. Without one: 8 in a single frame, the end of the last field or set in a fast packet.
 abbrev pub whole_end : Option ℕ → Kind → ℕ → ℕ
@@ -137,17 +158,20 @@ whole_end (Some end) kind last = end
 whole_end None Single last = 8
 whole_end None Fast last = last
 
--- The data by a definition and their possible ends, or a refusal: of a value first, then of the size, then because two
--- given fields disagree about a bit.
+-- The data by a definition and their possible ends, or a refusal: of a value first, then of the size.
 unfoldable pub draft_in : Style → DefinitionParts → Kind → Json → Result Draft CauseParts
 draft_in s d kind j = do
   cs ← coded_all s j d.fields
-  sets ← laid_repeat s d.repeat (given_sets j) (put_all cs blank)
+  sets ← laid_repeat s d.repeat (given_sets j) cs (put_all cs blank)
   needed ← or_cause size (last_of (end_of_all false (put_all cs blank) cs) sets.end)
   last ← or_cause size (last_of (end_of_all true (put_all cs blank) cs) sets.end)
   few ← holds_or size (nat_le needed (most_data kind))
-  same ← holds_or (none_shows (name_of_first d.fields)) (agree (put_all cs blank) cs && sets.agree)
-  Ok (record { bytes = sets.payload; needed = needed; whole = whole_end (short_end (put_all cs blank) cs) kind last })
+  Ok (record {
+    bytes = sets.payload;
+    needed = needed;
+    whole = whole_end (short_end (put_all cs blank) cs) kind last;
+    agree = sets.agree;
+  })
 
 -- the first result, or the second if the first is refused for its size
 abbrev pub unless_long : Result Draft CauseParts → Result Draft CauseParts → Result Draft CauseParts

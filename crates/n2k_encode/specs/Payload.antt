@@ -1,6 +1,6 @@
 -- The message that an object requests, or the first cause of its refusal: docs/PROFILE.md, "The definition" and "Reports".
 use Rattle.std.specs.Prelude.{ℕ, nat_le, Bool, true, false, not, ◌&&◌, codes, List, [], ◌∷◌, length, map, take, filter}
-use Rattle.std.specs.Prelude.{Option, Some, None, Result, Ok, Err, is_none, option_map, unwrap_or, slice_get, if◌then◌else◌}
+use Rattle.std.specs.Prelude.{Option, Some, None, Result, Ok, Err, is_none, is_some, option_map, unwrap_or, slice_get, if◌then◌else◌}
 use Rattle.std.specs.List.{enumerate_from, list_all}
 use Rattle.std.specs.Option.{option_and_then}
 use Rattle.std.specs.Str.{bytes_eq}
@@ -10,15 +10,15 @@ use Rattle.n2k_wire.specs.Identifier.{join}
 use Rattle.n2k_wire.specs.Packet.{PacketParts}
 use Rattle.n2k_wire.specs.Steps.{◌>>=◌, or_cause, holds_or, some_if}
 use Rattle.n2k_table.specs.declared.definition.Kind.{Kind}
-use Rattle.n2k_table.specs.Definition.{DefinitionParts}
+use Rattle.n2k_table.specs.Definition.{DefinitionParts, list_name}
 use Rattle.n2k_table.specs.Field.{FieldParts}
 use Rattle.n2k_table.specs.Table.{TableParts, KnownParts, choice, is_of, kind, matches}
 use Rattle.n2k_encode.specs.declared.draft.Draft.{Draft}
 use Rattle.n2k_encode.specs.declared.reading.Reading.{Reading}
-use Rattle.n2k_encode.specs.Draft.{draft_for, most_data, name_of_first}
+use Rattle.n2k_encode.specs.Draft.{draft_for, most_data}
 use Rattle.n2k_encode.specs.Given.{given, first_unknown, wrong_names}
 use Rattle.n2k_encode.specs.Reading.{first_wrong, shows_all}
-use Rattle.n2k_encode.specs.Refusal.{CauseParts, unknown, address, description, field, value, size, none_shows}
+use Rattle.n2k_encode.specs.Refusal.{CauseParts, unknown, address, description, field, value, size, none_shows, is_description}
 use Rattle.n2k_encode.specs.Request.{RequestParts, request, no_request}
 use Rattle.n2k_encode.specs.Steps.{first_of, is_some_with}
 use Rattle.n2k_encode.specs.Texts.{hex_bytes, most_bytes}
@@ -32,7 +32,7 @@ is_meant (Some text) d = bytes_eq d.description text
 abbrev pub is_data : List ℕ → Bool
 is_data name = bytes_eq name (codes "Data")
 
--- the line requests a message that no definition matches
+-- the line has the description of a message that no definition matches
 abbrev pub is_unmatched : Option (List ℕ) → Bool
 is_unmatched asked = is_some_with (λ text. bytes_eq text (codes "Unmatched")) asked
 
@@ -53,19 +53,31 @@ cut ds kind k d reading fields payload n =
     (take n payload)
 
 -- The draft up to its last field, if that reads back; otherwise the draft up to the last field that is given or has
--- `match`.
+-- `match`. None if two given fields disagree about a bit.
 abbrev pub cut_draft : List DefinitionParts → Kind → ℕ → DefinitionParts → Reading → Json → Draft → Option (List ℕ)
 cut_draft ds kind k d reading fields draft =
-    first_of (cut ds kind k d reading fields draft.bytes draft.whole) (cut ds kind k d reading fields draft.bytes draft.needed)
+    if draft.agree then
+    first_of (cut ds kind k d reading fields draft.bytes draft.whole)
+    (cut ds kind k d reading fields draft.bytes draft.needed)
+    else None
 
 abbrev pub name_or : List ℕ → Option FieldParts → List ℕ
 name_or other None = other
 name_or other (Some f) = f.name
 
--- the name of the first field that does not show its given value in the draft
+abbrev pub name_of_first : List FieldParts → List ℕ
+name_of_first [] = []
+name_of_first (f ∷ fs) = f.name
+
+-- the name of what may be at fault if each field of the definition shows its given value: `list` if the definition has
+-- sets, otherwise its first field
+abbrev pub other_name : DefinitionParts → List ℕ
+other_name d = if is_some d.repeat then list_name else name_of_first d.fields
+
+-- the name of the first field of the definition that does not show its given value in the draft
 abbrev pub culprit : DefinitionParts → Reading → Json → Draft → List ℕ
 culprit d reading fields draft =
-    name_or (name_of_first d.fields) (first_wrong reading fields (take draft.whole draft.bytes) d.fields)
+    name_or (other_name d) (first_wrong reading fields (take draft.whole draft.bytes) d.fields)
 
 abbrev pub unless : Option CauseParts → Result (Unit {0}) CauseParts
 unless None = Ok tt
@@ -120,9 +132,14 @@ unmatched t kind r = do
   free ← holds_or (none_shows (codes "Data")) (is_none (choice t r.id.pgn payload))
   Ok payload
 
+-- A line whose description is `Unmatched` requests bytes, unless a definition has this description.
+abbrev pub or_bytes : Bool → Result (List ℕ) CauseParts → Result (List ℕ) CauseParts → Result (List ℕ) CauseParts
+or_bytes asked (Ok payload) other = Ok payload
+or_bytes asked (Err cause) other = if is_description cause && asked then other else Err cause
+
 abbrev pub payload_for : TableParts → Kind → Bool → RequestParts → Result (List ℕ) CauseParts
 payload_for t kind nearest r =
-    if is_unmatched r.description then unmatched t kind r else matched (filter (is_of r.id.pgn) t.definitions) kind nearest r
+    or_bytes (is_unmatched r.description) (matched (filter (is_of r.id.pgn) t.definitions) kind nearest r) (unmatched t kind r)
 
 -- the message that an object requests, or the first cause that applies
 unfoldable pub encoded : TableParts → Bool → Json → Result PacketParts CauseParts

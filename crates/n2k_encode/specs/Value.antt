@@ -19,7 +19,7 @@ use Rattle.n2k_table.specs.Lookup.{name_of_value}
 use Rattle.n2k_encode.specs.declared.value.Style.{Style}
 use Rattle.n2k_encode.specs.Numeral.{is_negative, digits_of, scaled, multiples}
 use Rattle.n2k_encode.specs.Request.{whole_number}
-use Rattle.n2k_encode.specs.Steps.{◌>>=◌, first_of}
+use Rattle.n2k_encode.specs.Steps.{◌>>=◌, first_of, is_some_with}
 use Rattle.n2k_encode.specs.Texts.{latin1, filled, ends_full, hex_bytes, digit_pairs, narrow_string, latin1_string, utf16_string, within}
 
 -- how many of the greatest values of n bits mean "not available"
@@ -75,14 +75,25 @@ abbrev pub if_there : List (ℕ × List ℕ) → ℕ → Option ℕ → Option �
 if_there entries n None = None
 if_there entries n (Some v) = some_if (is_there entries n v) v
 
--- the first value of a lookup with the given name, or the given number if it has no name
-abbrev pub named_value : List (ℕ × List ℕ) → Json → Option ℕ
-named_value entries null = None
-named_value entries (boolean b) = None
-named_value entries (number s) = unnamed entries s
-named_value entries (string s) = option_map (λ e. e.0) (find (λ e. bytes_eq e.1 s) entries)
-named_value entries (array js) = None
-named_value entries (object ms) = None
+-- the first value of a lookup, at most `most`, with the given name, or the given number if it has no name
+abbrev pub named_value : List (ℕ × List ℕ) → ℕ → Json → Option ℕ
+named_value entries most null = None
+named_value entries most (boolean b) = None
+named_value entries most (number s) = unnamed entries s
+named_value entries most (string s) = option_map (λ e. e.0) (find (λ e. nat_le e.0 most && bytes_eq e.1 s) entries)
+named_value entries most (array js) = None
+named_value entries most (object ms) = None
+
+-- the given text is the name of a `match` value
+abbrev pub names_asked : List (ℕ × List ℕ) → Option ℕ → Json → Bool
+names_asked entries asked j =
+    is_some_with (λ text. is_some_with (λ name. bytes_eq name text) (option_and_then (name_of_value entries) asked)) (as_str j)
+
+-- The raw value of a lookup. Two values may have the same name: the `match` value is taken if it has the given name,
+-- otherwise the first that n bits can hold.
+abbrev pub lookup_raw : List (ℕ × List ℕ) → ℕ → Option ℕ → Json → Option ℕ
+lookup_raw entries n asked j =
+    if names_asked entries asked j then asked else if_there entries n (named_value entries (greatest false n) j)
 
 -- the raw value with one more bit, if the bit is one of n and not set yet
 abbrev pub with_flag : ℕ → ℕ → ℕ → Option ℕ
@@ -92,7 +103,7 @@ with_flag raw n bit = some_if (nat_lt bit n && not (has_bit raw bit)) (bit_or ra
 abbrev pub flags_from : List (ℕ × List ℕ) → ℕ → ℕ → Items → Option ℕ
 flags_from entries n raw no_items = Some raw
 flags_from entries n raw (item j js) = do
-  bit ← named_value entries j
+  bit ← named_value entries (n - 1) j
   more ← with_flag raw n bit
   flags_from entries n more js
 
@@ -174,7 +185,7 @@ code_for s f j (means.number signed resolution) =
     bits_for f (option_and_then (number_raw s.nearest signed f.bits resolution) (as_number j))
 code_for s f j (means.shifted offset resolution) =
     bits_for f (option_and_then (shifted_raw s.nearest f.bits offset resolution) (as_number j))
-code_for s f j (means.named entries) = bits_for f (if_there entries f.bits (named_value entries j))
+code_for s f j (means.named entries) = bits_for f (lookup_raw entries f.bits f.match_value j)
 code_for s f j (means.flags entries) = bits_for f (flags_raw entries f.bits j)
 code_for s f j means.text = bytes_for (option_and_then (text_bytes (f.bits / 8)) (as_str j))
 code_for s f j means.bytes = bytes_for (option_and_then (plain_bytes (f.bits / 8) f.short) (as_str j))

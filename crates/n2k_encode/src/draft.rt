@@ -2,8 +2,8 @@
 ghost use Rattle.std.specs.Prelude.{◌≡◌, ◌≤◌, true, find, option_map, Some};
 ghost use Rattle.json.specs.Value.{value_view, items_view};
 ghost use Rattle.n2k_encode.specs.Coded.{coded_sets};
-ghost use Rattle.n2k_encode.specs.Draft.{agree, blank, draft_for, draft_in, end_of_all, has_code, is_cut, is_set_in, laid_repeat, is_none_given, laid_sets};
-ghost use Rattle.n2k_encode.specs.Draft.{last_of, most_data, name_of_first, own_end, put_all, put_layer, short_end, whole_end, with_next, SetsParts};
+ghost use Rattle.n2k_encode.specs.Draft.{agree, blank, both_agree, data_from, draft_for, draft_in, end_of_all, has_code, is_cut, is_set_in, laid_repeat, is_none_given, laid_sets};
+ghost use Rattle.n2k_encode.specs.Draft.{last_of, most_data, own_end, put_all, put_layer, put_set, put_set_layer, set_end, short_end, whole_end, with_set_of, without_sets, SetsParts};
 ghost use Rattle.n2k_encode.specs.Given.{given_sets};
 ghost use Rattle.n2k_encode.specs.Refusal.{cause, is_size};
 ghost use Rattle.n2k_encode.specs.Steps.{Gives};
@@ -25,6 +25,8 @@ pub(crate) struct Draft {
     pub(crate) needed: usize,
     /// The end of the last set and of the last field.
     pub(crate) whole: usize,
+    /// Whether no two given fields disagree about a bit.
+    pub(crate) agree: bool,
 }
 
 /// The greatest number of bytes in a message of this kind.
@@ -154,63 +156,119 @@ fn short_end(fields: &[Coded<'_>], data: &[u8; MOST_DATA]) -> Option<usize>
     }
 }
 
-/// The end of the last set, if all sets fit, and whether in each set no two given fields disagree about a bit.
+/// The end of the last set, if all sets fit, and whether no two given fields disagree about a bit.
 #[derive(Clone, Copy)]
 struct Sets {
     end: Option<usize>,
     agree: bool,
 }
 
-/// No sets.
-const NO_SETS: Sets = Sets {
-    end: Some(0),
-    agree: true,
-};
-
-/// Appends a set at byte `end`, if that is known, and returns the end of the set. `None` if the set has no end or does not
-/// fit.
-fn append_set(
-    repeat: &Repeat,
-    room: &[u8; MOST_DATA],
-    end: Option<usize>,
-    data: &mut [u8; MOST_DATA],
-) -> Option<usize>
-    ensures { with_next repeat.now room.now end «data».old ≡ («data».new, result) }
+/// The end of a set that begins at byte `at`. `None` if one of its strings has no end, or if the set does not fit.
+fn set_end(repeat: &Repeat, fields: &[Coded<'_>], at: usize) -> Option<usize>
+    ensures { result ≡ set_end repeat.now fields.now at }
 {
-    let at = end?;
+    let mut room = blank();
+    put_all(fields, &mut room);
     let (bytes, _) = repeat.split_set(room.as_slice())?;
     let end = at.checked_add(bytes.len())?;
     if end > MOST_DATA {
         return None;
     }
-    put_bytes(data, at, bytes);
     Some(end)
 }
 
-/// Appends sets to the data, as far as they fit.
+/// The data from byte `at` on, filled up with bits that are 1.
+fn data_from(at: usize, data: &[u8; MOST_DATA]) -> [u8; MOST_DATA]
+    ensures { result ≡ data_from at «data».now }
+{
+    let mut rest = blank();
+    put_bytes(&mut rest, 0, data.get(at..).unwrap_or(&[]));
+    rest
+}
+
+/// Writes the fields of one layer of a set that begins at byte `at`.
+fn put_set_layer(layer: Layer, fields: &[Coded<'_>], at: usize, data: &mut [u8; MOST_DATA])
+    ensures { «data».new ≡ put_set_layer layer fields.now at «data».old }
+{
+    let mut rest = data_from(at, data);
+    put_layer(layer, fields, &mut rest);
+    put_bytes(data, at, rest.as_slice());
+}
+
+/// Writes a set. Own fields of the definition may be inside it: those with `match` and given ones are written after the
+/// fields of the set that are "not available", and before its given ones.
+fn put_set(own: &[Coded<'_>], fields: &[Coded<'_>], at: usize, data: &mut [u8; MOST_DATA])
+    ensures { «data».new ≡ put_set own.now fields.now at «data».old }
+{
+    put_set_layer(Layer::Reserved, fields, at, data);
+    put_layer(Layer::Asked, own, data);
+    put_layer(Layer::Given, own, data);
+    put_set_layer(Layer::Given, fields, at, data);
+}
+
+/// Whether no two given fields of the definition, and of the set that begins at byte `at`, disagree about a bit.
+fn both_agree(own: &[Coded<'_>], fields: &[Coded<'_>], at: usize, data: &[u8; MOST_DATA]) -> bool
+    ensures { result ≡ both_agree own.now fields.now at «data».now }
+{
+    agree(own, data) && agree(fields, &data_from(at, data))
+}
+
+/// Writes one more set, if it fits.
+fn append_set(
+    repeat: &Repeat,
+    own: &[Coded<'_>],
+    fields: &[Coded<'_>],
+    all: Sets,
+    data: &mut [u8; MOST_DATA],
+) -> Sets
+    ensures { record { payload = «data».new; end = result.end; agree = result.agree }
+        ≡ with_set_of repeat.now own.now (record { payload = «data».old; end = all.end; agree = all.agree }) fields.now }
+{
+    let Some(at) = all.end else {
+        return all;
+    };
+    let Some(end) = set_end(repeat, fields, at) else {
+        return Sets {
+            end: None,
+            agree: all.agree,
+        };
+    };
+    put_set(own, fields, at, data);
+    Sets {
+        end: Some(end),
+        agree: all.agree && both_agree(own, fields, at, data),
+    }
+}
+
+/// The end and the agreement of data without sets, of which the first would begin at byte `first`.
+fn without_sets(own: &[Coded<'_>], first: usize, data: &[u8; MOST_DATA]) -> Sets
+    ensures { record { payload = «data».now; end = result.end; agree = result.agree } ≡ without_sets own.now «data».now first }
+{
+    Sets {
+        end: Some(first),
+        agree: agree(own, data),
+    }
+}
+
+/// Writes sets into the data, as far as they fit. The codes of one set are kept at a time.
 #[tactic(auto, using(crate::proofs::Laid::laid_rules))]
 fn put_sets<'t>(
     alloc: Global,
     style: Style,
     repeat: &'t Repeat,
+    own: &[Coded<'_>],
     sets: &[Value<'_>],
     first: usize,
     data: &mut [u8; MOST_DATA],
 ) -> Result<Sets, EncodeError<'t>>
     ensures { Gives (λ sets. record { payload = «data».new; end = sets.end; agree = sets.agree }) result
-        (laid_sets repeat.now (record { payload = «data».old; end = Some first; agree = true })
+        (laid_sets repeat.now own.now (without_sets own.now «data».old first)
         (coded_sets style repeat.now.fields (items_view sets.now))) }
 {
-    let mut all = Sets {
-        end: Some(first),
-        agree: true,
-    };
+    let mut all = without_sets(own, first, data);
     for set in sets {
         let fields = coded_fields(alloc, style, repeat.fields(), set)?;
-        let mut room = blank();
-        put_all(&fields, &mut room);
-        all.agree = all.agree && agree(&fields, &room);
-        all.end = append_set(repeat, &room, all.end, data);
+        all = append_set(repeat, own, &fields, all, data);
     }
     Ok(all)
 }
@@ -223,39 +281,30 @@ fn is_none_given(sets: &[Value<'_>]) -> bool
     sets.is_empty()
 }
 
-/// Appends the given sets to the data.
+/// Writes the given sets into the data.
 fn put_repeat<'t>(
     alloc: Global,
     style: Style,
     repeat: Option<&'t Repeat>,
     object: &Value<'_>,
+    own: &[Coded<'_>],
     data: &mut [u8; MOST_DATA],
 ) -> Result<Sets, EncodeError<'t>>
     ensures { Gives (λ sets. record { payload = «data».new; end = sets.end; agree = sets.agree }) result
-        (laid_repeat style (option_map (λ r. r.now) repeat.entry) (given_sets (value_view object.now)) «data».old) }
+        (laid_repeat style (option_map (λ r. r.now) repeat.entry) (given_sets (value_view object.now)) own.now «data».old) }
 {
     let Some(repeat) = repeat else {
-        return Ok(NO_SETS);
+        return Ok(without_sets(own, 0, data));
     };
     let Some(sets) = given_sets(object) else {
-        return Ok(NO_SETS);
+        return Ok(without_sets(own, 0, data));
     };
     if is_none_given(sets) {
-        return Ok(NO_SETS);
+        return Ok(without_sets(own, 0, data));
     }
     let rest = repeat.from_first(data.as_slice());
     let first = data.len().saturating_sub(rest.len());
-    put_sets(alloc, style, repeat, sets, first, data)
-}
-
-/// The name of the first field of a definition, if it has one.
-pub(crate) fn first_name<'t>(definition: &Definition<'t>) -> &'t str
-    ensures { result.now ≡ name_of_first definition.now.fields }
-{
-    match definition.own_fields().first() {
-        Some(field) => field.name(),
-        None => "",
-    }
+    put_sets(alloc, style, repeat, own, sets, first, data)
 }
 
 /// The end of the first short field. Without one: 8 in a single frame, the end of the last field or set in a fast packet.
@@ -284,20 +333,25 @@ fn draft_in<'t>(
     let mut own = blank();
     put_all(&fields, &mut own);
     let mut bytes = own;
-    let sets = put_repeat(alloc, style, definition.repeated(), object, &mut bytes)?;
+    let sets = put_repeat(
+        alloc,
+        style,
+        definition.repeated(),
+        object,
+        &fields,
+        &mut bytes,
+    )?;
     let needed = last_of(end_of_all(false, &fields, &own), sets.end).ok_or(Refusal::Size)?;
     let last = last_of(end_of_all(true, &fields, &own), sets.end).ok_or(Refusal::Size)?;
     if needed > most_data(kind) {
         return Err(EncodeError::Refused(Refusal::Size));
-    }
-    if !(agree(&fields, &own) && sets.agree) {
-        return Err(EncodeError::Refused(Refusal::Data(first_name(definition))));
     }
     let whole = whole_end(short_end(&fields, &own), kind, last);
     Ok(Draft {
         bytes,
         needed,
         whole,
+        agree: sets.agree,
     })
 }
 

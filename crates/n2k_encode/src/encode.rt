@@ -8,13 +8,13 @@ ghost use Rattle.n2k_table.specs.declared.definition.Kind.{Kind};
 ghost use Rattle.n2k_table.specs.Table.{kind as kind_of, matches};
 ghost use Rattle.n2k_encode.specs.Encoded.{longest_request, IsEncodedLine, IsLineCause, IsNoObject, IsObjectOf};
 ghost use Rattle.n2k_encode.specs.Given.{given};
-ghost use Rattle.n2k_encode.specs.Payload.{culprit, cut, data_by, data_in, definitions_of, encoded, is_chosen, is_meant, is_unmatched};
-ghost use Rattle.n2k_encode.specs.Payload.{given_data, matched, payload_for, sized, unmatched};
-ghost use Rattle.n2k_encode.specs.Refusal.{cause, description, not_json, IfRefused};
+ghost use Rattle.n2k_encode.specs.Payload.{culprit, cut, cut_draft, data_by, data_in, definitions_of, encoded, is_chosen, is_meant, is_unmatched};
+ghost use Rattle.n2k_encode.specs.Payload.{given_data, matched, other_name, payload_for, sized, unmatched};
+ghost use Rattle.n2k_encode.specs.Refusal.{cause, description, is_description, not_json, IfRefused};
 ghost use Rattle.n2k_encode.specs.Steps.{first_of, is_some_with, Gives};
 ghost use Rattle.n2k_encode.specs.Views.{request_parts};
 
-use crate::draft::{Draft, draft_for, first_name, most_data};
+use crate::draft::{Draft, draft_for, most_data};
 use crate::given::{check_names, given, unknown_beside};
 use crate::place::MOST_DATA;
 use crate::reading::Reading;
@@ -96,8 +96,64 @@ fn cut(
     Some(payload)
 }
 
-/// The name of the first field that does not show its given value in the draft. It is reported if the draft does not read
-/// back.
+/// A draft up to its last field, if that reads back; otherwise up to the last field that is given or has `match`. `None` if
+/// two given fields disagree about a bit.
+fn cut_draft(
+    known: &KnownPgn<'_>,
+    kind: Kind,
+    place: usize,
+    definition: &Definition<'_>,
+    reading: Reading,
+    fields: &Value<'_>,
+    draft: &Draft,
+) -> Option<Payload>
+    ensures { option_map (λ payload. payload.items) result
+        ≡ cut_draft (definitions_of known.now) kind place definition.now reading (value_view fields.now) draft.now }
+{
+    if !draft.agree {
+        return None;
+    }
+    let bytes = &draft.bytes;
+    if let Some(payload) = cut(
+        known,
+        kind,
+        place,
+        definition,
+        reading,
+        fields,
+        bytes,
+        draft.whole,
+    ) {
+        return Some(payload);
+    }
+    cut(
+        known,
+        kind,
+        place,
+        definition,
+        reading,
+        fields,
+        bytes,
+        draft.needed,
+    )
+}
+
+/// The name of what may be at fault if each field of the definition shows its given value: `list` if the definition has
+/// sets, otherwise its first field.
+fn other_name<'t>(definition: &Definition<'t>) -> &'t str
+    ensures { result.now ≡ other_name definition.now }
+{
+    if definition.repeated().is_some() {
+        return "list";
+    }
+    match definition.own_fields().first() {
+        Some(field) => field.name(),
+        None => "",
+    }
+}
+
+/// The name of the first field of the definition that does not show its given value in the draft. It is reported if the
+/// draft does not read back, or if two given fields disagree about a bit.
 fn culprit<'t>(
     definition: &Definition<'t>,
     reading: Reading,
@@ -109,7 +165,7 @@ fn culprit<'t>(
     let data = draft.bytes.get(..draft.whole).unwrap_or(&draft.bytes);
     match reading.first_wrong(definition.own_fields(), fields, data) {
         Some(field) => field.name(),
-        None => first_name(definition),
+        None => other_name(definition),
     }
 }
 
@@ -130,28 +186,7 @@ fn data_by<'a>(
     let fields = request.fields;
     check_names(definition, fields)?;
     let draft = draft_for(alloc, reading.nearest, definition, kind, fields)?;
-    if let Some(payload) = cut(
-        known,
-        kind,
-        place,
-        definition,
-        reading,
-        fields,
-        &draft.bytes,
-        draft.whole,
-    ) {
-        return Ok(payload);
-    }
-    match cut(
-        known,
-        kind,
-        place,
-        definition,
-        reading,
-        fields,
-        &draft.bytes,
-        draft.needed,
-    ) {
+    match cut_draft(known, kind, place, definition, reading, fields, &draft) {
         Some(payload) => Ok(payload),
         None => Err(EncodeError::Refused(Refusal::Data(culprit(
             definition, reading, fields, &draft,
@@ -259,7 +294,14 @@ fn unmatched<'a>(
     Ok(payload)
 }
 
-/// Whether a line requests a message that no definition matches.
+/// Whether no definition has the requested description.
+fn is_description(refusal: Refusal<'_>) -> bool
+    ensures { result ≡ is_description (cause refusal.entry) }
+{
+    matches!(refusal, Refusal::Description)
+}
+
+/// Whether a line has the description of a message that no definition matches.
 fn is_unmatched(description: Option<&str>) -> bool
     ensures { result ≡ is_unmatched (option_map (λ text. text.now) description.entry) }
 {
@@ -295,7 +337,8 @@ fn matched<'a>(
     }
 }
 
-/// The data of the requested message.
+/// The data of the requested message. A line whose description is `Unmatched` requests bytes, unless a definition has this
+/// description.
 fn payload_for<'a>(
     alloc: Global,
     known: &KnownPgn<'a>,
@@ -307,10 +350,13 @@ fn payload_for<'a>(
         (payload_for known.now.table kind nearest (request_parts request.now)) }
 {
     let kind = known.kind();
-    if is_unmatched(request.description) {
-        unmatched(known, kind, request)
-    } else {
-        matched(alloc, known, kind, nearest, request)
+    match matched(alloc, known, kind, nearest, request) {
+        Ok(payload) => Ok(payload),
+        Err(EncodeError::Refused(refusal))
+            if is_description(refusal) && is_unmatched(request.description) => {
+            unmatched(known, kind, request)
+        }
+        Err(error) => Err(error),
     }
 }
 

@@ -5,7 +5,7 @@ ghost use Rattle.json.specs.Value.{value_view, items_view};
 ghost use Rattle.n2k_table.specs.Bits.{greatest};
 ghost use Rattle.std.specs.Option.{option_and_then};
 ghost use Rattle.n2k_encode.specs.Value.{bytes as byte_code, all_ones, bits_for, bytes_for, code_for, digit_bytes, empty_string};
-ghost use Rattle.n2k_encode.specs.Value.{first_string, flags_from, flags_raw, if_there, is_there, named_value, not_available, number_raw};
+ghost use Rattle.n2k_encode.specs.Value.{first_string, flags_from, flags_raw, if_there, is_there, lookup_raw, named_value, names_asked, not_available, number_raw};
 ghost use Rattle.n2k_encode.specs.Value.{plain_bytes, raw_number, reserved, shifted_raw, shorter_of, shortest_string, string_bytes};
 ghost use Rattle.n2k_encode.specs.Value.{text_bytes, units_of, unnamed, whole_raw, wide_string, with_flag, with_sign};
 ghost use Rattle.n2k_encode.specs.Views.{code_parts};
@@ -207,15 +207,43 @@ fn if_there(lookup: &Lookup, bits: u32, found: Option<u64>) -> Option<u64>
     }
 }
 
-/// The value of a lookup with the given name, or the given number if it has no name.
-fn named_value(lookup: &Lookup, value: &Value<'_>) -> Option<u64>
-    ensures { result ≡ named_value lookup.now.entries (value_view value.now) }
+/// The first value of a lookup, at most `most`, that has the given name, or the given number if it has no name.
+fn named_value(lookup: &Lookup, most: u64, value: &Value<'_>) -> Option<u64>
+    ensures { result ≡ named_value lookup.now.entries most (value_view value.now) }
 {
     match value {
-        Value::String(name) => lookup.value_of(name),
+        Value::String(name) => lookup.value_of(name, most),
         Value::Number(text) => unnamed(lookup, text.as_bytes()),
         _ => None,
     }
+}
+
+/// Whether the given text is the name of a `match` value.
+fn names_asked(lookup: &Lookup, asked: Option<u64>, value: &Value<'_>) -> bool
+    ensures { result ≡ names_asked lookup.now.entries asked (value_view value.now) }
+{
+    let (Some(asked), Some(text)) = (asked, value.as_str()) else {
+        return false;
+    };
+    match lookup.text_of(asked) {
+        Some(name) => name == text,
+        None => false,
+    }
+}
+
+/// The raw value of a lookup. Two values may have the same name: the `match` value is taken if it has the given name,
+/// otherwise the first that the field can hold.
+fn lookup_raw(field: &Field, lookup: &Lookup, bits: u32, value: &Value<'_>) -> Option<u64>
+    requires some { 1 ≤ bits }
+    requires room { bits ≤ 64 }
+    ensures { result ≡ lookup_raw lookup.now.entries bits field.now.match_value (value_view value.now) }
+{
+    let asked = field.match_value();
+    if names_asked(lookup, asked, value) {
+        return asked;
+    }
+    let most = greatest(false, bits);
+    if_there(lookup, bits, named_value(lookup, most, value))
 }
 
 /// The raw value with one more bit, if the bit is below `bits` and not set yet.
@@ -231,12 +259,14 @@ fn with_flag(raw: u64, bits: u32, bit: u64) -> Option<u64>
 
 /// The raw value with all named bits. Each bit may be named once.
 fn flags_from(lookup: &Lookup, bits: u32, values: &[Value<'_>]) -> Option<u64>
-    requires { bits ≤ 64 }
+    requires some { 1 ≤ bits }
+    requires room { bits ≤ 64 }
     ensures { result ≡ flags_from lookup.now.entries bits 0 (items_view values.now) }
 {
+    let last = u64::from(bits - 1);
     let mut raw = 0;
     for value in values {
-        raw = with_flag(raw, bits, named_value(lookup, value)?)?;
+        raw = with_flag(raw, bits, named_value(lookup, last, value)?)?;
     }
     Some(raw)
 }
@@ -402,10 +432,7 @@ pub(crate) fn code_of(style: Style, field: &Field, value: &Value<'_>) -> Option<
                 shifted_raw(style.nearest, bits, offset, resolution, value),
             )
         }
-        Coding::Lookup(lookup) => bits_for(
-            field,
-            if_there(lookup, bits, named_value(lookup, value)),
-        ),
+        Coding::Lookup(lookup) => bits_for(field, lookup_raw(field, lookup, bits, value)),
         Coding::Flags(lookup) => bits_for(field, flags_raw(lookup, bits, value)),
         Coding::Text => bytes_for(text_bytes(width, value)),
         Coding::Bytes => bytes_for(plain_bytes(width, field.is_short(), value)),

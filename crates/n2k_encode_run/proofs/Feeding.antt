@@ -1,7 +1,6 @@
 -- The lines of bytes that come in parts, as they are taken.
-use Rattle.std.proofs.Common.{◌≡◌, ◌==◌, ◌⊎◌, inl, inr, ℕ, ◌+◌, ◌-◌, ◌<◌, ◌≤◌, Bool, true, false, List, [], ◌∷◌, ◌++◌, length, take, drop, refl, sym, ap, ◌∙◌, subst, append_assoc, append-nil, arith, length-append, length-take, Result, Ok, Err}
+use Rattle.std.proofs.Common.{◌≡◌, ◌==◌, inl, inr, ℕ, ◌+◌, ◌<◌, ◌≤◌, Bool, false, List, [], ◌∷◌, ◌++◌, length, take, drop, refl, sym, ap, ◌∙◌, subst, append_assoc, append-nil, arith, length-append, length-take, Result, Ok, Err}
 use Rattle.std.specs.Io.{IsEmptyOrEndsWith}
-use Rattle.std.specs.List.{flat_map}
 use Rattle.std.proofs.lemmas.Bool.{cases_lt}
 use Rattle.std.proofs.lemmas.Bool.Decides.{nat_tests}
 use Rattle.std.proofs.lemmas.Grind.{flat_map-append}
@@ -26,7 +25,7 @@ use Rattle.n2k_run.proofs.Prefixes.{ends_feed}
 use Rattle.n2k_run.proofs.Splits.{lines-append}
 use Rattle.n2k_encode_run.specs.declared.ledger.Ledger.{Ledger}
 use Rattle.n2k_encode_run.specs.Outcomes.{Outcome, skipped, encoded, refused, Gives, GiveAll, count_one, counts_after, report_of, reports_from, text_of, texts}
-use Rattle.n2k_encode_run.specs.Inner.Taking.{FeedsBytes, FeedsRest, TakesBytes, TakesLine, TakesLines, TakesMost, most_kept}
+use Rattle.n2k_encode_run.specs.Inner.Taking.{FeedsBytes, FeedsRest, TakesBytes, TakesLine, TakesLines, most_kept}
 
 -- a carriage return is one byte
 pub return_once : (chunk : List ℕ) → length chunk ≤ length (without_return chunk) + 1

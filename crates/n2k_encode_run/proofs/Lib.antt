@@ -1,3 +1,4 @@
 pub mod Feeding
+pub mod More
 pub mod Parts
 pub mod Settling

@@ -1,5 +1,5 @@
 -- The state of a run after each read, and at each of its ends.
-use Rattle.std.proofs.Common.{◌≡◌, inl, inr, ℕ, ◌+◌, ◌-◌, ◌<◌, ◌≤◌, Bool, true, false, List, [], ◌∷◌, ◌++◌, length, refl, sym, ap, ◌∙◌, subst, append_assoc, append-nil, arith, length-append, get_or, Option, Some, None, IfSome, OnOk, Result, Ok, Err}
+use Rattle.std.proofs.Common.{◌≡◌, inl, inr, ℕ, ◌+◌, ◌-◌, ◌<◌, ◌≤◌, Bool, List, [], ◌∷◌, ◌++◌, length, refl, sym, ap, ◌∙◌, subst, append_assoc, append-nil, arith, length-append, get_or, Option, Some, None, IfSome, OnOk, Result, Ok, Err}
 use Rattle.std.specs.Io.{IsEmptyOrEndsWith}
 use Rattle.std.specs.Io.KnownBytes.{Appends, Consumes, IsAtEnd, Keeps}
 use Rattle.std.proofs.KnownBytes.{Appends-nil, Appends-trans, Consumes-nil, Consumes-trans}
@@ -13,17 +13,17 @@ use Rattle.n2k_run.specs.declared.fault.RunFault.{RunFault}
 use Rattle.n2k_run.specs.declared.fault.RunFault.TheVariants.{Read, Write, Report, Memory, TooManyLines}
 use Rattle.n2k_run.specs.Device.{HasFailed, one_more}
 use Rattle.n2k_run.specs.Inner.Engine.{FailsPending, WritesPending}
-use Rattle.n2k_run.specs.Lines.{line_feed, lines, whole_lines}
-use Rattle.n2k_run.specs.Reading.{OutlastsReads, ReadsBytes, most_reads}
-use Rattle.n2k_run.specs.Runs.{Devices, NoneFailed}
+use Rattle.n2k_run.specs.Lines.{line_feed, lines}
+use Rattle.n2k_run.specs.Reading.{ReadsBytes, most_reads}
+use Rattle.n2k_run.specs.Runs.{Devices}
 use Rattle.n2k_run.specs.Writing.{AppendsPrefix}
 use Rattle.n2k_run.proofs.Calls.{one_more_at_most}
 use Rattle.n2k_run.proofs.Finding.{calls_end, calls_more}
 use Rattle.n2k_run.proofs.Prefixes.{whole_prefix}
-use Rattle.n2k_run.proofs.Running.{all_gained, none_gained}
+use Rattle.n2k_run.proofs.Running.{all_gained}
 use Rattle.n2k_run.proofs.Splits.{lines-append}
 use Rattle.n2k_encode_run.specs.declared.ledger.Ledger.{Ledger}
-use Rattle.n2k_encode_run.specs.Encodes.{BreaksOff, Encodes, EncodingEnds, IsCut, IsFull, IsWhole, Takes}
+use Rattle.n2k_encode_run.specs.Encodes.{Encodes, IsCut, Takes}
 use Rattle.n2k_encode_run.specs.Outcomes.{Outcome, GiveAll, counts_after, counts_of, reports_from, text_of, texts}
 use Rattle.n2k_encode_run.specs.Inner.Taking.{AreCounts, BetweenReads, IsFresh, TakesBytes, TakesLines, TakesRead, most_kept}
 use Rattle.n2k_encode_run.specs.Inner.Writing.{Settles}

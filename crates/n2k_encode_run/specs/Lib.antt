@@ -1,3 +1,4 @@
 pub mod Encodes
 pub mod Inner
+pub mod More
 pub mod Outcomes

@@ -1,15 +1,13 @@
 //! The run over the lines of a log.
-ghost use Rattle.std.specs.Prelude.{◌≡◌, ◌<◌, ◌≤◌, ℕ, List, [], length, take, IfErr, IfOk, OnOk};
-ghost use Rattle.std.specs.Io.KnownBytes.{Consumes, IsAtEnd, Keeps};
+ghost use Rattle.std.specs.Prelude.{◌≡◌, ◌<◌, ◌≤◌, ℕ, List, [], length, take, OnOk};
 ghost use Rattle.n2k_run.specs.Blocks.{HasNoFeed};
-ghost use Rattle.n2k_run.specs.Device.{one_more};
 ghost use Rattle.n2k_run.specs.Lines.{without_return};
 ghost use Rattle.n2k_run.specs.Runs.{seen};
 ghost use Rattle.n2k_encode_run.specs.Encodes.{Encodes};
-ghost use Rattle.n2k_encode_run.specs.Inner.Taking.{AreCounts, FeedsBytes, FeedsRest, IsFresh, TakesLine, TakesRead, most_kept};
+ghost use Rattle.n2k_encode_run.specs.Inner.Taking.{AreCounts, FeedsBytes, FeedsRest, IsFresh, TakesAll, TakesLine, TakesRead, most_kept};
 
 use crate::ledger::Ledger;
-use crate::line::{is_skipped, keep, line_end, split_line, without_return};
+use crate::line::{first_line, is_skipped, keep, line_end, split_line, without_return};
 use crate::texts::refused_text;
 use json::Scratch;
 use n2k_encode::{EncodeError, LONGEST_REQUEST, encode_line};
@@ -24,10 +22,10 @@ const BLOCK: usize = 4096;
 
 /// The parts that do not change during a run.
 #[derive(Drop)]
-struct Encoder<'a> {
-    alloc: Global,
-    table: &'a Table,
-    nearest: bool,
+pub(crate) struct Encoder<'a> {
+    pub(crate) alloc: Global,
+    pub(crate) table: &'a Table,
+    pub(crate) nearest: bool,
 }
 
 /// The buffers of a run.
@@ -37,21 +35,6 @@ struct Room {
     kept: Vec<u8>,
     /// Memory for the texts of a line.
     scratch: Scratch,
-}
-
-/// Reads into the block once, and returns the number of bytes.
-fn read_block<R: Source>(reader: &mut R, block: &mut [u8]) -> Result<usize, RunFault>
-    requires { 0 < length block.old }
-    ensures bytes { IfOk result (λ n. Consumes (R.remaining reader.old) (R.remaining reader.new) (take n block.new)) }
-    ensures bound { IfOk result (λ n. n ≤ length block.new) }
-    ensures end { IfOk result (λ n. n ≡ 0 → IsAtEnd (R.remaining reader.new)) }
-    ensures none_failed { OnOk result (R.failed_calls reader.new ≡ R.failed_calls reader.old) }
-    ensures failed { IfErr result (λ fault. (fault ≡ RunFault.Read)
-        × Keeps (R.remaining reader.old) (R.remaining reader.new)
-        × (R.failed_calls reader.new ≡ one_more (R.failed_calls reader.old))) }
-    ensures called { R.calls reader.new ≡ one_more (R.calls reader.old) }
-{
-    reader.read(block).map_err(|_| RunFault::Read)
 }
 
 impl Encoder<'_> {
@@ -83,6 +66,26 @@ impl Encoder<'_> {
                 ledger.counts.bad += 1;
             }
             Err(EncodeError::Memory) => return Err(RunFault::Memory),
+        }
+        Ok(())
+    }
+
+    /// Takes each line of bytes that are in memory.
+    pub(crate) fn take_lines(
+        &self,
+        bytes: &[u8],
+        scratch: &mut Scratch,
+        ledger: &mut Ledger,
+    ) -> Result<(), RunFault>
+        requires { AreCounts ledger.old.counts }
+        ensures taken { TakesAll self.now.table.now self.now.nearest bytes.now ledger.old ledger.new result }
+        ensures counts { OnOk result (AreCounts ledger.new.counts) }
+    {
+        let mut left = bytes;
+        while !left.is_empty() {
+            let (line, rest) = first_line(left);
+            self.take_line(without_return(line), scratch, ledger)?;
+            left = rest;
         }
         Ok(())
     }
@@ -172,7 +175,7 @@ impl Encoder<'_> {
             scratch: Scratch::new(self.alloc),
         };
         for _reads in 0..MOST_READS {
-            let count = read_block(reader, &mut block)?;
+            let count = ledger.read_block(reader, &mut block)?;
             let taken = self.take_read(&block[..count], &mut room, ledger);
             ledger.settle(taken, writer, reporter)?;
             if count == 0 {
@@ -228,7 +231,7 @@ pub fn run_encode<R: Source, W: Sink, E: Sink>(
         table,
         nearest,
     };
-    let mut ledger = Ledger::new(alloc);
+    let mut ledger = Ledger::new(alloc, Counts::NONE);
     let ended = encoder.run(&mut ledger, reader, writer, reporter);
     *counts = ledger.counts;
     ended

@@ -1,10 +1,12 @@
 //! The counts of a run, and its unwritten texts.
-ghost use Rattle.std.specs.Prelude.{◌≡◌, [], OnOk};
+ghost use Rattle.std.specs.Prelude.{◌≡◌, ◌<◌, ◌≤◌, [], length, take, IfErr, IfOk, OnOk};
+ghost use Rattle.std.specs.Io.KnownBytes.{Consumes, IsAtEnd, Keeps};
+ghost use Rattle.n2k_run.specs.Device.{one_more};
 ghost use Rattle.n2k_run.specs.Inner.Engine.{FailsPending, WritesPending};
 ghost use Rattle.n2k_encode_run.specs.Inner.Writing.{Settles};
 
 use n2k_join::Counts;
-use n2k_run::{RunFault, Sink, write_all};
+use n2k_run::{RunFault, Sink, Source, write_all};
 use std::alloc::Global;
 
 /// The counts of a run, and its unwritten texts and reports.
@@ -16,24 +18,37 @@ pub(crate) struct Ledger {
 }
 
 impl Ledger {
-    /// The ledger before the first line.
-    pub(crate) fn new(alloc: Global) -> Ledger
-        ensures counts { result.counts ≡ record {
-          lines = 0;
-          messages = 0;
-          bad = 0;
-          unknown = 0;
-          broken = 0;
-          held = 0;
-        } }
+    /// The ledger after lines with these counts, whose texts are written.
+    pub(crate) fn new(alloc: Global, counts: Counts) -> Ledger
+        ensures counts { result.counts ≡ counts }
         ensures text { result.text.items ≡ [] }
         ensures report { result.report.items ≡ [] }
     {
         Ledger {
-            counts: Counts::NONE,
+            counts,
             text: Vec::new(alloc),
             report: Vec::new(alloc),
         }
+    }
+
+    /// Reads into the block once, and returns the number of bytes. A read may wait, so nothing may be pending.
+    pub(crate) fn read_block<R: Source>(
+        &self,
+        reader: &mut R,
+        block: &mut [u8],
+    ) -> Result<usize, RunFault>
+        requires room { 0 < length block.old }
+        requires written { (self.now.text.items ≡ []) × (self.now.report.items ≡ []) }
+        ensures bytes { IfOk result (λ n. Consumes (R.remaining reader.old) (R.remaining reader.new) (take n block.new)) }
+        ensures bound { IfOk result (λ n. n ≤ length block.new) }
+        ensures end { IfOk result (λ n. n ≡ 0 → IsAtEnd (R.remaining reader.new)) }
+        ensures none_failed { OnOk result (R.failed_calls reader.new ≡ R.failed_calls reader.old) }
+        ensures failed { IfErr result (λ fault. (fault ≡ RunFault.Read)
+            × Keeps (R.remaining reader.old) (R.remaining reader.new)
+            × (R.failed_calls reader.new ≡ one_more (R.failed_calls reader.old))) }
+        ensures called { R.calls reader.new ≡ one_more (R.calls reader.old) }
+    {
+        reader.read(block).map_err(|_| RunFault::Read)
     }
 
     /// Writes the pending texts, the reports first. If a device fails, a prefix of its text has been written.

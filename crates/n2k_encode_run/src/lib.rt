@@ -22,14 +22,17 @@
 //!
 //! `run_encode` passes each line to `encode_line` of `n2k_encode`, and prints the message, or reports the refusal with
 //! the number of the line. It keeps one line, of at most 65,538 bytes, and the texts of one block of 4,096 bytes. Before
-//! the next read it writes the reports, then the texts.
+//! the next read it writes the reports, then the texts. `Encoding` takes a log that comes in several calls.
 //!
 //! The example is a test of `n2k_encode_tests`.
 #![tactic(auto)]
 
 mod encoder;
+mod encoding;
+pub mod laws;
 mod ledger;
 mod line;
 mod texts;
 
 pub use encoder::run_encode;
+pub use encoding::Encoding;

@@ -1,8 +1,8 @@
 //! A line whose bytes arrive in several reads.
-ghost use Rattle.std.specs.Prelude.{◌≡◌, ◌<◌, ◌≤◌, ◌+◌, ◌++◌, length, take, drop, OnOk};
+ghost use Rattle.std.specs.Prelude.{◌≡◌, ◌<◌, ◌≤◌, ◌+◌, ◌∷◌, ◌++◌, length, take, drop, OnOk};
 ghost use Rattle.n2k_wire.specs.Entry.{is_skipped};
 ghost use Rattle.n2k_run.specs.Inner.Block.{FindsEnd};
-ghost use Rattle.n2k_run.specs.Lines.{without_return};
+ghost use Rattle.n2k_run.specs.Lines.{lines, without_return};
 ghost use Rattle.n2k_encode_run.specs.Inner.Taking.{most_kept};
 
 use std::alloc::AllocError;
@@ -30,6 +30,19 @@ pub(crate) fn split_line(bytes: &[u8], end: usize) -> (&[u8], &[u8])
     ensures shorter { length result.1.now < length bytes.now }
 {
     (bytes.split_at(end).0, bytes.split_at(end + 1).1)
+}
+
+/// The bytes of the first line without its LF, and the bytes after it.
+#[tactic(auto, using(crate::proofs::Parts::line_ends, crate::proofs::Parts::only_line))]
+pub(crate) fn first_line(bytes: &[u8]) -> (&[u8], &[u8])
+    requires { 0 < length bytes.now }
+    ensures lines { lines bytes.now ≡ without_return result.0.now ∷ lines result.1.now }
+    ensures shorter { length result.1.now < length bytes.now }
+{
+    match line_end(bytes) {
+        Some(end) => split_line(bytes, end),
+        None => bytes.split_at(bytes.len()),
+    }
 }
 
 /// The bytes without one carriage return at their end.

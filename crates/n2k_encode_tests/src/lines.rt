@@ -18,6 +18,10 @@ entries = [[0, \"True\"], [1, \"Magnetic\"], [2, \"Error\"]]
 name = \"Status\"
 entries = [[0, \"Check Engine\"], [1, \"Over Temperature\"], [3, \"Low Oil\"]]
 
+[[lookup]]
+name = \"Twice\"
+entries = [[4, \"A\"], [1, \"A\"], [2, \"B\"], [3, \"B\"]]
+
 [[pgn]]
 number = 127250
 kind = \"single\"
@@ -95,10 +99,83 @@ fields = [
   { name = \"Y\", kind = \"bytes\", at = 72, bits = 16 },
   { name = \"One\", kind = \"number\", at = 88, bits = 1 },
 ]
+
+[[pgn]]
+number = 130828
+kind = \"fast\"
+description = \"Names\"
+fields = [
+  { name = \"L\", kind = \"lookup\", at = 0, bits = 2, lookup = \"Twice\" },
+  { name = \"M\", kind = \"lookup\", at = 2, bits = 2, lookup = \"Twice\", match = 3 },
+  { name = \"F\", kind = \"flags\", at = 8, bits = 4, lookup = \"Twice\" },
+]
+
+[[pgn]]
+number = 130829
+kind = \"fast\"
+description = \"Shared\"
+fields = [
+  { name = \"A\", kind = \"number\", at = 0, bits = 8 },
+  { name = \"B\", kind = \"number\", at = 8, bits = 8 },
+  { name = \"C\", kind = \"number\", at = 12, bits = 8 },
+]
+
+[[pgn]]
+number = 130830
+kind = \"fast\"
+description = \"Sets\"
+fields = []
+repeat = { at = 0, bits = 8, fields = [
+  { name = \"B\", kind = \"number\", at = 0, bits = 1 },
+  { name = \"C\", kind = \"number\", at = 1, bits = 7 },
+] }
+
+[[pgn]]
+number = 130831
+kind = \"fast\"
+description = \"Unmatched\"
+fields = [ { name = \"F\", kind = \"number\", at = 0, bits = 8 } ]
+
+[[pgn]]
+number = 130832
+kind = \"fast\"
+description = \"Inside\"
+fields = [ { name = \"A\", kind = \"number\", at = 8, bits = 8 } ]
+repeat = { at = 0, bits = 24, fields = [
+  { name = \"B\", kind = \"number\", at = 0, bits = 8 },
+  { name = \"C\", kind = \"number\", at = 12, bits = 8 },
+] }
 ";
 
 // Each number is exactly one that its field can show.
-const ENCODED: [(&str, &[u8]); 30] = [
+const ENCODED: [(&str, &[u8]); 37] = [
+    // The field A is inside the first set, and shares bits 12 to 15 of the message with C.
+    (
+        "{\"pgn\":130832,\"fields\":{\"A\":5,\"list\":[{\"B\":1,\"C\":16}]}}",
+        &[0x01, 0x05, 0xf1],
+    ),
+    (
+        "{\"pgn\":130832,\"fields\":{\"A\":21,\"list\":[{\"B\":1,\"C\":33},{\"B\":2}]}}",
+        &[0x01, 0x15, 0xf2, 0x02, 0xff, 0xff],
+    ),
+    (
+        "{\"pgn\":130832,\"fields\":{\"A\":245,\"list\":[{},{\"C\":1}]}}",
+        &[0xff, 0xf5, 0xff, 0xff, 0x1f, 0xf0],
+    ),
+    ("{\"pgn\":130832,\"fields\":{\"A\":5}}", &[0xff, 0x05]),
+    // 4 is the first value named A, and neither two bits nor four flags can hold it. The field M has to be 3.
+    (
+        "{\"pgn\":130828,\"fields\":{\"L\":\"A\",\"M\":\"B\",\"F\":[\"A\"]}}",
+        &[0xfd, 0xf2],
+    ),
+    (
+        "{\"pgn\":130828,\"fields\":{\"L\":\"B\",\"M\":\"B\",\"F\":[\"B\",\"A\"]}}",
+        &[0xfe, 0xf6],
+    ),
+    (
+        "{\"pgn\":130831,\"description\":\"Unmatched\",\"fields\":{\"F\":4}}",
+        &[0x04],
+    ),
     // 240 bytes of UTF-8 do not fit into a message.
     (
         "{\"pgn\":130823,\"fields\":{\"A\":\"éééééééééééééééééééééééééééééééééééééééééééééééééééééééééééééééééééééééééééééééééééééééééééééééééééééééééééééééééééééééé\"}}",
@@ -262,7 +339,7 @@ const NEAREST: [(&str, &[u8]); 6] = [
 ];
 
 // A refused line, and the number and the field of its refusal.
-const REFUSED: [(&str, u8, &str); 47] = [
+const REFUSED: [(&str, u8, &str); 53] = [
     (
         "{\"pgn\":130822,\"fields\":{\"SID\":255,\"list\":[1,{\"X\":1}]}}",
         16,
@@ -387,6 +464,30 @@ const REFUSED: [(&str, u8, &str); 47] = [
         "Data",
     ),
     ("{\"pgn\":130827,\"fields\":{\"One\":1}}", 18, "Y"),
+    ("{\"pgn\":130828,\"fields\":{\"M\":\"A\"}}", 17, "M"),
+    // Bits 12 to 15 of the message belong to B and to C.
+    ("{\"pgn\":130829,\"fields\":{\"B\":5,\"C\":2}}", 18, "B"),
+    (
+        "{\"pgn\":130832,\"fields\":{\"A\":5,\"list\":[{\"C\":18}]}}",
+        18,
+        "A",
+    ),
+    (
+        "{\"pgn\":130832,\"fields\":{\"A\":5,\"list\":[{\"B\":1}]}}",
+        18,
+        "list",
+    ),
+    // A number of one bit is always available.
+    (
+        "{\"pgn\":130830,\"fields\":{\"list\":[{\"C\":2}]}}",
+        18,
+        "list",
+    ),
+    (
+        "{\"pgn\":130831,\"description\":\"Unmatched\",\"fields\":{\"Data\":\"04\"}}",
+        16,
+        "Data",
+    ),
 ];
 
 fn read(alloc: Global) -> Result<ManuallyDrop<Table>, Fail> {

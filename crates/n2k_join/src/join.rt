@@ -8,7 +8,7 @@ ghost use Rattle.n2k_wire.specs.Packet.{IsPacket, IsPacketParts};
 ghost use Rattle.n2k_join.specs.Counts.{most_lines};
 ghost use Rattle.n2k_join.specs.Open.{Group};
 ghost use Rattle.n2k_join.specs.Messages.{as_broken};
-ghost use Rattle.n2k_join.specs.State.{state, step_given, step_after, AreCounts, AreFast, AreWaiting, one_if};
+ghost use Rattle.n2k_join.specs.State.{IsState, state, step_given, step_after, AreCounts, AreFast, AreWaiting, one_if};
 ghost use Rattle.n2k_join.specs.Refusal.{GivesOrMemory};
 ghost use Rattle.n2k_join.specs.Resumed.{is_valid, resumed, state_of_parts, valid_if};
 ghost use Rattle.n2k_join.specs.Saved.{IsId, state_text, bare_bytes, group_bytes};
@@ -27,7 +27,8 @@ use crate::saved::{
 };
 use crate::step::{Broken, InPlaceStep, Step};
 use crate::window::Window;
-use n2k_table::Table;
+use n2k_table::laws::ids_are_valid;
+use n2k_table::{Table, TableId};
 use n2k_wire::{Entry, Id, Packet};
 use std::alloc::{AllocError, Global};
 use std::marker::Model;
@@ -36,7 +37,7 @@ use std::marker::Model;
 /// keeps no line and no stamp.
 #[derive(Drop)]
 pub struct Join {
-    id: [u8; 32],
+    id: TableId,
     window: Window,
     counts: Counts,
     groups: OpenGroups,
@@ -133,7 +134,7 @@ impl Join {
         ensures { result ≡ state table.now.id window (kind table.now) [] }
     {
         Join {
-            id: table.id(),
+            id: table.lazy_id(),
             window,
             counts: Counts::NONE,
             groups: OpenGroups::new(alloc),
@@ -165,6 +166,14 @@ impl Join {
         ensures { result ≡ self.now.window }
     {
         self.window
+    }
+
+    /// The type guarantees a valid state and a valid id.
+    pub(crate) fn lemma_valid(&self)
+        ensures state { IsState self.now }
+        ensures id { IsId self.now.id }
+    {
+        ids_are_valid(&self.id);
     }
 
     /// Breaks the oldest open group whose window has ended by the next line, and returns its report. `None` if there is
@@ -309,25 +318,25 @@ impl Join {
         let stored = stored_groups(alloc, table, counts.lines, groups)?;
         let held = stored.len() as u64;
         Ok(Join {
-            id,
+            id: TableId::known(id),
             window,
             counts: Counts { held, ..counts },
             groups: stored,
         })
     }
 
-    /// The join of a text that `save` wrote under this table and window. `None` if no join is found whose saved text is
-    /// the same.
+    /// The join of a text that `save` wrote under this table, whose id is given, and window. `None` if no join is found
+    /// whose saved text is the same.
     fn resume_written(
         alloc: Global,
         table: &Table,
+        id: [u8; 32],
         window: Window,
         bytes: &[u8],
     ) -> Result<Option<Join>, AllocError>
         ensures { IfOk result (λ found. IfSome found
-            (λ join. resumed (kind table.now) table.now.id window bytes.now ≡ Ok join)) }
+            (λ join. resumed (kind table.now) id window bytes.now ≡ Ok join)) }
     {
-        let id = table.id();
         let Some((counts, groups)) = written_parts(alloc, &id, window, bytes)? else {
             return Ok(None);
         };
@@ -344,20 +353,21 @@ impl Join {
         }
     }
 
-    /// The join of any text that spells one, by the tree of its values.
+    /// The join of any text that spells one under a table with this id, by the tree of its values.
     #[tactic(auto, unfolding(crate::specs::Resumed::resumed))]
     fn resume_any(
         alloc: Global,
         table: &Table,
+        id: [u8; 32],
         window: Window,
         bytes: &[u8],
     ) -> Result<Join, StateFault>
-        ensures { GivesOrMemory (λ join. join) result (resumed (kind table.now) table.now.id window bytes.now) }
+        ensures { GivesOrMemory (λ join. join) result (resumed (kind table.now) id window bytes.now) }
     {
         let value = parsed(alloc, bytes)?;
         let format = format_in(&value)?;
         let state = read_state(alloc, format, window, &value)?;
-        if state.id != table.id() {
+        if state.id != id {
             return Err(StateFault::TableDiffers);
         }
         if state.window != u64::from(window.get()) {
@@ -394,10 +404,11 @@ impl Join {
     ) -> Result<Join, StateFault>
         ensures { GivesOrMemory (λ join. join) result (resumed (kind table.now) table.now.id window bytes.now) }
     {
-        if let Some(join) = Join::resume_written(alloc, table, window, bytes)? {
+        let id = table.id();
+        if let Some(join) = Join::resume_written(alloc, table, id, window, bytes)? {
             return Ok(join);
         }
-        Join::resume_any(alloc, table, window, bytes)
+        Join::resume_any(alloc, table, id, window, bytes)
     }
 
     /// The text of the state for `resume`: JSON as in docs/PROFILE.md, without an LF.
@@ -420,6 +431,7 @@ impl Join {
             → resumed kind self.now.id self.now.window (state_text self.now) ≡ Ok self.now }
     {
         laws::state_reads_back();
-        state_text(alloc, &self.id, self.window, &self.counts, &self.groups)
+        let id = self.id.bytes();
+        state_text(alloc, &id, self.window, &self.counts, &self.groups)
     }
 }

@@ -27,6 +27,8 @@ ghost use Rattle.n2k_join.specs.Consecutive.{GroupsConsecutive, ComesOfConsecuti
 ghost use Rattle.n2k_join.specs.Bounds.{HasWindow, HoldsFew};
 ghost use Rattle.n2k_join.specs.UnderWay.{EightUnderWay, AreOfOneStream};
 
+use crate::join::Join;
+
 /// The groups that frames are cut into are the frames in their order; none is empty, and none has a repeated number.
 /// This holds for every test that ends a group at a repeated number, as each window's test does.
 pub fn cut_joins()
@@ -160,6 +162,14 @@ pub fn state_reads_back()
     ensures other_window { (kind : ℕ → Option Kind) (s : State) (window : Window) → IsState s → AreWaiting s → IsId s.id
         → s.window.lines ≢ window.lines → resumed kind s.id window (state_text s) ≡ Err WindowDiffers }
 {}
+
+/// The state of every join is valid, and the id of its table.
+pub fn joins_are_valid(join: &Join)
+    ensures state { IsState join.now }
+    ensures id { IsId join.now.id }
+{
+    join.lemma_valid();
+}
 
 /// A join used with one table can be read back: a new join has no open group, the groups of a state that was read are
 /// of fast PGNs of its table, and each line keeps that so.

@@ -16,6 +16,7 @@ pub mod OutputLines
 pub mod Overdue
 pub mod Owed
 pub mod Parting
+pub mod PartRuns
 pub mod PrintedBack
 pub mod PrintedInOrder
 pub mod Ranges

@@ -102,6 +102,13 @@ abbrev pub OnRefusal : Result Part PartFault → Type 0 → Type 0
 OnRefusal (Err (Refused fault)) P = P
 OnRefusal _ P = Unit {0}
 
+-- the result that a run with this end gives, if this is its Part
+abbrev pub with_part : Part → Result (Unit {0}) RunFault → Result Part PartFault
+with_part part (Ok x) = Ok part
+with_part part (Err run_faults.Read) = Err (Stopped run_faults.Read part)
+with_part part (Err run_faults.TooManyLines) = Err (Stopped run_faults.TooManyLines part)
+with_part part (Err fault) = Err (Run fault)
+
 -- ---- the headline
 
 -- A log was cut after this prefix: it is empty or ends with a line, and the given state is the state after it.

@@ -16,14 +16,16 @@
 //! assert!(rt; out.bytes().ends_with(end.as_bytes()));
 //! ```
 //!
-//! To decode a log use `run_part`: it begins the log or continues from a saved state, and returns the state to save.
+//! To decode a log use `run_part`: it begins the log or continues from a saved state, and returns the state to save. If
+//! nothing is to be saved, use `run_counted`.
 //! `run_parts` does so for parts in memory, `run` for an existing join, and `run_more` for both. To write a summary use
 //! `write_summary`, which needs no memory; `summary_text` appends one to a text. The main theorem is clause `headline`
 //! of `run_parts`: a log that was cut after lines prints in parts exactly what one run over it prints.
 //!
 //! - `run` prints the JSON line of each message that a log gives, `run_plain` each frame and each whole message as its
 //!   plain line, `run_frames` each whole message as the lines of its frames. All report each bad line by its number,
-//!   and `run` each broken group. `run_plain_counted` and `run_frames_counted` also return the counts with a fault.
+//!   and `run` each broken group. `run_counted`, `run_plain_counted` and `run_frames_counted` also return the counts with
+//!   a fault.
 //! - `Options` define how the data of lines are packed, and whether absent fields are printed.
 //! - `Blocks` returns the lines of a log from a block of 4,096 bytes. A run keeps no more of its log, and writes the
 //!   results of its lines before it reads on: so a live pipe shows each message when its line came. The text of a block
@@ -72,7 +74,7 @@ pub use memory::{MemorySink, MemorySource};
 pub use more::run_more;
 pub use n2k_join::{Counts, MOST_LINES};
 pub use options::Options;
-pub use part::{Part, PartFault, run_part, run_parts};
+pub use part::{Part, PartFault, run_counted, run_part, run_parts};
 pub use plain::{run_plain, run_plain_counted};
 pub use reading::{MOST_READS, read_bytes};
 pub use standard::{StdSink, StdSource};

@@ -9,7 +9,7 @@ ghost use Rattle.n2k_join.specs.State.{State, state};
 ghost use Rattle.n2k_run.specs.InOrder.{PrintsInOrder};
 ghost use Rattle.n2k_run.specs.Inner.Parts.{Finishes, HasSaved, Saves};
 ghost use Rattle.n2k_run.specs.Headline.{AreCutAtLines, PrintsLog};
-ghost use Rattle.n2k_run.specs.Parts.{AreWithinReads, EndsParts, IsNotRead, IsOfKind, IsPartOf, OnRefusal, RefusedByMemory, RunsFrom, RunsPart, begun, entries_of_parts};
+ghost use Rattle.n2k_run.specs.Parts.{AreWithinReads, EndsParts, IsNotRead, IsOfKind, IsPartOf, OnRefusal, RefusedByMemory, RunsFrom, RunsPart, begun, entries_of_parts, with_part};
 ghost use Rattle.n2k_run.specs.Runs.{seen, sinks_seen};
 
 use crate::decoding::run;
@@ -95,7 +95,7 @@ fn begin(
 fn lemma_id_valid(table: &Table)
     ensures { IsId table.now.id }
 {
-    let _id = table.id();
+    n2k_table::laws::ids_are_valid(&table.lazy_id());
 }
 
 /// The state and the counts of a join.
@@ -168,6 +168,48 @@ pub fn run_part<R: Source, W: Sink, E: Sink>(
     let mut join = begin(alloc, table, &options, saved)?;
     let ran = run(alloc, table, &mut join, options, reader, writer, reporter);
     finish(alloc, &join, ran)
+}
+
+/// Runs a log from its first line as `run_part` does, but saves no state, and so needs no id of the table. It returns the
+/// counts also with a fault.
+///
+/// ```rust
+/// let (table, options) = (sample_table(alloc)?, usual_options());
+/// let mut sum = Counts::NONE;
+/// let mut log = StdSource::new("(1.0) can0 09F8027F#0500\nhello\n".as_bytes());
+/// let mut out = MemorySink::new(alloc, 4096, 0);
+/// let mut err = MemorySink::new(alloc, 4096, 0);
+/// run_counted(
+///     alloc, &table, options, &mut sum, &mut log, &mut out, &mut err,
+/// )?;
+/// assert_eq!(rt; (sum.messages, sum.bad), (1, 1));
+/// ```
+pub fn run_counted<R: Source, W: Sink, E: Sink>(
+    alloc: Global,
+    table: &Table,
+    options: Options,
+    counts: &mut Counts,
+    reader: &mut R,
+    writer: &mut W,
+    reporter: &mut E,
+) -> Result<(), RunFault>
+    // With some Part of these counts it is a run of `run_part`.
+    ensures runs { let before = seen R.Source W.Sink E.Sink reader.old writer.old reporter.old in
+        let after = seen R.Source W.Sink E.Sink reader.new writer.new reporter.new in
+        (part : Part) × (part.counts ≡ counts.new)
+        × RunsFrom table.now options None before after (with_part part result) }
+{
+    laws::steps_agree();
+    laws::lines_stay();
+    laws::groups_stay_fast();
+    laws::state_reads_back();
+    lemma_id_valid(table);
+    lemma_window_valid(&options);
+    let mut join = Join::new(alloc, table, options.window);
+    let ran = run(alloc, table, &mut join, options, reader, writer, reporter);
+    laws::joins_are_valid(&join);
+    *counts = join.counts();
+    ran
 }
 
 /// The Part of the empty log.

@@ -25,5 +25,6 @@ pub mod SetSizes
 pub mod Splits
 pub mod Steps
 pub mod Strings
+pub mod TableIds
 pub mod Trims
 pub mod Words

@@ -1,5 +1,5 @@
 -- The names of values: as the code's map finds them, and as entries of a document.
-use Rattle.std.proofs.Common.{◌≡◌, ℕ, zero, suc, ◌+◌, ◌<◌, drop, find, slice_get, Bool, true, false, ◌||◌, nat_eq, List, [], ◌∷◌, ◌++◌, map, Option, Some, None, is_some, Err, refl, sym, ap, ◌∙◌, append_assoc, inl, inr, arith}
+use Rattle.std.proofs.Common.{◌≡◌, ℕ, zero, suc, ◌+◌, ◌<◌, drop, find, slice_get, Bool, true, false, ◌&&◌, ◌||◌, nat_eq, nat_le, List, [], ◌∷◌, ◌++◌, map, Option, Some, None, is_some, Err, refl, sym, ap, ◌∙◌, append_assoc, inl, inr, arith}
 use Rattle.std.specs.Map.{lookup as value_at}
 use Rattle.std.specs.List.{list_any}
 use Rattle.std.specs.Str.{bytes_eq}
@@ -28,20 +28,20 @@ none_from [] at value e here less none = grind arith
 none_from (x ∷ es) zero value e here less none = grind arith
 none_from (x ∷ es) (suc at) value e here less none = grind (arith, none_from es at value e here less)
 
-module _ (name : List ℕ) where
-  -- whether an entry has this name
+module _ (most : ℕ) (name : List ℕ) where
+  -- whether an entry has this name and a value that is small enough
   abbrev pub has_name : ℕ × List ℕ → Bool
-  has_name e = bytes_eq e.1 name
+  has_name e = nat_le e.0 most && bytes_eq e.1 name
 
   -- an entry at a place that has the name is the first of those from there on
-  pub find_here : (es : List (ℕ × List ℕ)) (at : ℕ) (e : ℕ × List ℕ) → Some e ≡ slice_get es at → true ≡ bytes_eq e.1 name
+  pub find_here : (es : List (ℕ × List ℕ)) (at : ℕ) (e : ℕ × List ℕ) → Some e ≡ slice_get es at → has_name (entry_pair e) ≡ true
       → find has_name (drop at (map entry_pair es)) ≡ Some (entry_pair e)
   find_here [] at e here is = grind arith
   find_here (x ∷ es) zero e here is = grind arith
   find_here (x ∷ es) (suc at) e here is = grind (arith, find_here es at e here is)
 
   -- one that has not is passed over
-  pub find_later : (es : List (ℕ × List ℕ)) (at : ℕ) (e : ℕ × List ℕ) → Some e ≡ slice_get es at → false ≡ bytes_eq e.1 name
+  pub find_later : (es : List (ℕ × List ℕ)) (at : ℕ) (e : ℕ × List ℕ) → Some e ≡ slice_get es at → has_name (entry_pair e) ≡ false
       → find has_name (drop at (map entry_pair es)) ≡ find has_name (drop (at + 1) (map entry_pair es))
   find_later [] at e here not = grind arith
   find_later (x ∷ es) zero e here not = grind arith

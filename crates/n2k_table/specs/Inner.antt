@@ -9,3 +9,4 @@ pub mod Line
 pub mod LineBuffer
 pub mod Number
 pub mod Padded
+pub mod TableId

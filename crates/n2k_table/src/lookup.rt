@@ -1,5 +1,5 @@
 //! Names of values.
-ghost use Rattle.std.specs.Prelude.{◌≡◌, nat_eq, option_map, Some, IfOk, IfSome, find};
+ghost use Rattle.std.specs.Prelude.{◌≡◌, ◌&&◌, nat_eq, nat_le, option_map, Some, IfOk, IfSome, find};
 ghost use Rattle.std.specs.Map.{lookup as value_at};
 ghost use Rattle.std.specs.Str.{bytes_eq};
 ghost use Rattle.n2k_table.specs.Inner.LineBuffer.{AddsText};
@@ -151,19 +151,20 @@ impl Lookup {
         Some(self.name_of(value)?.text())
     }
 
-    /// The first value in file order that has this name. It takes no memory.
+    /// The first value in file order that has this name and is at most `most`. It takes no memory.
     ///
     /// ```rust
-    /// assert_eq!(rt; names.value_of("Error"), Some(2));
-    /// assert_eq!(rt; names.value_of("Grid"), None);
+    /// assert_eq!(rt; names.value_of("Error", 3), Some(2));
+    /// assert_eq!(rt; names.value_of("Error", 1), None);
+    /// assert_eq!(rt; names.value_of("Grid", 3), None);
     /// ```
-    pub fn value_of(&self, name: &str) -> Option<u64>
-        ensures first { result ≡ option_map (λ e. e.0) (find (λ e. bytes_eq e.1 name.now) self.now.entries) }
+    pub fn value_of(&self, name: &str, most: u64) -> Option<u64>
+        ensures first { result ≡ option_map (λ e. e.0) (find (λ e. nat_le e.0 most && bytes_eq e.1 name.now) self.now.entries) }
         ensures named { IfSome result (λ value. name_of_value self.now.entries value ≡ Some name.now) }
     {
         for place in 0..self.names.len() {
             let (value, known) = self.names.get_index(place)?;
-            if known.text() == name {
+            if *value <= most && known.text() == name {
                 return Some(*value);
             }
         }

@@ -17,8 +17,8 @@ use crate::index::{Candidate, Index, candidates_at, has_mixed, index_of, nth_of}
 use crate::known_pgn::KnownPgn;
 use crate::lookup::Lookups;
 use crate::lookup_reader::read_lookups;
+use crate::table_id::TableId;
 use crate::tree::{Section, TableFormat, check_keys, elements_or_none, int_at};
-use sha2::{Digest, Sha256};
 use std::alloc::Global;
 use std::marker::Model;
 use toml::Value;
@@ -32,7 +32,7 @@ pub(crate) const NEWEST_FORMAT: u32 = 3;
 /// A table of messages: which PGNs there are, how they are sent, and what their bits mean.
 #[derive(Drop)]
 pub struct Table {
-    id: [u8; 32],
+    id: TableId,
     definitions: Vec<StoredDefinition>,
     /// Where the definitions of each PGN stand.
     index: Index,
@@ -141,7 +141,7 @@ impl Table {
         let top = document(alloc, bytes)?;
         let definitions = read_top(alloc, &top)?;
         Ok(Table {
-            id: Sha256::digest(bytes),
+            id: TableId::of(alloc, bytes)?,
             definitions: definitions.list,
             index: definitions.index,
         })
@@ -184,7 +184,34 @@ impl Table {
     pub fn id(&self) -> [u8; 32]
         ensures { result ≡ self.now.id }
     {
-        self.id
+        self.id.bytes()
+    }
+
+    /// The id, which is computed only when its bytes are asked for. It shares the bytes that the table was read from, and
+    /// takes no memory.
+    ///
+    /// ```rust
+    /// let table = sample_table(alloc)?;
+    /// assert_eq!(rt; table.lazy_id().bytes(), table.id());
+    /// ```
+    pub fn lazy_id(&self) -> TableId
+        ensures { result ≡ self.now.id }
+    {
+        self.id.share()
+    }
+
+    /// Computes the id now, and keeps it instead of the bytes that the table was read from: for a caller that saves or
+    /// resumes more than once.
+    ///
+    /// ```rust
+    /// let mut table = sample_table(alloc)?;
+    /// table.compute_id();
+    /// assert!(rt; table.id().starts_with(&[0x6b, 0x85, 0xe2, 0xb2]));
+    /// ```
+    pub fn compute_id(&mut self)
+        ensures { self.new ≡ self.old }
+    {
+        self.id = TableId::known(self.id.bytes());
     }
 
     /// Where the definitions of a PGN stand, in file order.

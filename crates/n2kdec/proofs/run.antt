@@ -1,4 +1,3 @@
 pub mod AskedLemmas
 pub mod CommandLemmas
-pub mod EncodeLemmas
 pub mod MachineLemmas

@@ -1,3 +1,3 @@
 pub mod Commands
-pub mod CommandOutcome
-pub mod Told
+pub mod Difference
+pub mod Hint

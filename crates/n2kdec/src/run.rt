@@ -2,6 +2,5 @@
 
 pub mod commands;
 pub mod difference;
-pub mod encode;
-pub mod ending;
+pub mod hint;
 pub mod program;

@@ -1,4 +1,5 @@
-//! Decodes recorded NMEA 2000 traffic: the bytes of a log go in, each message comes out as a line of JSON.
+//! Decodes recorded NMEA 2000 traffic: the bytes of a log go in, each message comes out as a line of JSON. An [`Encoder`] turns
+//! such a line into a message again.
 //!
 //! The work is done by libn2kdec, whose `n2kdec.h` has the calls and the meaning of each status.
 #![warn(missing_docs)]
@@ -50,6 +51,8 @@ pub fn own_table() -> &'static [u8] {
 pub enum Error {
     /// A status of n2kdec.h, with its text, for example 103, "table 3 Key".
     Refused(i32, String),
+    /// An [`Encoder`] refused a message, for example `B17 value "Depth"`: its report without the number of the line.
+    Message(String),
     /// Reading the log failed.
     Log(io::Error),
 }
@@ -57,7 +60,7 @@ pub enum Error {
 impl fmt::Display for Error {
     fn fmt(&self, f: &mut fmt::Formatter<'_>) -> fmt::Result {
         match self {
-            Error::Refused(_, text) => f.write_str(text),
+            Error::Refused(_, text) | Error::Message(text) => f.write_str(text),
             Error::Log(error) => write!(f, "reading the log: {error}"),
         }
     }
@@ -91,7 +94,7 @@ impl Decoder {
 
     fn open(table: &[u8], state: Option<&[u8]>, settings: Settings) -> Result<Self, Error> {
         let mut raw = raw::Decoder::default();
-        raw.open(table, state, settings)?;
+        raw.open(table, state, &settings.into())?;
         Ok(Decoder { raw })
     }
 
@@ -140,6 +143,43 @@ impl Decoder {
     /// decoder keeps the messages that were not given: they come first in the next `decode`, or from `messages`.
     pub fn decode<R: Read>(&mut self, log: R) -> Messages<'_, R> {
         Messages { decoder: self, log, room: Vec::new(), is_read: false, is_over: false }
+    }
+}
+
+/// Turns messages into plain lines, as `n2kdec encode` does. Like a [`Decoder`], it is `Send`.
+///
+/// ```
+/// let mut encoder = n2kdec::Encoder::new(n2kdec::own_table(), false)?;
+/// let line = encoder.encode(r#"{"pgn":128267,"src":5,"fields":{"SID":1,"Depth":3.4,"Offset":-0.5}}"#)?;
+/// assert_eq!(line, "1970-01-01T00:00:00.000Z,6,128267,5,255,8,01,54,01,00,00,0c,fe,ff");
+/// # Ok::<(), n2kdec::Error>(())
+/// ```
+pub struct Encoder {
+    raw: raw::Decoder,
+}
+
+impl Encoder {
+    /// Reads a table. With `nearest` a number is rounded to the nearest one that its field can show; otherwise it is refused.
+    pub fn new(table: &[u8], nearest: bool) -> Result<Self, Error> {
+        let mut raw = raw::Decoder::default();
+        raw.open(table, None, &raw::RawSettings::encoding(nearest))?;
+        Ok(Encoder { raw })
+    }
+
+    /// Returns the plain line, without its line feed, of a message: a JSON object as a [`Decoder`] gives it. After a refusal for
+    /// memory the encoder is closed.
+    pub fn encode(&mut self, message: &str) -> Result<String, Error> {
+        // Within JSON a tab is white space where a line feed is, and in its strings neither is allowed.
+        let mut line = message.trim_matches(&[' ', '\t', '\r', '\n'][..]).replace(&['\r', '\n'][..], "\t");
+        if line.is_empty() || line.starts_with('#') {
+            // The library skips empty lines and comments. After a space it refuses them.
+            line.insert(0, ' ');
+        }
+        line.push('\n');
+        self.raw.feed(line.as_bytes())?;
+        let (printed, reports) = (self.raw.take(raw::n2k_take)?, self.raw.take(raw::n2k_take_reports)?);
+        let refused = || Error::Message(reports.iter().flat_map(|it| it.splitn(4, ' ').nth(3)).collect());
+        printed.into_iter().next().ok_or_else(refused)
     }
 }
 

@@ -20,13 +20,29 @@ pub struct Decoder(UnsafeCell<Handle>);
 // SAFETY: n2kdec.h allows calls from any thread, and the library's proof shows that a handle is `Send`.
 unsafe impl Send for Decoder {}
 
+/// `struct n2k_settings`.
 #[repr(C)]
-struct RawSettings {
+#[derive(Default)]
+pub struct RawSettings {
     window: u32,
     in_order: bool,
     empty: bool,
     whole: bool,
-    reserved: [u8; 25],
+    encode: u8,
+    reserved: [u8; 24],
+}
+
+impl RawSettings {
+    /// Those of an encoder.
+    pub fn encoding(nearest: bool) -> Self {
+        RawSettings { encode: 1 + u8::from(nearest), ..RawSettings::default() }
+    }
+}
+
+impl From<Settings> for RawSettings {
+    fn from(Settings { window, in_order, empty, whole }: Settings) -> Self {
+        RawSettings { window, in_order, empty, whole, ..RawSettings::default() }
+    }
 }
 
 #[repr(C)]
@@ -95,11 +111,9 @@ impl Drop for Decoder {
 // SAFETY, of each call below: the handle is zeros or was opened by n2k_open, and was not copied; no other call has it; each
 // pointer is that of a slice with its length, and nothing that is written overlaps anything else.
 impl Decoder {
-    pub fn open(&mut self, table: &[u8], state: Option<&[u8]>, settings: Settings) -> Result<(), Error> {
-        let Settings { window, in_order, empty, whole } = settings;
-        let raw = RawSettings { window, in_order, empty, whole, reserved: [0; 25] };
+    pub fn open(&mut self, table: &[u8], state: Option<&[u8]>, settings: &RawSettings) -> Result<(), Error> {
         let bytes = state.unwrap_or_default();
-        answer(unsafe { n2k_open(table.as_ptr(), table.len(), state.is_some(), bytes.as_ptr(), bytes.len(), &raw, self.0.get()) })
+        answer(unsafe { n2k_open(table.as_ptr(), table.len(), state.is_some(), bytes.as_ptr(), bytes.len(), settings, self.0.get()) })
     }
 
     pub fn feed(&mut self, bytes: &[u8]) -> Result<(), Error> {

@@ -2,7 +2,7 @@
 mod common;
 
 use common::{at, of_program};
-use n2kdec::{own_table, Decoder, Error, Settings};
+use n2kdec::{own_table, Decoder, Encoder, Error, Settings};
 use std::fs;
 use std::io::{self, Read};
 
@@ -50,6 +50,38 @@ fn refusals_have_the_words_of_the_program() {
     let refused = |table: &[u8], window| Decoder::new(table, Settings { window, ..Settings::default() }).err().map(|it| it.to_string());
     assert_eq!(refused(b"", 10_000).as_deref(), Some("table 2 Format"));
     assert!(refused(&fs::read(at("tables/n2k.toml")).unwrap(), 31).is_some());
+}
+
+#[test]
+fn messages_become_plain_lines_or_are_refused() {
+    let (mut exact, mut nearest) = (Encoder::new(own_table(), false).unwrap(), Encoder::new(own_table(), true).unwrap());
+    let depth = r#"{"pgn":128267,"fields":{"Depth":3.401}}"#;
+    for (message, refusal) in [
+        (depth, r#"B17 value "Depth""#),
+        (r#"{"pgn":128267,"fields":{"Dept":3.4}}"#, r#"B16 field "Dept""#),
+        ("{\"pgn\":128267,\"fields\":{\"a\nb\":3.4}}", "B13 json"),
+        ("", "B13 json"),
+        ("\n", "B13 json"),
+        ("# a comment", "B13 json"),
+    ] {
+        assert!(matches!(exact.encode(message), Err(Error::Message(text)) if text == refusal), "{message}");
+    }
+    let line = "1970-01-01T00:00:00.000Z,6,127250,0,255,8,ff,5c,3d,ff,7f,ff,7f,fd";
+    assert_eq!(exact.encode("{\n  \"pgn\": 127250,\r\n  \"fields\": {\"Heading\": 1.5708, \"Reference\": \"Magnetic\"}\n}\n").unwrap(), line);
+    assert_eq!(nearest.encode(depth).unwrap(), "1970-01-01T00:00:00.000Z,6,128267,0,255,8,ff,54,01,00,00,ff,7f,ff");
+    assert!(matches!(Encoder::new(b"", false), Err(Error::Refused(102, _))));
+}
+
+#[test]
+fn decoded_messages_are_encoded_and_decoded_again() {
+    let mut decoder = Decoder::new(own_table(), Settings::default()).unwrap();
+    let mut again = Decoder::new(own_table(), Settings { whole: true, ..Settings::default() }).unwrap();
+    let mut encoder = Encoder::new(own_table(), false).unwrap();
+    let messages: Vec<_> = decoder.decode(fs::File::open(at("examples/trip.log")).unwrap()).map(Result::unwrap).collect();
+    for message in &messages {
+        again.feed(format!("{}\n", encoder.encode(message).unwrap()).as_bytes()).unwrap();
+    }
+    assert_eq!(again.messages().unwrap(), messages);
 }
 
 /// A log that fails after its first frame.

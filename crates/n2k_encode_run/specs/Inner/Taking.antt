@@ -36,6 +36,19 @@ TakesLine t nearest line l l' (Err TooManyLines) = (l' ≡ l) × (l.counts.lines
 TakesLine t nearest line l l' (Err Memory) = Unit {0}
 TakesLine t nearest line l l' (Err _) = ⊥
 
+-- The result of the lines of bytes that are in memory. If they are over the line limit, it is reached before the last one.
+abbrev pub TakesAll : {T : Type 0} → TableParts → Bool → List ℕ → Ledger → Ledger → Result T RunFault → Type 0
+TakesAll t nearest bytes l l' (Ok x) = TakesLines t nearest (lines bytes) l l'
+TakesAll t nearest bytes l l' (Err TooManyLines) = most_lines < l.counts.lines + length (lines bytes)
+TakesAll t nearest bytes l l' (Err Memory) = Unit {0}
+TakesAll t nearest bytes l l' (Err _) = ⊥
+
+-- the lines of bytes before `left` were taken
+pub record TakesBefore (t : TableParts) (nearest : Bool) (bytes left : List ℕ) (l l' : Ledger) : Type 0 where
+  pub before : List (List ℕ)
+  pub split : lines bytes ≡ before ++ lines left
+  pub taken : TakesLines t nearest before l l'
+
 -- the greatest number of bytes kept of a line: two more than the longest line, for a carriage return and one byte more
 abbrev pub most_kept : ℕ
 most_kept = 65538

@@ -2,8 +2,8 @@
 use super::frame_in;
 use crate::samples::{pairs_table, sample as sample_table};
 use n2k_table::{
-    Coding, Kind, LineBuffer, Shown, Table, TableFault, TextBuffer, decimal_text, json_line,
-    json_line_in, json_line_of, split_character,
+    Coding, Kind, LineBuffer, Shown, Table, TableFault, TableId, TextBuffer, decimal_text,
+    json_line, json_line_in, json_line_of, split_character,
 };
 use std::test::Fail;
 
@@ -32,12 +32,22 @@ fn tables_read(rt: HostRuntime) -> Result<(), Fail> {
     Ok(())
 }
 
-// Table::id, Table::kind, Definition::description, Table::choose
+// Table::id, Table::lazy_id, TableId::bytes, TableId::known, Table::compute_id, Table::kind, Definition::description, Table::choose
 #[test]
 fn what_a_table_says(rt: HostRuntime) -> Result<(), Fail> {
     let alloc = rt.alloc();
     let table = sample_table(alloc)?;
     // As `sha256sum` prints it: 6b85e2b2..
+    assert!(rt; table.id().starts_with(&[0x6b, 0x85, 0xe2, 0xb2]));
+
+    let table = sample_table(alloc)?;
+    assert_eq!(rt; table.lazy_id().bytes(), table.id());
+
+    let table = sample_table(alloc)?;
+    assert_eq!(rt; TableId::known(table.id()).bytes(), table.id());
+
+    let mut table = sample_table(alloc)?;
+    table.compute_id();
     assert!(rt; table.id().starts_with(&[0x6b, 0x85, 0xe2, 0xb2]));
 
     let table = sample_table(alloc)?;
@@ -270,8 +280,9 @@ fn names_of_values(rt: HostRuntime) -> Result<(), Fail> {
     assert_eq!(rt; names.text_of(1), Some("Magnetic"));
     assert_eq!(rt; names.text_of(3), None);
 
-    assert_eq!(rt; names.value_of("Error"), Some(2));
-    assert_eq!(rt; names.value_of("Grid"), None);
+    assert_eq!(rt; names.value_of("Error", 3), Some(2));
+    assert_eq!(rt; names.value_of("Error", 1), None);
+    assert_eq!(rt; names.value_of("Grid", 3), None);
     Ok(())
 }
 

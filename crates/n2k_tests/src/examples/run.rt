@@ -2,9 +2,9 @@
 use n2k_join::{Broken, Counts, Join, Window};
 use n2k_run::{
     Blocks, BytesFault, Failed, MemorySink, MemorySource, Next, Options, RunRoom, Sink, Source,
-    StdSink, StdSource, bad_text, broken_text, read_bytes, run, run_frames, run_frames_counted,
-    run_more, run_part, run_parts, run_plain, run_plain_counted, summary_text, write_all,
-    write_summary,
+    StdSink, StdSource, bad_text, broken_text, read_bytes, run, run_counted, run_frames,
+    run_frames_counted, run_more, run_part, run_parts, run_plain, run_plain_counted, summary_text,
+    write_all, write_summary,
 };
 use n2k_table_tests::samples::sample as sample_table;
 use n2k_wire::{BadCause, Packing, is_interface};
@@ -154,6 +154,22 @@ fn runs_that_send(rt: HostRuntime) -> Result<(), Fail> {
     let sent = "(0000000010.300000) can0 1DFF0405#000BA39901414243\n\
         (0000000010.300000) can0 1DFF0405#010000000000FFFF\n";
     assert_eq!(rt; out.bytes(), sent.as_bytes());
+    Ok(())
+}
+
+// run_counted
+#[test]
+fn runs_without_a_state(rt: HostRuntime) -> Result<(), Fail> {
+    let alloc = rt.alloc();
+    let (table, options) = (sample_table(alloc)?, usual_options());
+    let mut sum = Counts::NONE;
+    let mut log = StdSource::new("(1.0) can0 09F8027F#0500\nhello\n".as_bytes());
+    let mut out = MemorySink::new(alloc, 4096, 0);
+    let mut err = MemorySink::new(alloc, 4096, 0);
+    run_counted(
+        alloc, &table, options, &mut sum, &mut log, &mut out, &mut err,
+    )?;
+    assert_eq!(rt; (sum.messages, sum.bad), (1, 1));
     Ok(())
 }
 

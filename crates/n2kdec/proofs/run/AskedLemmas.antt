@@ -1,6 +1,5 @@
 -- From what `clap` says of a parse to what the words ask for.
 use Rattle.std.proofs.Common.{arith, ◌≡◌, ◌⊎◌, ℕ, List, [], ◌∷◌, codes, true, Option, Some, None, Result, Ok, Err, IfErr, IfOk, IfSome, ap, subst, sym, refl, inl, inr, ◌≢◌, ◌∙◌, Vec}
-use Rattle.clap.specs.Walk.{texts}
 use Rattle.clap.specs.Words.{App, FailsBy, HasKind, HasMatchesOf, IsAmong, Kinds, Row, Text, fault_of, is_simple, is_simple_and_free, kind_of, subcommand_of, takes}
 use Rattle.clap.specs.declared.error.Error.{Error}
 use Rattle.clap.specs.declared.parser.matches.ArgMatches.{ArgMatches}

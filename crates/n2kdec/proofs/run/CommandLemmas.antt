@@ -1,5 +1,5 @@
 -- From the run of a command and its closing to what the command leaves.
-use Rattle.std.proofs.Common.{◌≡◌, ◌++◌, true, arith, ℕ, List, [], Option, None, Some, Ok, Err, Result, IfOk, IfErr, IfSome, ap, inl, subst, sym, append_assoc, refl, false, ◌≢◌, Contains}
+use Rattle.std.proofs.Common.{◌≡◌, ◌++◌, true, arith, ℕ, List, [], Option, None, Some, Ok, Err, Result, IfOk, IfErr, IfSome, inl, subst, sym, append_assoc, refl, false, ◌≢◌, Contains}
 use Rattle.std.proofs.KnownBytes.{Appends-trans}
 use Rattle.std.specs.Io.KnownBytes.{Appends}
 use Rattle.clap.specs.Words.{Text}
@@ -12,7 +12,7 @@ use Rattle.n2k_join.specs.State.{State as StateOf, state}
 use Rattle.n2k_run.specs.Decoded.{join_fold, output_after}
 use Rattle.n2k_run.specs.Fold.{after_all}
 use Rattle.n2k_run.specs.FramesOut.{frame_counts_of, frames_output}
-use Rattle.n2k_run.specs.Parts.{EndsAtLine, Continues, HasPart, IsOfKind, IsPartOf, RefusedByMemory, RunsFrom, TellsRun}
+use Rattle.n2k_run.specs.Parts.{EndsAtLine, Continues, HasPart, IsOfKind, IsPartOf, RefusedByMemory, RunsFrom, TellsRun, with_part}
 use Rattle.n2k_run.specs.Plain.{plain_counts_of, plain_output}
 use Rattle.n2k_run.specs.Reports.{summary_text}
 use Rattle.n2k_run.specs.Runs.{Devices, Output, ReportsFirst, Runs, output_from}
@@ -25,13 +25,12 @@ use Rattle.n2k_run.specs.declared.part.PartFault.TheVariants as part_faults
 use Rattle.n2k_run.proofs.Parting.{line_prefixes, told_ok, told_stopped}
 use Rattle.n2k_run.proofs.Running.{known_more}
 use Rattle.n2kdec.specs.CommandLine.Asked.{save_name}
-use Rattle.n2kdec.specs.Run.Commands.{ClosesWhole, Decodes, Effect, Ends, EndsByTable, EndsUnlessRefused, IsSaved, IsStopped, IsUntouched, IsWrittenUnlessFailed, SaveAttempt, Performs, Place, PrintsRest, Replaces, StoreView, SumsUpPart, decode_from, decode_to, entries_for, frames_effect, no_saving, place, shelf}
+use Rattle.n2kdec.specs.Run.Commands.{ByTable, ClosesWhole, Decodes, Effect, Ends, EndsUnlessRefused, IsRefusal, IsSaved, IsStopped, IsUntouched, IsWrittenUnlessFailed, SaveAttempt, Performs, Place, PrintsRest, Replaces, StoreView, SumsUpPart, decode_to, entries_for, no_saving, place, shelf}
 use Rattle.n2kdec.specs.Fault.{fault_of_run}
-use Rattle.n2kdec.specs.Inner.Closing.{Closes, ClosesPart, IsOfEnd}
-use Rattle.n2kdec.specs.Run.Told.{Counts as CountsOf, Tells, Told}
+use Rattle.n2kdec.specs.Inner.Closing.{Closes, ClosesCounted, ClosesPart, IsOfEnd}
+use Rattle.n2kdec.specs.Run.Difference.{Told}
 use Rattle.n2kdec.specs.declared.command_line.asked.Subcommand.{Subcommand}
-use Rattle.n2kdec.specs.declared.command_line.asked.Subcommand.TheVariants.{Plain, Decode, Frames}
-use Rattle.n2kdec.specs.declared.run.ending.CommandOutcome.{CommandOutcome}
+use Rattle.n2kdec.specs.declared.command_line.asked.Subcommand.TheVariants.{Plain, Decode, Frames, Encode}
 use Rattle.n2kdec.specs.declared.fault.Fault.{Fault}
 use Rattle.n2kdec.specs.declared.fault.Fault.TheVariants.{Memory, Read, Table}
 use Rattle.n2kdec.specs.declared.fault.InputFile.TheVariants as reading
@@ -60,12 +59,12 @@ module _ (before after : Devices) (errors : Place) where
     IsLeft = (summed ≡ errors) × IsUntouched c.saving
 
     -- what follows the fault of a run: the summary of the lines that it has taken, or nothing
-    abbrev Follows : Option SaveError → RunFault → Type 0
-    Follows unkept run.Read = (es : List Entry) → stands es → SumsUpPart c.sums_up_a_part errors summed (summary_text (c.counts es))
-        × Replaces c.saving.before c.saving.after (c.saving.state es) errors.text unkept
-    Follows unkept run.TooManyLines = (es : List Entry) → stands es → SumsUpPart c.sums_up_a_part errors summed (summary_text (c.counts es))
+    abbrev Follows : Option SaveError → ℕ → RunFault → Type 0
+    Follows unkept lines run.Read = (es : List Entry) → stands es → SumsUpPart c.sums_up_a_part errors summed (summary_text (c.counts es))
+        × Replaces c.saving.before c.saving.after (c.saving.state es) errors.text unkept × (lines ≡ (c.counts es).lines)
+    Follows unkept lines run.TooManyLines = (es : List Entry) → stands es → SumsUpPart c.sums_up_a_part errors summed (summary_text (c.counts es))
         × IsUntouched c.saving
-    Follows unkept _ = IsLeft
+    Follows unkept lines _ = IsLeft
 
     still_first : (more : List ℕ) × Appends errors.text after.reported more → IfSome before.left (ReportsFirst c.output before mid) → IfSome before.left (ReportsFirst c.output before after)
     still_first then = known_more before.left _ _ (λ log first. record {
@@ -77,7 +76,7 @@ module _ (before after : Devices) (errors : Place) where
     })
 
     -- a run's fault stops a command
-    stopped_by_run : {T : Type 0} (unkept : Option SaveError) (f : RunFault) (lines : ℕ) → Runs {T = T} c.output stands before mid (Err f) → Follows unkept f → (more : List ℕ) × Appends errors.text after.reported more
+    stopped_by_run : {T : Type 0} (unkept : Option SaveError) (f : RunFault) (lines : ℕ) → Runs {T = T} c.output stands before mid (Err f) → Follows unkept lines f → (more : List ℕ) × Appends errors.text after.reported more
         → IsStopped c before after (told_so unkept f lines)
     stopped_by_run unkept f lines ran follows then = grind (arith, still_first)
 
@@ -93,7 +92,7 @@ module _ (before after : Devices) (errors : Place) where
       first : IsWrittenUnlessFailed errors summed (summary_text counts) → IfSome before.left (ReportsFirst c.output before after)
       first said = grind (arith, still_first)
 
-      ended_by_closing : (r : Result CommandOutcome Fault) → Closes c.saving.before c.saving.after errors summed text counts r → Ends c before after r
+      ended_by_closing : (r : Result Counts Fault) → Closes c.saving.before c.saving.after errors summed text counts r → Ends c before after r
       ended_by_closing r closes = grind (arith, saved, Appends-trans, first)
 
   -- the run of a whole log, which is then closed: no state is saved
@@ -101,7 +100,7 @@ module _ (before after : Devices) (errors : Place) where
     abbrev whole_effect : Effect
     whole_effect = record { output = output; counts = counts_of; saving = no_saving; sums_up_a_part = false }
 
-    ended_whole : (counts : Counts) (ended : Result (Unit {0}) RunFault) (r : Result CommandOutcome Fault) → Runs output (λ es. counts ≡ counts_of es) before mid ended
+    ended_whole : (counts : Counts) (ended : Result (Unit {0}) RunFault) (r : Result Counts Fault) → Runs output (λ es. counts ≡ counts_of es) before mid ended
         → ClosesWhole errors summed counts ended r → Ends whole_effect before after r
     ended_whole counts (Ok x) r runs closes = ended_by_closing whole_effect (λ es. counts ≡ counts_of es) x [] counts runs (runs.ends.holds, refl) r (inl ((refl, refl), closes))
     ended_whole counts (Err fault) r runs closes = grind arith
@@ -120,10 +119,10 @@ module _ (before after : Devices) (errors : Place) where
     saved_so part es unkept is keeps = subst (λ s. Replaces keeper kept s errors.text unkept) is.saved keeps
 
     -- no command that has begun ends by a refusal
-    unless : (r : Result CommandOutcome Fault) → Ends c before after r → EndsUnlessRefused c before after r
+    unless : (r : Result Counts Fault) → Ends c before after r → EndsUnlessRefused c before after r
     unless r done = grind arith
 
-    closed : (of : Told) (ended : Result Part PartFault) (r : Result CommandOutcome Fault) → IsOfKind ended → RefusedByMemory ended
+    closed : (of : Told) (ended : Result Part PartFault) (r : Result Counts Fault) → IsOfKind ended → RefusedByMemory ended
         → TellsRun o (λ es. HasPart t options ended (stands_at es)) before mid ended → ClosesPart of keeper kept errors summed ended r → EndsUnlessRefused c before after r
     closed of (Ok part) r kind memory told closes =
         unless r (ended_by_closing c _ tt part.state.items part.counts (told_ok o before mid _ part told) (grind arith) r closes)
@@ -141,62 +140,43 @@ module _ (before after : Devices) (errors : Place) where
     abbrev t : TableParts
     t = table_of bytes
 
-    rest_of : (prefix : List ℕ) (of : Told) (ended : Result Part PartFault) (r : Result CommandOutcome Fault) → Continues t o prefix before mid ended → ClosesPart of keeper kept errors summed ended r
-        → IfOk r (λ ending. IfSome before.left (λ log. PrintsRest t o prefix log before after keeper kept ending.status))
+    rest_of : (prefix : List ℕ) (of : Told) (ended : Result Part PartFault) (r : Result Counts Fault) → Continues t o prefix before mid ended → ClosesPart of keeper kept errors summed ended r
+        → IfOk r (λ counted. IfSome before.left (λ log. PrintsRest t o prefix log before after keeper kept counted))
     rest_of prefix of ended r goes closes = grind (arith, known_more, Appends-trans)
 
-    decoded : (of : Told) (ended : Result Part PartFault) (r : Result CommandOutcome Fault) → faults bytes ≡ [] → RunsFrom t o handed before mid ended → ClosesPart of keeper kept errors summed ended r
+    decoded : (of : Told) (ended : Result Part PartFault) (r : Result Counts Fault) → faults bytes ≡ [] → RunsFrom t o handed before mid ended → IsOfEnd t.id o handed ended of → ClosesPart of keeper kept errors summed ended r
         → Decodes bytes o handed before after keeper kept r
-    decoded of ended r none runs closes = record {
+    decoded of ended r none runs of_end closes = record {
       judged = grind arith;
       steps = λ s is. grind (arith, closed (output_from (join_fold t o.empty) o.packing s) (after_all (join_fold t o.empty) s) t o keeper kept);
       log = λ prefix is. grind (arith, closed (output_after t o prefix) (λ es. state t.id o.window (kind t) (prefix ++ es)) t o keeper kept);
       headline = λ prefix is. rest_of prefix of ended r (runs.headline prefix is) closes;
     }
 
--- the lines that are counted after a failed read are those of what came
-counts_read : {t : TableParts} (o : Options) (s : StateOf) (part : Part) (before after : Devices) (errors : Place)
-    → TellsRun (output_from (join_fold t o.empty) o.packing s) (λ es. HasPart t o (Err (part_faults.Stopped run.Read part)) (after_all (join_fold t o.empty) s es)) before (mid before after errors) (Err (part_faults.Stopped run.Read part))
-    → CountsOf (decode_from t o s (shelf None None) (shelf None None)) before.left after.left part.counts.lines
-counts_read o s part before after errors told =
-    let runs = told_stopped _ before (mid before after errors) _ run.Read part told in
-    (runs.ends.came, runs.ends.given, ap (λ (n : Counts). n.lines) runs.ends.holds.counted)
+-- a run without a state ends as a part whose state is not kept
+closed_counted : (keeper : StoreView) (errors summed : Place) (part : Part) (counts : Counts) (ended : Result (Unit {0}) RunFault) (r : Result Counts Fault) → part.counts ≡ counts → keeper.name ≡ None → ClosesCounted errors summed counts ended r
+    → ClosesPart (Ok None) keeper keeper errors summed (with_part part ended) r
+closed_counted keeper errors summed part counts ended r same unnamed closes = grind arith
 
--- what `decode` tells is so
-told_part : (bytes : List ℕ) (handed : Option (List ℕ)) (before after : Devices) (errors : Place) (o : Options) (save : Option Text) (of : Told) (keeper kept : StoreView) (ended : Result Part PartFault) (r : Result CommandOutcome Fault)
-    → RunsFrom (table_of bytes) o handed before (mid before after errors) ended → IsOfEnd (table_of bytes).id o handed ended of → ClosesPart of keeper kept errors (summed before after errors) ended r
-    → IfErr r (Tells (Decode o save) bytes handed before.left after.left)
-told_part bytes handed before after errors o save of keeper kept (Ok part) r runs of_end closes = grind arith
-told_part bytes handed before after errors o save of keeper kept (Err (part_faults.Stopped run.Read part)) r runs of_end closes =
-    subst (λ r. IfErr r (Tells (Decode o save) bytes handed before.left after.left)) (sym closes.1) (λ s begun. counts_read o s part before after errors (runs.steps s begun))
-told_part bytes handed before after errors o save of keeper kept (Err (part_faults.Stopped fault part)) r runs of_end closes = grind arith
-told_part bytes handed before after errors o save of keeper kept (Err (part_faults.State fault)) r runs of_end closes = grind arith
-told_part bytes handed before after errors o save of keeper kept (Err (part_faults.Run fault)) r runs of_end closes = grind arith
-told_part bytes handed before after errors o save of keeper kept (Err part_faults.Memory) r runs of_end closes = grind arith
+-- and no state was refused
+no_state_of : (id : List ℕ) (o : Options) (handed : Option (List ℕ)) (part : Part) (ended : Result (Unit {0}) RunFault) → IsOfEnd id o handed (with_part part ended) (Ok None)
+no_state_of id o handed part ended = grind arith
 
--- a command that has no state ends so by a table that is taken
-by_table : (found : List TableFault) (c : Effect) (before after : Devices) (r : Result CommandOutcome Fault) → found ≡ [] → Ends c before after r → EndsByTable found c before after r
-by_table found c before after (Ok ending) none done = (none, done)
-by_table found c before after (Err fault) none stopped = grind arith
+-- a command that is closed ends by no fault of its table
+by_table : (found : List TableFault) (before after : Devices) (r : Result Counts Fault) (P : Type 0) → found ≡ [] → IfErr r (λ fault. IsRefusal fault → ⊥) → P → ByTable found before after r P
+by_table found before after (Ok counts) P none begun done = (none, done)
+by_table found before after (Err (Table f)) P none begun done = absurd (begun tt)
+by_table found before after (Err _) P none begun done = (none, done)
 
--- The command that was named does what its run and the closing say, and what it tells is so.
-module _ (task : Subcommand) (bytes : List ℕ) (handed : Option (List ℕ)) (before after : Devices) (errors : Place) (r : Result CommandOutcome Fault) where
+-- The command that was named does what its run and the closing say.
+module _ (task : Subcommand) (bytes : List ℕ) (handed : Option (List ℕ)) (before after : Devices) (errors : Place) (r : Result Counts Fault) where
   abbrev performs_with : Option (List SaveAttempt) → Option (List SaveAttempt) → Subcommand → Type 0
   performs_with had has k = Performs k bytes handed before after (shelf (save_name k) had) (shelf (save_name k) has) r
-
-  abbrev tells_by : Subcommand → Type 0
-  tells_by k = IfErr r (Tells k bytes handed before.left after.left)
 
   module _ (had : Option (List SaveAttempt)) (counts : Counts) (ended : Result (Unit {0}) RunFault) (closes : ClosesWhole errors (summed before after errors) counts ended r) where
     module _ (is : task ≡ Plain) (runs : Runs plain_output (λ es. counts ≡ plain_counts_of es) before (mid before after errors) ended) where
       pub performs_plain : performs_with had had task
       performs_plain = subst (performs_with had had) (sym is) (refl, ended_whole before after errors plain_output plain_counts_of counts ended r runs closes)
-
-      told_plain : tells_by Plain
-      told_plain = grind arith
-
-      pub tells_plain : tells_by task
-      tells_plain = subst tells_by (sym is) told_plain
 
     module _ (interface told : Option Text) (t : TableParts) (is : task ≡ Frames interface) (is_told : told ≡ interface) (read : (faults bytes ≡ []) × (t ≡ table_of bytes))
         (ran : Runs (frames_output t told) (λ es. counts ≡ frame_counts_of (kind t) told es) before (mid before after errors) ended) where
@@ -206,38 +186,38 @@ module _ (task : Subcommand) (bytes : List ℕ) (handed : Option (List ℕ)) (be
       ran_frames : runs_by (table_of bytes) interface
       ran_frames = subst (runs_by (table_of bytes)) is_told (subst (λ t. runs_by t told) read.1 ran)
 
-      pub performs_frames : performs_with had had task
-      performs_frames = subst (performs_with had had) (sym is) (
+      pub performs_frames : IfErr r (λ fault. IsRefusal fault → ⊥) → performs_with had had task
+      performs_frames begun = subst (performs_with had had) (sym is) (
         refl,
-        by_table (faults bytes) (frames_effect (table_of bytes) interface) before after r read.0
+        by_table (faults bytes) before after r _ read.0 begun
             (ended_whole before after errors (frames_output (table_of bytes) interface) (frame_counts_of (kind (table_of bytes)) interface) counts ended r ran_frames closes),
       )
-
-      told_frames : runs_by (table_of bytes) interface → tells_by (Frames interface)
-      told_frames its = grind arith
-
-      pub tells_frames : tells_by task
-      tells_frames = subst tells_by (sym is) (told_frames ran_frames)
 
   module _ (had has : Option (List SaveAttempt)) (o : Options) (save : Option Text) (of : Told) (ended : Result Part PartFault) (t : TableParts) (is : task ≡ Decode o save) (read : (faults bytes ≡ []) × (t ≡ table_of bytes))
       (ran : RunsFrom t o handed before (mid before after errors) ended) (closes : ClosesPart of (shelf save had) (shelf save has) errors (summed before after errors) ended r) where
     ran_part : RunsFrom (table_of bytes) o handed before (mid before after errors) ended
     ran_part = subst (λ t. RunsFrom t o handed before (mid before after errors) ended) read.1 ran
 
-    pub performs_decode : performs_with had has task
-    performs_decode = subst (performs_with had has) (sym is) (decoded before after errors bytes o handed (shelf save had) (shelf save has) of ended r read.0 ran_part closes)
-
-    pub tells_decode : IsOfEnd t.id o handed ended of → tells_by task
-    tells_decode of_end = subst tells_by (sym is) (told_part bytes handed before after errors o save of (shelf save had) (shelf save has) ended r ran_part
+    pub performs_decode : IsOfEnd t.id o handed ended of → performs_with had has task
+    performs_decode of_end = subst (performs_with had has) (sym is) (decoded before after errors bytes o handed (shelf save had) (shelf save has) of ended r read.0 ran_part
         (subst (λ t. IsOfEnd t.id o handed ended of) read.1 of_end) closes)
 
+  -- without a state that is given or kept
+  module _ (had : Option (List SaveAttempt)) (o : Options) (save : Option Text) (counts : Counts) (ended : Result (Unit {0}) RunFault) (t : TableParts) (is : task ≡ Decode o save) (read : (faults bytes ≡ []) × (t ≡ table_of bytes))
+      (ran : (part : Part) × (part.counts ≡ counts) × RunsFrom t o None before (mid before after errors) (with_part part ended)) (closes : ClosesCounted errors (summed before after errors) counts ended r) (unsaved : save ≡ None) (new : handed ≡ None) where
+    ran_new : RunsFrom t o handed before (mid before after errors) (with_part ran.0 ended)
+    ran_new = subst (λ handed. RunsFrom t o handed before (mid before after errors) (with_part ran.0 ended)) (sym new) ran.2
+
+    closes_part : ClosesPart (Ok None) (shelf save had) (shelf save had) errors (summed before after errors) (with_part ran.0 ended) r
+    closes_part = rw unsaved (closed_counted (shelf None had) errors (summed before after errors) ran.0 counts ended r ran.1 refl closes)
+
+    pub performs_counted : performs_with had had task
+    performs_counted = performs_decode had had o save (Ok None) (with_part ran.0 ended) t is read ran_new closes_part (no_state_of t.id o handed ran.0 ended)
+
 -- the table is refused
-module _ (task : Subcommand) (bytes : List ℕ) (handed : Option (List ℕ)) (at : Devices) (had : Option (List SaveAttempt)) (fault : TableFault) (stands : fault ≢ table_faults.Memory → Contains (faults bytes) fault) where
-  abbrev refuses : Subcommand → Type 0
-  refuses k = Performs k bytes handed at at (shelf (save_name k) had) (shelf (save_name k) had) (Err (Table fault))
-
-  pub decode_refused : (o : Options) (save : Option Text) → task ≡ Decode o save → refuses task
-  decode_refused o save is = subst refuses (sym is) (record { judged = stands; steps = λ s begun. tt; log = λ prefix begun. tt; headline = λ prefix begun. tt })
-
-  pub frames_refused : (interface : Option Text) → task ≡ Frames interface → refuses task
-  frames_refused interface is = subst refuses (sym is) (refl, (stands, refl))
+pub refused : (task : Subcommand) (bytes : List ℕ) (handed : Option (List ℕ)) (at : Devices) (had : Option (List SaveAttempt)) (fault : TableFault) → (fault ≢ table_faults.Memory → Contains (faults bytes) fault) → task ≢ Plain
+    → Performs task bytes handed at at (shelf (save_name task) had) (shelf (save_name task) had) (Err (Table fault))
+refused Plain bytes handed at had fault stands some = absurd (some refl)
+refused (Decode o save) bytes handed at had fault stands some = record { judged = stands; steps = λ s begun. tt; log = λ prefix begun. tt; headline = λ prefix begun. tt }
+refused (Frames interface) bytes handed at had fault stands some = (refl, (stands, refl))
+refused (Encode nearest) bytes handed at had fault stands some = (refl, (stands, refl))

@@ -1,21 +1,17 @@
 -- From what a call leaves to what the program leaves.
-use Rattle.std.proofs.Common.{arith, ◌≡◌, ◌⊎◌, ◌++◌, append_assoc, ℕ, List, [], ◌∷◌, Option, Some, None, Result, Ok, Err, IfErr, option_map, inl, inr, refl, subst, sym, ◌<◌, ◌≤◌, IfSome, IsErrAnd, IsSome, length, unwrap_or}
-use Rattle.std.specs.declared.alloc.AllocError.{AllocError}
+use Rattle.std.proofs.Common.{arith, ◌≡◌, ◌⊎◌, ◌++◌, append_assoc, ℕ, List, [], ◌∷◌, Option, Some, None, Result, Ok, Err, option_map, inl, inr, refl, subst, sym, ◌<◌, ◌≤◌, IfSome, IsErrAnd, IsSome, length, unwrap_or}
 use Rattle.std.specs.declared.io.Error.{Error}
 use Rattle.clap.specs.Words.{Text}
 use Rattle.n2kdec.specs.CommandLine.Asked.{save_name}
-use Rattle.n2kdec.specs.Run.Commands.{Performs, Place, shelf}
-use Rattle.n2kdec.specs.Fault.Sentence.{SystemWords}
-use Rattle.n2kdec.specs.System.Machine.{Calls, DoesAsked, Hints, IsAdmittedSo, IsNotRead, IsPerformed, IsPerformedOver, IsRead, IsReadBefore, IsUnread, LogAfter, Makes, OutputsView, ReadsFile, ReportsFault, RunsCommand, RunsRequest, Environment, table_bytes, too_large, with_log}
+use Rattle.n2kdec.specs.Run.Commands.{Performs, shelf}
+use Rattle.n2kdec.specs.System.Machine.{Calls, IsAdmittedSo, IsNotRead, IsPerformed, IsRead, IsReadBefore, IsUnread, LogAfter, Makes, OutputsView, ReadsFile, RunsCommand, Environment, too_large, with_log}
+use Rattle.n2k_join.specs.declared.counts.Counts.{Counts}
 use Rattle.n2k_run.specs.Device.{IsWhy}
-use Rattle.n2kdec.specs.Fault.{longest_file, status_of, unopened, unread}
+use Rattle.n2kdec.specs.Fault.{longest_file, unopened, unread}
 use Rattle.n2kdec.specs.System.Disk.{IsOfMemory}
-use Rattle.n2kdec.specs.Run.Told.{Tells}
-use Rattle.n2kdec.specs.declared.command_line.asked.ParsedArgs.{ParsedArgs}
 use Rattle.n2kdec.specs.declared.command_line.asked.Command.{Command}
 use Rattle.n2kdec.specs.declared.command_line.asked.Files.{Files}
 use Rattle.n2kdec.specs.declared.command_line.asked.Subcommand.{Subcommand}
-use Rattle.n2kdec.specs.declared.run.ending.CommandOutcome.{CommandOutcome}
 use Rattle.n2kdec.specs.declared.fault.Fault.{Fault}
 use Rattle.n2kdec.specs.declared.fault.Fault.TheVariants.{Memory, Save}
 use Rattle.n2kdec.specs.declared.fault.InputFile.{InputFile}
@@ -62,24 +58,21 @@ module _ (w : Environment) (named : Option Text) (name : Text) (is_name : named 
 -- ---- a command
 
 -- over a log of which no call was made, by the bytes that were read
-module _ (task : Subcommand) (table : List ℕ) (handed : Option (List ℕ)) (before after : OutputsView) (log : LogAfter) (result : Result CommandOutcome Fault) where
+module _ (task : Subcommand) (table : List ℕ) (handed : Option (List ℕ)) (before after : OutputsView) (log : LogAfter) (result : Result Counts Fault) where
   abbrev pub PerformsAfter : List ℕ → Option (List ℕ) → Option (List ℕ) → ℕ → ℕ → Type 0
   PerformsAfter held lent left calls failed = Performs task held lent (with_log left calls failed before) (with_log log.left log.calls log.failed after)
       (shelf (save_name task) before.kept) (shelf (save_name task) after.kept) result
 
-  abbrev pub TellsAfter : List ℕ → Option (List ℕ) → Option (List ℕ) → Type 0
-  TellsAfter held lent left = IfErr result (Tells task held lent left log.left)
-
   pub performed_over : (held : List ℕ) (lent left known : Option (List ℕ)) (calls failed : ℕ) → held ≡ table → lent ≡ handed → left ≡ known → calls ≡ 0 → failed ≡ 0
-      → PerformsAfter held lent left calls failed → TellsAfter held lent left → IsPerformedOver task table handed known log before after result
-  performed_over held lent left known calls failed is_table is_state is none none_failed performs told = grind arith
+      → PerformsAfter held lent left calls failed → PerformsAfter table handed known 0 0
+  performed_over held lent left known calls failed is_table is_state is none none_failed performs = grind arith
 
 -- the bytes of a table that was read, or none
-pub table_is : {T : Type 0} (items : T → List ℕ) (read : Option T) (none held : T) → items none ≡ [] → held ≡ unwrap_or read none → items held ≡ table_bytes (option_map items read)
+pub table_is : {T : Type 0} (items : T → List ℕ) (read : Option T) (none held : T) → items none ≡ [] → held ≡ unwrap_or read none → items held ≡ unwrap_or (option_map items read) []
 table_is items read none held empty is = grind arith
 
 -- a command that is performed is run
-pub performed : (w : Environment) (command : Command) (before after : OutputsView) (result : Result CommandOutcome Fault) → IsPerformed w command before after result
+pub performed : (w : Environment) (command : Command) (before after : OutputsView) (result : Result Counts Fault) → IsPerformed w command before after result
     → RunsCommand w command before after result
 performed w command before after result done = grind arith
 
@@ -89,7 +82,7 @@ pub not_admitted : (w : Environment) (command : Command) (o : OutputsView) (why 
 not_admitted w command o why named answer = inr (inr (why, refl, named, answer, refl))
 
 -- one whose files are not read is not begun
-module _ (w : Environment) (command : Command) (o : OutputsView) (used : Calls) (fault : Fault) (result : Result CommandOutcome Fault) (is : IsErrAnd result (λ told. told ≡ fault)) where
+module _ (w : Environment) (command : Command) (o : OutputsView) (used : Calls) (fault : Fault) (result : Result Counts Fault) (is : IsErrAnd result (λ told. told ≡ fault)) where
   abbrev IsNotBegunSo : Type 0
   IsNotBegunSo = RunsCommand w command o (record o { calls = used }) result
 
@@ -115,14 +108,3 @@ module _ (w : Environment) (command : Command) (o : OutputsView) (used : Calls) 
 pub all_calls : (files : Files) (a b c d e : Calls) (of_table of_state : List FileCall) (reads : ℕ) (why : Option Error) → Makes of_table a b → Makes of_state b c
     → Makes (Opened files.log None ∷ []) c d → Makes (Closed reads why ∷ []) d e → Makes (of_table ++ of_state ++ Opened files.log None ∷ Closed reads why ∷ []) a e
 all_calls files a b c d e of_table of_state reads why table state opened closed = grind (arith, append_assoc)
-
--- a fault of what was typed is reported
-pub reported : (w : Environment) (words : SystemWords) (request : ParsedArgs) (before done : OutputsView) (result : Result CommandOutcome Fault) (fault : Fault) (said : Result (Unit {0}) AllocError) (errors : Place) (status : ℕ)
-    → DoesAsked w request before done result → result ≡ Err fault → ReportsFault w words request fault said done.errors errors → status ≡ status_of fault
-    → RunsRequest w words request before (record done { errors = errors }) status said
-reported w words request before done result fault said errors status does is reports answered = grind arith
-
--- a command that came to its end, of which is said what there is to say
-pub ended : (w : Environment) (words : SystemWords) (request : ParsedArgs) (before done : OutputsView) (result : Result CommandOutcome Fault) (ending : CommandOutcome) (said : Result (Unit {0}) AllocError) (errors : Place) (status : ℕ)
-    → DoesAsked w request before done result → result ≡ Ok ending → Hints w ending.has_other_form done.errors errors → status ≡ ending.status → said ≡ Ok tt → RunsRequest w words request before (record done { errors = errors }) status said
-ended w words request before done result ending said errors status does is hints answered none = grind arith

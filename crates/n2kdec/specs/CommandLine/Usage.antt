@@ -4,7 +4,7 @@
 --     n2kdec frames --table F [--candump IFACE] [LOG]
 --     n2kdec encode --table F [--nearest] [LOG]
 --     n2kdec --version
-use Rattle.std.specs.Prelude.{List, ℕ, true, Some, codes}
+use Rattle.std.specs.Prelude.{◌∷◌, ◌++◌, [], List, ℕ, true, Some, codes}
 use Rattle.clap.specs.Words.{App, Rule, new_app, new_rule, with_rule, with_subcommand}
 use Rattle.clap.specs.declared.builder.action.ArgAction.TheVariants.{SetTrue}
 
@@ -23,44 +23,32 @@ option_rule name = record (new_rule name) { long = Some name; value_names = 1 }
 abbrev pub table_rule : Rule
 table_rule = record (option_rule (codes "table")) { required = true }
 
-abbrev pub resume_rule : Rule
-resume_rule = option_rule (codes "resume")
+-- what says of `decode` which files it has, what ends a group of frames, and how lines are read and printed
+abbrev pub file_rules : List Rule
+file_rules = table_rule ∷ option_rule (codes "resume") ∷ option_rule (codes "save") ∷ []
 
-abbrev pub save_rule : Rule
-save_rule = option_rule (codes "save")
+abbrev pub window_rules : List Rule
+window_rules = option_rule (codes "window") ∷ flag_rule (codes "in-order") ∷ []
 
-abbrev pub window_rule : Rule
-window_rule = option_rule (codes "window")
+abbrev pub flag_rules : List Rule
+flag_rules = flag_rule (codes "empty") ∷ flag_rule (codes "whole") ∷ []
 
-abbrev pub in_order_rule : Rule
-in_order_rule = flag_rule (codes "in-order")
-
-abbrev pub candump_rule : Rule
-candump_rule = option_rule (codes "candump")
-
-abbrev pub nearest_rule : Rule
-nearest_rule = flag_rule (codes "nearest")
-
-abbrev pub empty_rule : Rule
-empty_rule = flag_rule (codes "empty")
-
-abbrev pub whole_rule : Rule
-whole_rule = flag_rule (codes "whole")
+abbrev pub with_rules : App → List Rule → App
+with_rules app [] = app
+with_rules app (rule ∷ rules) = with_rules (with_rule app rule) rules
 
 abbrev pub plain_app : App
 plain_app = with_rule (new_app (codes "plain")) log_rule
 
 abbrev pub decode_app : App
 decode_app =
-    let files = with_rule (with_rule (with_rule (new_app (codes "decode")) table_rule) resume_rule) save_rule in
-    let groups = with_rule (with_rule files window_rule) in_order_rule in
-    with_rule (with_rule (with_rule groups empty_rule) whole_rule) log_rule
+    let rules = file_rules ++ window_rules ++ flag_rules ++ log_rule ∷ [] in with_rules (new_app (codes "decode")) rules
 
 abbrev pub frames_app : App
-frames_app = with_rule (with_rule (with_rule (new_app (codes "frames")) table_rule) candump_rule) log_rule
+frames_app = with_rules (new_app (codes "frames")) (table_rule ∷ option_rule (codes "candump") ∷ log_rule ∷ [])
 
 abbrev pub encode_app : App
-encode_app = with_rule (with_rule (with_rule (new_app (codes "encode")) table_rule) nearest_rule) log_rule
+encode_app = with_rules (new_app (codes "encode")) (table_rule ∷ flag_rule (codes "nearest") ∷ log_rule ∷ [])
 
 -- a command without its subcommands: one of them is required, and `help` is none; it has a version, and without any
 -- word it shows its help

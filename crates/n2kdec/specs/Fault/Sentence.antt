@@ -13,7 +13,6 @@ use Rattle.n2kdec.specs.declared.fault.Fault.TheVariants.{TableFile, StateFile, 
 use Rattle.n2kdec.specs.declared.fault.Fault.TheVariants.{Save}
 use Rattle.n2kdec.specs.declared.run.difference.StateMismatch.TheVariants.{Tables, Windows}
 use Rattle.n2kdec.specs.declared.fault.InputFile.TheVariants as reading
-use Rattle.n2kdec.specs.declared.save.keeper.SaveError.{SaveError}
 use Rattle.n2kdec.specs.declared.save.keeper.SaveError.TheVariants.{Unfound, Failed}
 
 -- ---- what is wrong
@@ -86,11 +85,8 @@ tables_text saved name id =
 abbrev pub windows_text : ℕ → ℕ → Text
 windows_text saved window = codes " (" ++ decimal saved ++ codes "; this run has " ++ decimal window ++ codes ")"
 
-abbrev pub some_lines_text : ℕ → Text
-some_lines_text lines = codes " (after line " ++ decimal lines ++ codes ")"
-
 abbrev pub lines_text : ℕ → Text
-lines_text lines = if lines == 0 then [] else some_lines_text lines
+lines_text lines = if lines == 0 then [] else codes " (after line " ++ decimal lines ++ codes ")"
 
 abbrev pub cause_text : Option Command → Fault → Text
 cause_text command (State fault (Ok (Some (Tables saved id)))) = tables_text saved (unwrap_or (table_of command) []) id
@@ -113,20 +109,13 @@ IsSaidOf system (Some subject) command fault text =
     (words : Text) × (advice : Text) × AreWords system fault words
     × (text ≡ line_of (told_of command subject words fault advice))
 
--- the line of a fault; and if the state could not be kept after a failed read, the line of that read
+-- The line of a fault. If the state could not be kept after a failed read, the line that says why follows that of the
+-- read.
 abbrev pub IsLine : SystemWords → Option Command → Fault → List ℕ → Type 0
 IsLine system command fault text = IsSaidOf system (subject_of command fault) command fault text
 
-abbrev pub unkept_of : Fault → Option SaveError
-unkept_of (Read lines why unkept) = unkept
-unkept_of _ = None
-
-abbrev pub IsNextLine : SystemWords → Option Command → Option SaveError → List ℕ → Type 0
-IsNextLine system command None text = text ≡ []
-IsNextLine system command (Some why) text = IsLine system command (Save why) text
-
--- the sentence of a fault
 abbrev pub IsSentence : SystemWords → Option Command → Fault → List ℕ → Type 0
-IsSentence system command fault text =
-    (line next : List ℕ) × IsLine system command fault line × IsNextLine system command (unkept_of fault) next
-    × (text ≡ line ++ next)
+IsSentence system command (Read lines why (Some unkept)) text =
+    (line next : List ℕ) × IsLine system command (Read lines why (Some unkept)) line
+    × IsLine system command (Save unkept) next × (text ≡ line ++ next)
+IsSentence system command fault text = IsLine system command fault text

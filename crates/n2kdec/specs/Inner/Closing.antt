@@ -2,6 +2,7 @@
 use Rattle.std.specs.Prelude.{◌≡◌, ◌⊎◌, ℕ, List, Option, None, Result, Ok, Err, Some}
 use Rattle.n2k_join.specs.declared.counts.Counts.{Counts}
 use Rattle.n2k_run.specs.Reports.{summary_text}
+use Rattle.n2k_run.specs.declared.fault.RunFault.{RunFault}
 use Rattle.n2k_run.specs.declared.fault.RunFault.TheVariants as run
 use Rattle.n2k_run.specs.declared.options.Options.{Options}
 use Rattle.n2k_run.specs.declared.part.Part.{Part}
@@ -9,8 +10,7 @@ use Rattle.n2k_run.specs.declared.part.PartFault.{PartFault}
 use Rattle.n2k_run.specs.declared.part.PartFault.TheVariants as part_faults
 use Rattle.n2kdec.specs.Run.Commands.{IsWrittenUnlessFailed, Replaces, Place, StoreView, SumsUp}
 use Rattle.n2kdec.specs.Fault.{fault_of_run}
-use Rattle.n2kdec.specs.Run.Told.{Differs, Told}
-use Rattle.n2kdec.specs.declared.run.ending.CommandOutcome.{CommandOutcome}
+use Rattle.n2kdec.specs.Run.Difference.{Differs, Told}
 use Rattle.n2kdec.specs.declared.fault.Fault.{Fault}
 use Rattle.n2kdec.specs.declared.fault.Fault.TheVariants.{Memory, Read, Save, State}
 use Rattle.n2kdec.specs.declared.fault.InputFile.TheVariants as reading
@@ -18,11 +18,20 @@ use Rattle.n2kdec.specs.declared.save.keeper.SaveError.{SaveError}
 
 -- A log was taken whole, and this text is to be kept: it is, and the summary gives the answer; or it can't be, and the
 -- summary is written all the same.
-abbrev pub Closes : StoreView → StoreView → Place → Place → List ℕ → Counts → Result CommandOutcome Fault → Type 0
+abbrev pub Closes : StoreView → StoreView → Place → Place → List ℕ → Counts → Result Counts Fault → Type 0
 Closes keeper kept errors summed text counts result =
     (Replaces keeper kept text errors.text None × SumsUp errors summed counts result)
     ⊎ ((why : SaveError) × (result ≡ Err (Save why)) × Replaces keeper kept text errors.text (Some why)
     × IsWrittenUnlessFailed errors summed (summary_text counts))
+
+-- What follows a run that saves no state, and counted so much: as after a part, but nothing is kept.
+abbrev pub ClosesCounted : Place → Place → Counts → Result (Unit {0}) RunFault → Result Counts Fault → Type 0
+ClosesCounted errors summed counts (Ok ended) result = SumsUp errors summed counts result
+ClosesCounted errors summed counts (Err run.Read) result =
+    (result ≡ Err (Read counts.lines None None)) × IsWrittenUnlessFailed errors summed (summary_text counts)
+ClosesCounted errors summed counts (Err run.TooManyLines) result =
+    (result ≡ Err (fault_of_run run.TooManyLines counts.lines)) × IsWrittenUnlessFailed errors summed (summary_text counts)
+ClosesCounted errors summed counts (Err fault) result = (result ≡ Err (fault_of_run fault 0)) × (summed ≡ errors)
 
 -- what a refused state is of, which no other end has
 abbrev pub IsOfEnd : List ℕ → Options → Option (List ℕ) → Result Part PartFault → Told → Type 0
@@ -31,7 +40,7 @@ IsOfEnd id o handed ended of = of ≡ Ok None
 
 -- What follows the run of a part. After a failed read its state is kept, or can't be, and its counts are summed up; at
 -- the limit of lines they are summed up alone; after another fault nothing follows.
-abbrev pub ClosesPart : Told → StoreView → StoreView → Place → Place → Result Part PartFault → Result CommandOutcome Fault → Type 0
+abbrev pub ClosesPart : Told → StoreView → StoreView → Place → Place → Result Part PartFault → Result Counts Fault → Type 0
 ClosesPart of keeper kept errors summed (Ok part) result =
     Closes keeper kept errors summed part.state.items part.counts result
 ClosesPart of keeper kept errors summed (Err (part_faults.Stopped run.Read part)) result =

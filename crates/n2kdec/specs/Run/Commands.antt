@@ -7,7 +7,6 @@ use Rattle.n2k_table.specs.Table.{TableParts, faults, kind, table as table_of}
 use Rattle.n2k_table.specs.declared.fault.TableFault.{TableFault}
 use Rattle.n2k_table.specs.declared.fault.TableFault.TheVariants as table
 use Rattle.n2k_join.specs.declared.counts.Counts.{Counts}
-use Rattle.n2k_join.specs.declared.fault.StateFault.{StateFault}
 use Rattle.n2k_join.specs.declared.fault.StateFault.TheVariants as state_faults
 use Rattle.n2k_join.specs.Counts.{most_lines}
 use Rattle.n2k_join.specs.Messages.{counts}
@@ -30,13 +29,13 @@ use Rattle.n2k_run.specs.Writing.{AppendsPrefix}
 use Rattle.n2k_run.specs.declared.options.Options.{Options}
 use Rattle.n2k_run.specs.declared.fault.RunFault.{RunFault}
 use Rattle.n2k_encode_run.specs.Encodes.{Encodes}
-use Rattle.n2kdec.specs.Run.CommandOutcome.{ending_of, has_other_form}
-use Rattle.n2kdec.specs.Fault.{exit_status, fault_of_run}
+use Rattle.n2kdec.specs.Run.Difference.{Differs}
+use Rattle.n2kdec.specs.Fault.{fault_of_run}
 use Rattle.n2kdec.specs.declared.command_line.asked.Subcommand.{Subcommand}
 use Rattle.n2kdec.specs.declared.command_line.asked.Subcommand.TheVariants.{Plain, Decode, Frames, Encode}
-use Rattle.n2kdec.specs.declared.run.ending.CommandOutcome.{CommandOutcome}
 use Rattle.n2kdec.specs.declared.fault.Fault.{Fault}
 use Rattle.n2kdec.specs.declared.fault.Fault.TheVariants.{Table, State, Read, Write, Report, Memory, Lines, Save}
+use Rattle.n2kdec.specs.declared.fault.InputFile.TheVariants.{Log}
 use Rattle.n2kdec.specs.declared.save.keeper.SaveError.{SaveError}
 
 -- ---- what a command does
@@ -168,18 +167,17 @@ abbrev pub summed_up : Effect → List Entry → List ℕ
 summed_up c es = c.output.reports es ++ summary_text (c.counts es)
 
 -- The command came to its end: bytes came until the log had no more. Their lines have numbers that are counted, the
--- output has gained what is printed of them, the errors their reports and then their summary, the status says whether a
--- line was bad, it is known whether they have another form, no device failed, and the state after them is saved by calls
--- of which none failed. Where the log's bytes are known, these are all that it had.
-pub record IsDone (c : Effect) (before after : Devices) (ending : CommandOutcome) : Type 0 where
+-- output has gained what is printed of them, the errors their reports and then their summary, these are their counts, no
+-- device failed, and the state after them is saved by calls of which none failed. Where the log's bytes are known, these
+-- are all that it had.
+pub record IsDone (c : Effect) (before after : Devices) (counts : Counts) : Type 0 where
   pub came : List ℕ
   pub given : Consumes before.left after.left came
   pub at_end : IsAtEnd after.left
   pub numbered : AreNumbered c.output.counted (entries_for c came)
   pub text : Appends before.written after.written (c.output.texts (entries_for c came))
   pub report : Appends before.reported after.reported (summed_up c (entries_for c came))
-  pub status : ending.status ≡ exit_status (c.counts (entries_for c came))
-  pub form : ending.has_other_form ≡ has_other_form (c.counts (entries_for c came))
+  pub counted : counts ≡ c.counts (entries_for c came)
   pub none_failed : NoneFailed before after
   pub saved : IsSaved c before None (entries_for c came)
 
@@ -210,11 +208,12 @@ abbrev pub SumsUpPart : Bool → Place → Place → List ℕ → Type 0
 SumsUpPart true before after summary = IsWrittenUnlessFailed before after summary
 SumsUpPart false before after summary = after ≡ before
 
--- Bytes came of the log, and the lines among them whose line feed came are taken. The state after them is saved, or
--- can't be for this.
-pub record HasRead (c : Effect) (unkept : Option SaveError) (before after : Devices) : Type 0 where
+-- Bytes came of the log, and the lines among them whose line feed came are taken: so many are counted with them. The
+-- state after them is saved, or can't be for this.
+pub record HasRead (c : Effect) (lines : ℕ) (unkept : Option SaveError) (before after : Devices) : Type 0 where
   pub came : List ℕ
   pub given : Consumes before.left after.left came
+  pub counted : lines ≡ (c.counts (entries_for c (whole_lines came))).lines
   pub taken : HasTaken c before after (entries_for c (whole_lines came)) (SumsUpPart c.sums_up_a_part)
   pub saved : IsSaved c before unkept (entries_for c (whole_lines came))
 
@@ -241,15 +240,15 @@ LacksState c why before after = HasTakenAll c before after IsWrittenUnlessFailed
 
 -- What each fault leaves. Read: the lines that came are taken. Lines: as many as are counted are. Save: the log is
 -- taken. In these three the summary, if one is written, is cut off only if the errors failed. After Write and
--- Memory the run breaks off; after Report too, or all but the summary is done. So memory is not refused once something
--- is saved or summed up. No other fault stops a run.
+-- Memory, which is that of the log, the run breaks off; after Report too, or all but the summary is done. So memory is
+-- not refused once something is saved or summed up. No other fault stops a run.
 abbrev pub Leaves : Effect → Devices → Devices → Fault → Type 0
-Leaves c before after (Read lines why unkept) = HasRead c unkept before after
+Leaves c before after (Read lines why unkept) = HasRead c lines unkept before after
 Leaves c before after Lines = IsFull c before after
 Leaves c before after (Save why) = LacksState c why before after
 Leaves c before after (Write why) = BreaksOff c before after
 Leaves c before after Report = BreaksOff c before after ⊎ LacksSummary c before after
-Leaves c before after (Memory read) = BreaksOff c before after
+Leaves c before after (Memory read) = (read ≡ Some Log) × BreaksOff c before after
 Leaves c before after _ = ⊥
 
 -- no call of the log's device failed, and none of the output
@@ -280,7 +279,7 @@ pub record IsStopped (c : Effect) (before after : Devices) (fault : Fault) : Typ
   pub reports_first : IfSome before.left (ReportsFirst c.output before after)
 
 -- how a command ends whose table and state are taken
-abbrev pub Ends : Effect → Devices → Devices → Result CommandOutcome Fault → Type 0
+abbrev pub Ends : Effect → Devices → Devices → Result Counts Fault → Type 0
 Ends c before after result = MatchResult result (IsDone c before after) (IsStopped c before after)
 
 -- ---- what is refused before a command begins
@@ -291,34 +290,35 @@ IsRefusal (Table fault) = Unit {0}
 IsRefusal (State fault of) = Unit {0}
 IsRefusal _ = ⊥
 
--- A refused table has the fault, or memory was wanted; a refused state is handed in with a table that has none, and its
--- first fault is answered, or memory was wanted. Where another fault is, both are taken.
-abbrev pub IsJudged : List TableFault → Option (List ℕ) → Result StateOf StateFault → Fault → Type 0
-IsJudged found handed begun (Table fault) = fault ≢ table.Memory → Contains found fault
-IsJudged found handed begun (State fault of) =
-    (found ≡ []) × IsSome handed × (fault ≢ state_faults.Memory → begun ≡ Err fault)
-IsJudged found handed begun fault = (found ≡ []) × IsOk begun
+-- A refused table has the fault, or memory was wanted; a refused state is handed in with a table that has none, its
+-- first fault is answered, or memory was wanted, and what it is of. Where another fault is, both are taken.
+abbrev pub IsJudged : List TableFault → TableParts → Options → Option (List ℕ) → Fault → Type 0
+IsJudged found t o handed (Table fault) = fault ≢ table.Memory → Contains found fault
+IsJudged found t o handed (State fault of) =
+    (found ≡ []) × IsSome handed × (fault ≢ state_faults.Memory → begun t o handed ≡ Err fault)
+    × Differs t.id o handed fault of
+IsJudged found t o handed fault = (found ≡ []) × IsOk (begun t o handed)
 
--- The table is refused, by its fault or because memory is refused, and no device is touched; or it has no
--- fault, and the command is stopped by another.
-abbrev pub IsRefusedOrStopped : List TableFault → Effect → Devices → Devices → Fault → Type 0
-IsRefusedOrStopped found c before after (Table fault) = (fault ≢ table.Memory → Contains found fault) × (after ≡ before)
-IsRefusedOrStopped found c before after fault = (found ≡ []) × IsStopped c before after fault
+-- The table is refused, by its fault or because memory is refused, and no device is touched; or it has no fault, and
+-- this holds.
+abbrev pub ByTable : List TableFault → Devices → Devices → Result Counts Fault → Type 0 → Type 0
+ByTable found before after (Err (Table fault)) P = (fault ≢ table.Memory → Contains found fault) × (after ≡ before)
+ByTable found before after result P = (found ≡ []) × P
 
 -- how a command ends whose state is taken, if its table is
-abbrev pub EndsUnlessRefused : Effect → Devices → Devices → Result CommandOutcome Fault → Type 0
+abbrev pub EndsUnlessRefused : Effect → Devices → Devices → Result Counts Fault → Type 0
 EndsUnlessRefused c before after (Err (Table fault)) = Unit {0}
 EndsUnlessRefused c before after (Err (State fault of)) = fault ≡ state_faults.Memory
 EndsUnlessRefused c before after (Err fault) = IsStopped c before after fault
-EndsUnlessRefused c before after (Ok ending) = IsDone c before after ending
+EndsUnlessRefused c before after (Ok counts) = IsDone c before after counts
 
 -- ---- the headline of a log in parts
 
 -- After this prefix of a log and `more`, the whole is there: what is printed is exactly what the output and the reports of
--- both have after those of the prefix, then the summary of both; the status is that of both, and their state is saved,
+-- both have after those of the prefix, then the summary of both; the counts are those of both, and their state is saved,
 -- from which the log can go on.
 pub record PrintsRest (t : TableParts) (o : Options) (prefix more : List ℕ) (before after : Devices)
-    (keeper kept : StoreView) (status : ℕ) : Type 0 where
+    (keeper kept : StoreView) (counted : Counts) : Type 0 where
   pub text : List ℕ
   pub printed : Appends before.written after.written text
   pub output : out t o (prefix ++ more) ≡ out t o prefix ++ text
@@ -326,27 +326,27 @@ pub record PrintsRest (t : TableParts) (o : Options) (prefix more : List ℕ) (b
   pub reported : Appends before.reported after.reported
       (report ++ summary_text (counts o.window (kind t) (entries o.packing (prefix ++ more))))
   pub told : reports t o (prefix ++ more) ≡ reports t o prefix ++ report
-  pub answered : status ≡ exit_status (counts o.window (kind t) (entries o.packing (prefix ++ more)))
+  pub answered : counted ≡ counts o.window (kind t) (entries o.packing (prefix ++ more))
   pub saved : ReplacesAfter keeper kept (save t o (prefix ++ more)) before.reported report None
   pub reads_back : begun t o (Some (save t o (prefix ++ more))) ≡ Ok (state_after t o (prefix ++ more))
 
 -- ---- the run of `encode`
 
--- the summary of these counts is written, and their outcome is returned; or standard error failed in the summary
-abbrev pub SumsUp : Place → Place → Counts → Result CommandOutcome Fault → Type 0
+-- the summary of these counts is written, and they are returned; or standard error failed in the summary
+abbrev pub SumsUp : Place → Place → Counts → Result Counts Fault → Type 0
 SumsUp before after counts result = MatchResult result
-    (λ ending. IsWritten before after (summary_text counts) × (ending ≡ ending_of counts))
+    (λ summed. IsWritten before after (summary_text counts) × (summed ≡ counts))
     (λ fault. (fault ≡ Report) × IsCutOff before after (summary_text counts))
 
 -- after the run of a whole log: the summary follows, unless a fault ended the run
-abbrev pub ClosesWhole : Place → Place → Counts → Result (Unit {0}) RunFault → Result CommandOutcome Fault → Type 0
+abbrev pub ClosesWhole : Place → Place → Counts → Result (Unit {0}) RunFault → Result Counts Fault → Type 0
 ClosesWhole errors summed counts (Ok ended) result = SumsUp errors summed counts result
 ClosesWhole errors summed counts (Err fault) result =
     (result ≡ Err (fault_of_run fault counts.lines)) × (summed ≡ errors)
 
 -- `errors` and `counts` are standard error and the counts after the run of `encode`; then the summary is written, or the
 -- fault is returned.
-pub record EncodesLog (t : TableParts) (nearest : Bool) (before after : Devices) (result : Result CommandOutcome Fault)
+pub record EncodesLog (t : TableParts) (nearest : Bool) (before after : Devices) (result : Result Counts Fault)
     : Type 0 where
   pub errors : Place
   pub counts : Counts
@@ -355,27 +355,14 @@ pub record EncodesLog (t : TableParts) (nearest : Bool) (before after : Devices)
       ended
   pub closes : ClosesWhole errors (place after.reported after.failed_reports) counts ended result
 
--- The table is refused, for a fault in it or because memory is refused, and no device changes; or the table has no
--- fault, and the log is encoded.
-abbrev pub EncodesByTable : List TableFault → TableParts → Bool → Devices → Devices → Result CommandOutcome Fault → Type 0
-EncodesByTable found t nearest before after (Err (Table fault)) =
-    (fault ≢ table.Memory → Contains found fault) × (after ≡ before)
-EncodesByTable found t nearest before after (Err fault) = (found ≡ []) × EncodesLog t nearest before after (Err fault)
-EncodesByTable found t nearest before after (Ok ending) = (found ≡ []) × EncodesLog t nearest before after (Ok ending)
-
 -- ---- by the command
-
--- how a command ends that reads a table and has no state
-abbrev pub EndsByTable : List TableFault → Effect → Devices → Devices → Result CommandOutcome Fault → Type 0
-EndsByTable found c before after result =
-    MatchResult result (λ ending. (found ≡ []) × IsDone c before after ending) (IsRefusedOrStopped found c before after)
 
 -- How `decode` ends, given the bytes of a table, options, and a state to resume.
 pub record Decodes (bytes : List ℕ) (o : Options) (handed : Option (List ℕ)) (before after : Devices)
-    (keeper kept : StoreView) (result : Result CommandOutcome Fault) : Type 0 where
+    (keeper kept : StoreView) (result : Result Counts Fault) : Type 0 where
   -- The table and the state are accepted, or refused for their content or because memory is refused.
-  pub judged : MatchResult result (λ ending. (faults bytes ≡ []) × IsOk (begun (table_of bytes) o handed))
-      (IsJudged (faults bytes) handed (begun (table_of bytes) o handed))
+  pub judged : MatchResult result (λ counted. (faults bytes ≡ []) × IsOk (begun (table_of bytes) o handed))
+      (IsJudged (faults bytes) (table_of bytes) o handed)
   -- From any accepted state: the result of the steps of the log's entries, in order.
   pub steps : (s : StateOf) → begun (table_of bytes) o handed ≡ Ok s
       → EndsUnlessRefused (decode_from (table_of bytes) o s keeper kept) before after result
@@ -387,16 +374,17 @@ pub record Decodes (bytes : List ℕ) (o : Options) (handed : Option (List ℕ))
   -- The headline: if the state of this prefix of a log is resumed, exactly the rest of the whole log's output is printed,
   -- and the state of the whole is saved.
   pub headline : (prefix : List ℕ) → IsPrefix (table_of bytes) o prefix handed
-      → IfOk result (λ ending. IfSome before.left
-      (λ more. PrintsRest (table_of bytes) o prefix more before after keeper kept ending.status))
+      → IfOk result (λ counted. IfSome before.left
+      (λ more. PrintsRest (table_of bytes) o prefix more before after keeper kept counted))
 
 -- How a command ends, and what it saves. A command without a state leaves the saved one unchanged.
-abbrev pub Performs : Subcommand → List ℕ → Option (List ℕ) → Devices → Devices → StoreView → StoreView → Result CommandOutcome Fault → Type 0
+abbrev pub Performs : Subcommand → List ℕ → Option (List ℕ) → Devices → Devices → StoreView → StoreView → Result Counts Fault → Type 0
 Performs Plain bytes handed before after keeper kept result =
     (kept ≡ keeper) × Ends plain_effect before after result
 Performs (Decode o save) bytes handed before after keeper kept result =
     Decodes bytes o handed before after keeper kept result
 Performs (Frames interface) bytes handed before after keeper kept result =
-    (kept ≡ keeper) × EndsByTable (faults bytes) (frames_effect (table_of bytes) interface) before after result
+    (kept ≡ keeper)
+    × ByTable (faults bytes) before after result (Ends (frames_effect (table_of bytes) interface) before after result)
 Performs (Encode nearest) bytes handed before after keeper kept result =
-    (kept ≡ keeper) × EncodesByTable (faults bytes) (table_of bytes) nearest before after result
+    (kept ≡ keeper) × ByTable (faults bytes) before after result (EncodesLog (table_of bytes) nearest before after result)

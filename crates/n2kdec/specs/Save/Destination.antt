@@ -95,31 +95,24 @@ most_links = 40
 
 -- ---- what a state does to what is there
 
--- nothing, or a regular file
-abbrev pub is_file : Option Found → Bool
-is_file None = true
-is_file (Some found) = found.is_file
-
--- a folder
-abbrev pub is_folder : Option Found → Bool
-is_folder None = false
-is_folder (Some found) = found.is_folder
-
--- it has other names too
-abbrev pub is_shared : Option Found → Bool
-is_shared None = false
-is_shared (Some found) = nat_lt 1 found.links
+-- the kind of what is there, if that is not a folder; nothing will be a file of this name alone
+abbrev pub kind_at : Option Found → Result Kind Why
+kind_at None = Ok Alone
+kind_at (Some found) =
+    if found.is_folder then Err (OfKind IsADirectory)
+    else if found.is_file then Ok (if nat_lt 1 found.links then Shared else Alone) else Ok Special
 
 -- a special file, or a path of an open file, is named as it is
-abbrev pub placed_at : Text → Option Found → Option Text → Text × Kind
-placed_at name was None = (name, Special)
-placed_at name was (Some path) = (path, if is_shared was then Shared else Alone)
+abbrev pub placed_at : Text → Kind → Option Text → Text × Kind
+placed_at name kind None = (name, Special)
+placed_at name kind (Some path) = (path, kind)
+
+abbrev pub placed : Answers → Text → Kind → Result (Text × Kind) Why
+placed a name Special = Ok (name, Special)
+placed a name kind = link_target (suc most_links) a name >>= λ path. Ok (placed_at name kind path)
 
 unfoldable pub target_of : Answers → Text → Option Found → Result (Text × Kind) Why
-target_of a name was =
-    if is_folder was then Err (OfKind IsADirectory)
-    else if is_file was then (link_target (suc most_links) a name >>= λ path. Ok (placed_at name was path))
-    else Ok (name, Special)
+target_of a name was = kind_at was >>= placed a name
 
 -- those bits of a mode that say who may read, write and run a file
 abbrev pub permissions : Found → ℕ

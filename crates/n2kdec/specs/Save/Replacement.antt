@@ -1,6 +1,6 @@
 -- How a text comes to a name: it takes the place of another, so that at each moment one of the two is there, whole; or,
 -- if the folder does not allow that or the file has other names, it is written over the file itself.
-use Rattle.std.specs.Prelude.{◌≡◌, ◌⊎◌, ◌++◌, ℕ, Bool, true, false, List, [], ◌∷◌, Option, Some, None, IfSome}
+use Rattle.std.specs.Prelude.{◌≡◌, ◌⊎◌, ◌++◌, ℕ, true, false, List, [], ◌∷◌, Option, Some, None, IfSome}
 use Rattle.std.specs.Prelude.{IsErrAnd, OnOk, Result, Ok, Err, if◌then◌else◌, option_map}
 use Rattle.std.specs.Option.{is_none}
 use Rattle.std.specs.IoError.{error_kind}
@@ -24,8 +24,11 @@ abbrev pub Doing : Type 0 → Type 1
 Doing E = Result (Unit {0}) E → List (Act Name) → Type 0
 
 -- that was done, and no other call made
-abbrev pub Makes : {E : Type 0} → Destination → Acts → Acts → Doing E → Result (Unit {0}) E → Type 0
-Makes d before after Does result = (made : List (Act Name)) × (after ≡ after_acts d made before) × Does result made
+pub record Makes {E : Type 0} (d : Destination) (before after : Acts) (Does : Doing E) (result : Result (Unit {0}) E)
+    : Type 0 where
+  pub made : List (Act Name)
+  pub acts : after ≡ after_acts d made before
+  pub does : Does result made
 
 -- one call
 abbrev pub IsOne : Call Name → Doing Error

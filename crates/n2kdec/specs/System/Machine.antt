@@ -1,27 +1,26 @@
 -- What the program meets, and what comes of the words that were typed: the files that they name are read, their command
 -- is performed, its state is kept under the name that they have for it, and a fault is reported.
 use Rattle.std.specs.Prelude.{◌≡◌, ◌⊎◌, ◌<◌, ◌≤◌, ◌++◌, ℕ, Bool, List, [], ◌∷◌, Option, Some, None}
-use Rattle.std.specs.Prelude.{IfErr, IfSome, IsOkAnd, IsSome, MatchResult, Result, Ok, Err, length, true, false}
+use Rattle.std.specs.Prelude.{IfSome, IsOkAnd, IsSome, MatchResult, Result, Ok, Err, length, true, false}
+use Rattle.std.specs.Option.{unwrap_or}
 use Rattle.std.specs.declared.alloc.AllocError.{AllocError}
 use Rattle.std.specs.declared.io.Error.{Error}
 use Rattle.clap.specs.Words.{Text}
+use Rattle.n2k_join.specs.declared.counts.Counts.{Counts}
 use Rattle.n2k_run.specs.declared.device.Sink.{Ghosts as OfSink}
 use Rattle.n2k_run.specs.Device.{IsWhy}
 use Rattle.n2k_run.specs.Runs.{Devices, devices}
 use Rattle.n2kdec.specs.CommandLine.Asked.{IsAsked, save_name}
 use Rattle.n2kdec.specs.Run.Commands.{IsCutOff, IsWritten, IsWrittenUnlessFailed, SaveAttempt, Performs, Place, place, shelf}
-use Rattle.n2kdec.specs.Run.CommandOutcome.{hint}
-use Rattle.n2kdec.specs.Fault.{fault_line, longest_file, status_of, unopened, unread}
+use Rattle.n2kdec.specs.Run.Hint.{has_other_form, hint}
+use Rattle.n2kdec.specs.Fault.{exit_status, fault_line, longest_file, status_of, unopened, unread}
 use Rattle.n2kdec.specs.Fault.Sentence.{IsSentence, SystemWords}
 use Rattle.n2kdec.specs.Save.StateStore.{Admission}
 use Rattle.n2kdec.specs.System.Disk.{IsOfMemory}
-use Rattle.n2kdec.specs.Run.Told.{Tells}
 use Rattle.n2kdec.specs.declared.command_line.asked.ParsedArgs.{ParsedArgs}
 use Rattle.n2kdec.specs.declared.command_line.asked.ParsedArgs.TheVariants as to
 use Rattle.n2kdec.specs.declared.command_line.asked.Command.{Command}
-use Rattle.n2kdec.specs.declared.command_line.asked.Subcommand.{Subcommand}
 use Rattle.n2kdec.specs.declared.command_line.asked.Files.{Files}
-use Rattle.n2kdec.specs.declared.run.ending.CommandOutcome.{CommandOutcome}
 use Rattle.n2kdec.specs.declared.fault.Fault.{Fault}
 use Rattle.n2kdec.specs.declared.fault.Fault.TheVariants.{Words, TableSize, StateSize, Read, Memory, Save, Write}
 use Rattle.n2kdec.specs.declared.fault.InputFile.{InputFile}
@@ -95,11 +94,6 @@ IsOfFile w None read = read ≡ None
 IsOfFile w (Some name) None = ⊥
 IsOfFile w (Some name) (Some bytes) = IfSome (w.file name) (λ known. bytes ≡ known)
 
--- a command without a table has one of no bytes
-abbrev pub table_bytes : Option (List ℕ) → List ℕ
-table_bytes None = []
-table_bytes (Some bytes) = bytes
-
 -- a file was opened and closed again, and no call of it failed
 abbrev pub IsTaken : Text → List FileCall → Type 0
 IsTaken name made = (reads : ℕ) × (made ≡ Opened (Some name) None ∷ Closed reads None ∷ [])
@@ -143,16 +137,9 @@ pub record LogAfter : Type 0 where
 abbrev pub with_log : Option (List ℕ) → ℕ → ℕ → OutputsView → Devices
 with_log left calls failed o = devices left calls failed o.output.text o.output.failed o.errors.text o.errors.failed
 
--- The command is performed by these bytes of a table and of a state, over a log with these bytes.
-pub record IsPerformedOver (task : Subcommand) (table : List ℕ) (handed left : Option (List ℕ)) (log : LogAfter)
-    (before after : OutputsView) (result : Result CommandOutcome Fault) : Type 0 where
-  pub performs : Performs task table handed (with_log left 0 0 before) (with_log log.left log.calls log.failed after)
-      (shelf (save_name task) before.kept) (shelf (save_name task) after.kept) result
-  pub told : IfErr result (Tells task table handed left log.left)
-
 -- A command's result, where the fault of its log has why the last read of that failed, and the fault of its output why
 -- the last write did.
-abbrev pub explained : Option Error → Option Error → Result CommandOutcome Fault → Result CommandOutcome Fault
+abbrev pub explained : Option Error → Option Error → Result Counts Fault → Result Counts Fault
 explained unread unwritten (Err (Read lines why unkept)) = Err (Read lines unread unkept)
 explained unread unwritten (Err (Write why)) = Err (Write unwritten)
 explained unread unwritten answer = answer
@@ -165,7 +152,7 @@ IsAdmittedSo admits command answer =
 -- The command is performed by the bytes of its files, each of which was read and closed before the next was opened,
 -- over its log, and its state is kept under the name that it has for it, which was admitted. Of its log and of its
 -- output the fault has the error of the last call that failed.
-pub record IsPerformed (w : Environment) (command : Command) (before after : OutputsView) (result : Result CommandOutcome Fault)
+pub record IsPerformed (w : Environment) (command : Command) (before after : OutputsView) (result : Result Counts Fault)
     : Type 0 where
   pub admitted : IsAdmittedSo before.admits command (Ok tt)
   pub table : Option (List ℕ)
@@ -182,9 +169,10 @@ pub record IsPerformed (w : Environment) (command : Command) (before after : Out
   pub is_why_unwritten : IsWhy after.output.failed after.unwritten
   pub calls : Makes (of_table ++ of_state ++ Opened command.files.log None ∷ Closed log.calls why ∷ []) before.calls
       after.calls
-  pub ended : Result CommandOutcome Fault
-  pub over : IsPerformedOver command.task (table_bytes table) handed (bytes_named w command.files.log) log before after
-      ended
+  pub ended : Result Counts Fault
+  pub over : Performs command.task (unwrap_or table []) handed (with_log (bytes_named w command.files.log) 0 0 before)
+      (with_log log.left log.calls log.failed after) (shelf (save_name command.task) before.kept)
+      (shelf (save_name command.task) after.kept) ended
   pub told : result ≡ explained why after.unwritten ended
 
 -- The state may not be kept under the name that the command has for it, for this, and all is as it was.
@@ -222,8 +210,8 @@ pub record IsNotBegun (w : Environment) (command : Command) (before after : Outp
   pub else_same : after ≡ record before { calls = after.calls }
 
 -- it is performed; or not begun; or its state is not admitted
-abbrev pub RunsCommand : Environment → Command → OutputsView → OutputsView → Result CommandOutcome Fault → Type 0
-RunsCommand w command before after (Ok ending) = IsPerformed w command before after (Ok ending)
+abbrev pub RunsCommand : Environment → Command → OutputsView → OutputsView → Result Counts Fault → Type 0
+RunsCommand w command before after (Ok counts) = IsPerformed w command before after (Ok counts)
 RunsCommand w command before after (Err fault) =
     IsPerformed w command before after (Err fault)
     ⊎ IsNotBegun w command before after fault
@@ -231,18 +219,18 @@ RunsCommand w command before after (Err fault) =
 
 -- ---- from the words that were typed to the status
 
--- what comes of a text that is printed, which is of no log
-abbrev pub ending_of_text : CommandOutcome
-ending_of_text = record { status = 0; has_other_form = false }
+-- what is counted of a text that is printed, which is of no log
+abbrev pub no_lines : Counts
+no_lines = record { lines = 0; messages = 0; bad = 0; unknown = 0; broken = 0; held = 0 }
 
 -- the text of the help or of the version is printed, or can't be for this
-abbrev pub Shows : Text → Place → Place → Option Error → Result CommandOutcome Fault → Type 0
+abbrev pub Shows : Text → Place → Place → Option Error → Result Counts Fault → Type 0
 Shows text before after why result = MatchResult result
-    (λ ending. (ending ≡ ending_of_text) × IsWritten before after text)
+    (λ counts. (counts ≡ no_lines) × IsWritten before after text)
     (λ fault. (fault ≡ Write why) × IsWhy after.failed why × IsCutOff before after text)
 
 -- What is asked for is done. Where that is refused, as an interface that is none is, all is as it was.
-abbrev pub DoesAsked : Environment → ParsedArgs → OutputsView → OutputsView → Result CommandOutcome Fault → Type 0
+abbrev pub DoesAsked : Environment → ParsedArgs → OutputsView → OutputsView → Result Counts Fault → Type 0
 DoesAsked w (to.Help text) before after result =
     Shows text before.output after.output after.unwritten result
     × (after ≡ record before { output = after.output; unwritten = after.unwritten })
@@ -296,26 +284,21 @@ Hints w true before after = (is_terminal : Bool) × IsTerminal w is_terminal × 
 Hints w false before after = after ≡ before
 
 -- the status of a result, and what is said of it; memory may be refused for what is said of a fault alone
-abbrev pub Concludes : Environment → SystemWords → ParsedArgs → Result CommandOutcome Fault → OutputsView → OutputsView → ℕ
+abbrev pub Concludes : Environment → SystemWords → ParsedArgs → Result Counts Fault → OutputsView → OutputsView → ℕ
     → Result (Unit {0}) AllocError → Type 0
-Concludes w words request (Ok ending) before after status said =
-    (status ≡ ending.status) × (said ≡ Ok tt) × Hints w ending.has_other_form before.errors after.errors
+Concludes w words request (Ok counts) before after status said =
+    (status ≡ exit_status counts) × (said ≡ Ok tt) × Hints w (has_other_form counts) before.errors after.errors
     × (after ≡ record before { errors = after.errors })
 Concludes w words request (Err fault) before after status said =
     (status ≡ status_of fault) × ReportsFault w words request fault said before.errors after.errors
     × (after ≡ record before { errors = after.errors })
 
--- what is asked for is done, and the status is that of it
-pub record RunsRequest (w : Environment) (words : SystemWords) (request : ParsedArgs) (before after : OutputsView) (status : ℕ)
-    (said : Result (Unit {0}) AllocError) : Type 0 where
-  pub result : Result CommandOutcome Fault
-  pub done : OutputsView
-  pub does : DoesAsked w request before done result
-  pub concludes : Concludes w words request result done after status said
-
--- The program: what was typed is done.
+-- The program: what was typed is done, and the status is that of it.
 pub record RunsTyped (w : Environment) (words : SystemWords) (before after : OutputsView) (status : ℕ)
     (said : Result (Unit {0}) AllocError) : Type 0 where
   pub request : ParsedArgs
   pub asks : AsksFor w request
-  pub runs : RunsRequest w words request before after status said
+  pub result : Result Counts Fault
+  pub done : OutputsView
+  pub does : DoesAsked w request before done result
+  pub concludes : Concludes w words request result done after status said

@@ -1,10 +1,9 @@
 //! The command line of the program, as it is defined for `clap`.
 ghost use Rattle.std.specs.Prelude.{◌≡◌, IfOk, false};
-ghost use Rattle.clap.specs.Words.{app_of, rule_of, with_rule};
+ghost use Rattle.clap.specs.Words.{app_of, rule_of};
 ghost use Rattle.clap.specs.declared.builder.command.Command.TheViews.{out-Command as fields_of};
-ghost use Rattle.n2kdec.specs.CommandLine.Usage.{decode_app, empty_rule, encode_app, flag_rule, frames_app, in_order_rule, log_rule};
-ghost use Rattle.n2kdec.specs.CommandLine.Usage.{option_rule, plain_app, program_app, program_top, resume_rule, save_rule};
-ghost use Rattle.n2kdec.specs.CommandLine.Usage.{table_rule, whole_rule, window_rule};
+ghost use Rattle.n2kdec.specs.CommandLine.Usage.{decode_app, encode_app, file_rules, flag_rule, flag_rules, frames_app, log_rule};
+ghost use Rattle.n2kdec.specs.CommandLine.Usage.{option_rule, plain_app, program_app, program_top, table_rule, window_rules, with_rules};
 
 use clap::{Arg, ArgAction, Command};
 use std::alloc::{AllocError, Global};
@@ -72,8 +71,7 @@ fn plain_command<'a>(alloc: Global) -> Result<Command<'a>, AllocError>
 /// A command with its table, and the files of the states before its log and after it.
 fn with_files<'a>(alloc: Global, command: Command<'a>) -> Result<Command<'a>, AllocError>
     requires { (fields_of command).has_globals ≡ false }
-    ensures app { IfOk result (λ added. app_of added
-        ≡ with_rule (with_rule (with_rule (app_of command.entry) table_rule) resume_rule) save_rule) }
+    ensures app { IfOk result (λ added. app_of added ≡ with_rules (app_of command.entry) file_rules) }
     ensures own { IfOk result (λ added. (fields_of added).has_globals ≡ false) }
 {
     let resume = "Continue from the state in this file";
@@ -87,8 +85,7 @@ fn with_files<'a>(alloc: Global, command: Command<'a>) -> Result<Command<'a>, Al
 /// A command with the words that say what ends a group of frames.
 fn with_window<'a>(alloc: Global, command: Command<'a>) -> Result<Command<'a>, AllocError>
     requires { (fields_of command).has_globals ≡ false }
-    ensures app { IfOk result (λ added. app_of added
-        ≡ with_rule (with_rule (app_of command.entry) window_rule) in_order_rule) }
+    ensures app { IfOk result (λ added. app_of added ≡ with_rules (app_of command.entry) window_rules) }
     ensures own { IfOk result (λ added. (fields_of added).has_globals ≡ false) }
 {
     let window =
@@ -103,8 +100,7 @@ fn with_window<'a>(alloc: Global, command: Command<'a>) -> Result<Command<'a>, A
 /// A command with the flags that say how lines are read and printed.
 fn with_flags<'a>(alloc: Global, command: Command<'a>) -> Result<Command<'a>, AllocError>
     requires { (fields_of command).has_globals ≡ false }
-    ensures app { IfOk result (λ added. app_of added
-        ≡ with_rule (with_rule (app_of command.entry) empty_rule) whole_rule) }
+    ensures app { IfOk result (λ added. app_of added ≡ with_rules (app_of command.entry) flag_rules) }
     ensures own { IfOk result (λ added. (fields_of added).has_globals ≡ false) }
 {
     command

@@ -1,9 +1,7 @@
 //! What is said of a fault on a terminal, in one line: the file or the stream that it is of, what is wrong, what to do.
-ghost use Rattle.std.specs.Prelude.{◌≡◌, ◌++◌, IfOk, OnOk, decimal, option_map};
-ghost use Rattle.n2kdec.specs.Fault.Sentence.{AreWords, IsLine, IsNextLine, IsSentence, cause_text, error_of, line_of};
-ghost use Rattle.n2kdec.specs.Fault.Sentence.{lines_text, named, unkept_of};
-ghost use Rattle.n2kdec.specs.Fault.Sentence.{some_lines_text, subject_of, table_of, tables_text, told_of};
-ghost use Rattle.n2kdec.specs.Fault.Sentence.{windows_text};
+ghost use Rattle.std.specs.Prelude.{◌≡◌, ◌++◌, IfOk, OnOk, option_map};
+ghost use Rattle.n2kdec.specs.Fault.Sentence.{AreWords, IsLine, IsSentence, cause_text, error_of, line_of, lines_text, named};
+ghost use Rattle.n2kdec.specs.Fault.Sentence.{subject_of, table_of, tables_text, told_of, windows_text};
 
 use crate::command_line::asked::{Command, Subcommand};
 use crate::command_line::words::Word;
@@ -41,14 +39,6 @@ fn words_of<M: Machine>(alloc: Global, machine: &M, fault: Fault) -> Result<Word
     }
 }
 
-/// Appends a number.
-fn push_number(number: u64, text: &mut Vec<u8>) -> Result<(), AllocError>
-    ensures { OnOk result (text.new.items ≡ text.old.items ++ decimal number) }
-{
-    let mut buffer = itoa::Buffer::new();
-    text.extend_from_slice(buffer.format(number).as_bytes())
-}
-
 /// Appends the tables of a state that is another's: what it was saved under, and what the table of this name is.
 fn push_tables(saved: &[u8], name: &str, id: &[u8], text: &mut Vec<u8>) -> Result<(), AllocError>
     ensures { OnOk result (text.new.items ≡ text.old.items ++ tables_text saved.now name.now id.now) }
@@ -63,38 +53,36 @@ fn push_tables(saved: &[u8], name: &str, id: &[u8], text: &mut Vec<u8>) -> Resul
 }
 
 /// Appends the windows of a state that was saved under another.
-fn push_windows(saved: u64, window: u64, text: &mut Vec<u8>) -> Result<(), AllocError>
+fn push_windows(
+    alloc: Global,
+    saved: u64,
+    window: u64,
+    text: &mut Vec<u8>,
+) -> Result<(), AllocError>
     ensures { OnOk result (text.new.items ≡ text.old.items ++ windows_text saved window) }
 {
-    text.extend_from_slice(b" (")?;
-    push_number(saved, text)?;
-    text.extend_from_slice(b"; this run has ")?;
-    push_number(window, text)?;
-    text.extend_from_slice(b")")
-}
-
-/// Appends how many lines were read.
-fn push_some_lines(lines: u64, text: &mut Vec<u8>) -> Result<(), AllocError>
-    ensures { OnOk result (text.new.items ≡ text.old.items ++ some_lines_text lines) }
-{
-    text.extend_from_slice(b" (after line ")?;
-    push_number(lines, text)?;
-    text.extend_from_slice(b")")
+    let windows = format!(in alloc; " ({saved}; this run has {window})")?;
+    text.extend_from_slice(windows.as_bytes())
 }
 
 /// Appends how far a log was read, if anywhere.
-fn push_lines(lines: u64, text: &mut Vec<u8>) -> Result<(), AllocError>
+fn push_lines(alloc: Global, lines: u64, text: &mut Vec<u8>) -> Result<(), AllocError>
     ensures { OnOk result (text.new.items ≡ text.old.items ++ lines_text lines) }
 {
     if lines == 0 {
-        Ok(())
-    } else {
-        push_some_lines(lines, text)
+        return Ok(());
     }
+    let place = format!(in alloc; " (after line {lines})")?;
+    text.extend_from_slice(place.as_bytes())
 }
 
 /// Appends what is known of a fault: of a state that is another's what it is of, of a failed read how far it came.
-fn push_cause(command: Option<&Command>, fault: Fault, text: &mut Vec<u8>) -> Result<(), AllocError>
+fn push_cause(
+    alloc: Global,
+    command: Option<&Command>,
+    fault: Fault,
+    text: &mut Vec<u8>,
+) -> Result<(), AllocError>
     ensures { OnOk result (text.new.items ≡ text.old.items
         ++ cause_text (option_map (λ c. c.now) command.entry) fault) }
 {
@@ -103,9 +91,9 @@ fn push_cause(command: Option<&Command>, fault: Fault, text: &mut Vec<u8>) -> Re
             push_tables(&saved, table_of(command).unwrap_or(""), &id, text)
         }
         Fault::State(_, Ok(Some(StateMismatch::Windows(saved, window)))) => {
-            push_windows(saved, window, text)
+            push_windows(alloc, saved, window, text)
         }
-        Fault::Read(lines, ..) => push_lines(lines, text),
+        Fault::Read(lines, ..) => push_lines(alloc, lines, text),
         _ => Ok(()),
     }
 }
@@ -206,7 +194,7 @@ fn told_of(
     let mut text = named(subject).as_bytes().to_vec(alloc)?;
     text.extend_from_slice(b": ")?;
     text.extend_from_slice(words.as_bytes())?;
-    push_cause(command, fault, &mut text)?;
+    push_cause(alloc, command, fault, &mut text)?;
     text.extend_from_slice(advice.as_bytes())?;
     Ok(text)
 }
@@ -230,32 +218,8 @@ fn line_of<M: Machine>(
     escaped_line(alloc, &text)
 }
 
-/// The sentence for a state that was not saved after a failed read; nothing if it was saved.
-fn next_line<M: Machine>(
-    alloc: Global,
-    machine: &M,
-    command: Option<&Command>,
-    unkept: Option<SaveError>,
-) -> Result<Vec<u8>, AllocError>
-    ensures { IfOk result (λ text. IsNextLine M.words (option_map (λ c. c.now) command.entry) unkept text.items) }
-{
-    match unkept {
-        Some(why) => line_of(alloc, machine, command, Fault::Save(why), UNSURE),
-        None => Ok(Vec::new(alloc)),
-    }
-}
-
-/// Why the state after a failed read was not saved, if it was not.
-fn unkept_of(fault: Fault) -> Option<SaveError>
-    ensures { result ≡ unkept_of fault }
-{
-    match fault {
-        Fault::Read(_, _, unkept) => unkept,
-        _ => None,
-    }
-}
-
-/// What is said of a fault of a command, or of none, in whole lines in which control characters are escaped.
+/// What is said of a fault of a command, or of none, in whole lines in which control characters are escaped. If the state
+/// after a failed read was not saved, the sentence for that follows.
 pub fn fault_sentence<M: Machine>(
     alloc: Global,
     machine: &M,
@@ -265,7 +229,13 @@ pub fn fault_sentence<M: Machine>(
     ensures { IfOk result (λ text. IsSentence M.words (option_map (λ c. c.now) command.entry) fault text.items) }
 {
     let mut text = line_of(alloc, machine, command, fault, advice_of(fault))?;
-    let next = next_line(alloc, machine, command, unkept_of(fault))?;
+    let Fault::Read(_, _, unkept) = fault else {
+        return Ok(text);
+    };
+    let Some(why) = unkept else {
+        return Ok(text);
+    };
+    let next = line_of(alloc, machine, command, Fault::Save(why), UNSURE)?;
     text.extend_from_slice(&next)?;
     Ok(text)
 }

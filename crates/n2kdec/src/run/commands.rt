@@ -4,32 +4,30 @@ ghost use Rattle.std.specs.Result.{result_err};
 ghost use Rattle.n2k_run.specs.Runs.{seen};
 ghost use Rattle.n2kdec.specs.CommandLine.Asked.{save_name};
 ghost use Rattle.n2kdec.specs.Run.Commands.{ClosesWhole, IsRefusal, Performs, Replaces, SumsUp, place, shelf};
-ghost use Rattle.n2kdec.specs.Run.Told.{Tells};
-ghost use Rattle.n2kdec.specs.Inner.Closing.{ClosesPart, IsOfEnd};
+ghost use Rattle.n2kdec.specs.Inner.Closing.{ClosesCounted, ClosesPart, IsOfEnd};
 
 use crate::command_line::asked::{Subcommand, name_of};
 use crate::command_line::words::Word;
 use crate::fault::{Fault, InputFile, fault_of_run};
 use crate::run::difference::{StateMismatch, difference_of};
-use crate::run::encode::encode_log;
-use crate::run::ending::{CommandOutcome, ending_of};
 use crate::save::keeper::{SaveError, StateStore};
 use crate::system::machine::OutputStreams;
+use n2k_encode_run::run_encode;
 use n2k_join::Counts;
 use n2k_run::{
-    Options, Part, PartFault, RunFault, Sink, Source, run_frames_counted, run_part,
+    Options, Part, PartFault, RunFault, Sink, Source, run_counted, run_frames_counted, run_part,
     run_plain_counted, write_summary,
 };
 use n2k_table::Table;
 use std::alloc::{AllocError, Global};
 
-/// Writes the summary of what a run has counted, and returns what these counts come to.
-fn sum_up<E: Sink>(counts: &Counts, errors: &mut E) -> Result<CommandOutcome, Fault>
+/// Writes the summary of what a run has counted, and returns that.
+fn sum_up<E: Sink>(counts: &Counts, errors: &mut E) -> Result<Counts, Fault>
     ensures { SumsUp (place (E.contents errors.old) (E.failed_calls errors.old))
         (place (E.contents errors.new) (E.failed_calls errors.new)) counts.now result }
 {
     write_summary(counts, errors).map_err(|_| Fault::Report)?;
-    Ok(ending_of(counts))
+    Ok(*counts)
 }
 
 /// Keeps the state of a part, if there is a name for it.
@@ -49,11 +47,11 @@ fn keep<K: StateStore, E: Sink>(
 }
 
 /// What follows the run of a whole log, which counted so much.
-pub(crate) fn close_whole<E: Sink>(
+fn close_whole<E: Sink>(
     counts: &Counts,
     ended: Result<(), RunFault>,
     errors: &mut E,
-) -> Result<CommandOutcome, Fault>
+) -> Result<Counts, Fault>
     ensures closes { ClosesWhole (place (E.contents errors.old) (E.failed_calls errors.old))
         (place (E.contents errors.new) (E.failed_calls errors.new)) counts.now ended result }
     ensures begun { IfErr result (λ fault. IsRefusal fault → ⊥) }
@@ -90,7 +88,7 @@ fn close_part<K: StateStore, E: Sink>(
     of: Result<Option<StateMismatch>, AllocError>,
     keeper: &mut K,
     errors: &mut E,
-) -> Result<CommandOutcome, Fault>
+) -> Result<Counts, Fault>
     ensures closes { ClosesPart of (shelf save.now (K.kept keeper.old)) (shelf save.now (K.kept keeper.new))
         (place (E.contents errors.old) (E.failed_calls errors.old))
         (place (E.contents errors.new) (E.failed_calls errors.new)) ended result }
@@ -118,11 +116,35 @@ fn close_part<K: StateStore, E: Sink>(
     }
 }
 
+/// What follows a run from the first line of a log whose state is not to be kept: as after a part, but without a state.
+fn close_counted<E: Sink>(
+    counts: &Counts,
+    ended: Result<(), RunFault>,
+    errors: &mut E,
+) -> Result<Counts, Fault>
+    ensures closes { ClosesCounted (place (E.contents errors.old) (E.failed_calls errors.old))
+        (place (E.contents errors.new) (E.failed_calls errors.new)) counts.now ended result }
+    ensures begun { IfErr result (λ fault. IsRefusal fault → ⊥) }
+{
+    match ended {
+        Ok(()) => sum_up(counts, errors),
+        Err(RunFault::Read) => {
+            let _ = sum_up(counts, errors);
+            Err(Fault::Read(counts.lines, None, None))
+        }
+        Err(RunFault::TooManyLines) => {
+            let _ = sum_up(counts, errors);
+            Err(fault_of_run(RunFault::TooManyLines, counts.lines))
+        }
+        Err(fault) => Err(fault_of_run(fault, 0)),
+    }
+}
+
 /// Runs a command, from the bytes of a table and of a state as far as it has them. The output gets the texts: plain
 /// lines, JSON lines, or the lines of frames. The errors get the reports of bad lines and of broken groups, and then
-/// the summary. Returns the status, which is 0, or 1 if a line was bad, and whether the log has another form.
+/// the summary. Returns what was counted.
 ///
-/// `decode` goes on from the state, or begins a log (`None`), and its status is that of all lines so far. The state
+/// `decode` goes on from the state, or begins a log (`None`), and its counts are those of all lines so far. The state
 /// after it goes to the keeper, and the summary is written after that, also if the state can't be saved. After a
 /// failed read what was read is saved and summed up; at the limit of lines it is summed up alone. After any other
 /// fault, and after each fault of the other commands, there is no summary, except a part of it if the errors
@@ -136,14 +158,12 @@ pub fn run_command<R: Source, W: Sink, E: Sink, K: StateStore>(
     state: Option<&[u8]>,
     log: &mut R,
     outlets: &mut OutputStreams<W, E, K>,
-) -> Result<CommandOutcome, Fault>
+) -> Result<Counts, Fault>
     ensures performs { let before = seen R.Source W.Sink E.Sink log.old outlets.old.output outlets.old.errors in
         let after = seen R.Source W.Sink E.Sink log.new outlets.new.output outlets.new.errors in
         Performs task.now table.now (option_map (λ bytes. bytes.now) state.entry) before after
         (shelf (save_name task.now) (K.kept outlets.old.keeper))
         (shelf (save_name task.now) (K.kept outlets.new.keeper)) result }
-    ensures told { IfErr result (Tells task.now table.now (option_map (λ bytes. bytes.now) state.entry)
-        (R.remaining log.old) (R.remaining log.new)) }
     ensures untouched { IfErr result (λ fault. IsRefusal fault
         → (log.new ≡ log.old) × (outlets.new.output ≡ outlets.old.output) × (outlets.new.errors ≡ outlets.old.errors)
         × (outlets.new.keeper ≡ outlets.old.keeper)) }
@@ -156,6 +176,10 @@ pub fn run_command<R: Source, W: Sink, E: Sink, K: StateStore>(
             close_whole(&counts, ended, errors)
         }
         Subcommand::Decode { options, save } => match Table::read(alloc, table) {
+            Ok(table) if save.is_none() && state.is_none() => {
+                let ended = run_counted(alloc, &table, *options, &mut counts, log, output, errors);
+                close_counted(&counts, ended, errors)
+            }
             Ok(table) => {
                 let ended = run_part(alloc, &table, state, *options, log, output, errors);
                 let of = of_end(alloc, &table, options, state, &ended);
@@ -179,6 +203,12 @@ pub fn run_command<R: Source, W: Sink, E: Sink, K: StateStore>(
             }
             Err(fault) => Err(Fault::Table(fault)),
         },
-        Subcommand::Encode { nearest } => encode_log(alloc, *nearest, table, log, output, errors),
+        Subcommand::Encode { nearest } => match Table::read(alloc, table) {
+            Ok(table) => {
+                let ended = run_encode(alloc, &table, *nearest, &mut counts, log, output, errors);
+                close_whole(&counts, ended, errors)
+            }
+            Err(fault) => Err(Fault::Table(fault)),
+        },
     }
 }

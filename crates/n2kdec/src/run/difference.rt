@@ -3,7 +3,7 @@ ghost use Rattle.std.specs.Prelude.{◌≡◌, IfOk, option_map};
 ghost use Rattle.hex.specs.Hex.{encode_lower};
 ghost use Rattle.serde_json.specs.View.{view};
 ghost use Rattle.n2k_join.specs.Resumed.{parsed};
-ghost use Rattle.n2kdec.specs.Run.Told.{Differs, digits_in, number_in, tables, tables_in, text_in, windows, windows_in};
+ghost use Rattle.n2kdec.specs.Run.Difference.{Differs, digits_in, tables_in, text_in, windows_in};
 
 use n2k_join::StateFault;
 use n2k_run::Options;
@@ -38,13 +38,6 @@ fn text_in<'a>(name: &str, value: &'a Value) -> Option<&'a str>
     value.get(name)?.as_str()
 }
 
-/// The whole number of a member.
-fn number_in(name: &str, value: &Value) -> Option<u64>
-    ensures { result ≡ number_in name.now (view value.now) }
-{
-    value.get(name)?.as_u64()
-}
-
 /// The digits of a SHA-256, if they are as many.
 fn digits_of(text: &str) -> Option<[u8; 64]>
     ensures { option_map (λ digits. digits) result ≡ digits_in text.now }
@@ -57,53 +50,22 @@ fn digits_of(text: &str) -> Option<[u8; 64]>
     Some(digits)
 }
 
-/// The digits of a table's SHA-256.
-fn id_of(table: &Table) -> [u8; 64]
-    ensures { result ≡ encode_lower table.now.id }
-{
-    let mut digits = [0; 64];
-    let _ = hex::encode_to_slice(table.id(), &mut digits);
-    digits
-}
-
 /// The table that the state of this value was saved under, and the table.
 fn tables_in(table: &Table, value: &Value) -> Option<StateMismatch>
     ensures { result ≡ tables_in table.now.id (view value.now) }
 {
     let saved = digits_of(text_in("table", value)?)?;
-    Some(StateMismatch::Tables(saved, id_of(table)))
+    let mut id = [0; 64];
+    let _ = hex::encode_to_slice(table.id(), &mut id);
+    Some(StateMismatch::Tables(saved, id))
 }
 
 /// The window that the state of this value was saved under, and this one.
 fn windows_in(options: &Options, value: &Value) -> Option<StateMismatch>
     ensures { result ≡ windows_in options.now.window.lines (view value.now) }
 {
-    let saved = number_in("window", value)?;
+    let saved = value.get("window")?.as_u64()?;
     Some(StateMismatch::Windows(saved, u64::from(options.window.get())))
-}
-
-/// The table that a state was saved under, and the table.
-fn tables(alloc: Global, table: &Table, state: &[u8]) -> Result<Option<StateMismatch>, AllocError>
-    ensures { IfOk result (λ is. is ≡ tables table.now.id state.now) }
-{
-    match parsed(alloc, state)? {
-        Some(value) => Ok(tables_in(table, &value)),
-        None => Ok(None),
-    }
-}
-
-/// The window that a state was saved under, and this one.
-fn windows(
-    alloc: Global,
-    options: &Options,
-    state: &[u8],
-) -> Result<Option<StateMismatch>, AllocError>
-    ensures { IfOk result (λ is. is ≡ windows options.now.window.lines state.now) }
-{
-    match parsed(alloc, state)? {
-        Some(value) => Ok(windows_in(options, &value)),
-        None => Ok(None),
-    }
 }
 
 /// What a state that is refused by this fault was saved under, and what this run has. None if it is refused for another
@@ -120,9 +82,14 @@ pub fn difference_of(
     let Some(state) = state else {
         return Ok(None);
     };
+    if !matches!(fault, StateFault::TableDiffers | StateFault::WindowDiffers) {
+        return Ok(None);
+    }
+    let Some(value) = parsed(alloc, state)? else {
+        return Ok(None);
+    };
     match fault {
-        StateFault::TableDiffers => tables(alloc, table, state),
-        StateFault::WindowDiffers => windows(alloc, options, state),
-        _ => Ok(None),
+        StateFault::TableDiffers => Ok(tables_in(table, &value)),
+        _ => Ok(windows_in(options, &value)),
     }
 }

@@ -1,11 +1,12 @@
 //! From the words that were typed to the status that the program ends with, over any machine.
 ghost use Rattle.std.specs.Prelude.{◌≡◌, List, IfOk, IfSome, IsErr, IsSome, Ok, Some, map, option_map, string_bytes};
-ghost use Rattle.std.specs.Process.{exit_status};
+ghost use Rattle.std.specs.Process.{exit_status as status_of_code};
+ghost use Rattle.n2kdec.specs.Run.Hint.{has_other_form};
 ghost use Rattle.clap.specs.Walk.{texts};
 ghost use Rattle.n2kdec.specs.CommandLine.Asked.{save_name};
 ghost use Rattle.n2kdec.specs.Run.Commands.{place};
 ghost use Rattle.n2kdec.specs.System.Machine.{AsksFor, DoesAsked, Hints, IsAdmittedSo, IsOfFile, Makes};
-ghost use Rattle.n2kdec.specs.System.Machine.{Opens, ReadsFile, RunsCommand, RunsRequest, RunsTyped, Shows};
+ghost use Rattle.n2kdec.specs.System.Machine.{Opens, ReadsFile, RunsCommand, RunsTyped, Shows};
 ghost use Rattle.n2kdec.specs.System.Machine.{bytes_named, explained, outside, too_large as too_large_of};
 ghost use Rattle.n2kdec.specs.declared.system.machine.FileCall.{FileCall};
 
@@ -13,11 +14,12 @@ use crate::command_line::asked::{Command, ParsedArgs, Subcommand};
 use crate::command_line::request;
 use crate::command_line::words::Word;
 use crate::fault::message::{write_fault, write_text};
-use crate::fault::{Fault, InputFile, status, unopened, unread};
+use crate::fault::{Fault, InputFile, exit_status, status, unopened, unread};
 use crate::run::commands::run_command;
-use crate::run::ending::{CommandOutcome, hint};
+use crate::run::hint::{has_other_form, hint};
 use crate::save::keeper::{SaveError, StateStore};
 use crate::system::machine::{Machine, OutputStreams};
+use n2k_join::Counts;
 use n2k_run::{BytesFault, Sink, read_bytes, write_all};
 use std::alloc::{AllocError, Global};
 use std::io;
@@ -101,10 +103,10 @@ fn open_log<M: Machine>(machine: &mut M, name: &Option<Word>) -> io::Result<M::F
 /// A command's result, where the fault of its log has why the last read of that failed, and the fault of its output why
 /// the last write did.
 fn explained(
-    answer: Result<CommandOutcome, Fault>,
+    answer: Result<Counts, Fault>,
     unread: Option<Error>,
     unwritten: Option<Error>,
-) -> Result<CommandOutcome, Fault>
+) -> Result<Counts, Fault>
     ensures { result ≡ explained unread unwritten answer }
 {
     match answer {
@@ -121,7 +123,7 @@ fn run_on_files<M: Machine, K: StateStore>(
     machine: &mut M,
     command: &Command,
     outlets: &mut OutputStreams<M::Output, M::Errors, K>,
-) -> Result<CommandOutcome, Fault>
+) -> Result<Counts, Fault>
     requires { IsAdmittedSo K.admits command.now (Ok tt) }
     ensures same { M.world machine.new ≡ M.world machine.old }
     ensures runs { RunsCommand (M.world machine.old) command.now
@@ -175,7 +177,7 @@ fn run_admitted<M: Machine, K: StateStore>(
     machine: &mut M,
     command: &Command,
     outlets: &mut OutputStreams<M::Output, M::Errors, K>,
-) -> Result<CommandOutcome, Fault>
+) -> Result<Counts, Fault>
     ensures same { M.world machine.new ≡ M.world machine.old }
     ensures runs { RunsCommand (M.world machine.old) command.now
         (outside M.Output.Sink M.Errors.Sink K.StateStore (M.calls machine.old) outlets.old)
@@ -188,19 +190,12 @@ fn run_admitted<M: Machine, K: StateStore>(
 }
 
 /// Prints the text of the help or of the version.
-fn show<M: Machine>(
-    machine: &M,
-    text: &Word,
-    output: &mut M::Output,
-) -> Result<CommandOutcome, Fault>
+fn show<M: Machine>(machine: &M, text: &Word, output: &mut M::Output) -> Result<Counts, Fault>
     ensures { Shows text.now (place (M.Output.contents output.old) (M.Output.failed_calls output.old))
         (place (M.Output.contents output.new) (M.Output.failed_calls output.new)) (M.Output.why output.new) result }
 {
     match write_all(output, text.as_str().as_bytes()) {
-        Ok(()) => Ok(CommandOutcome {
-            status: 0,
-            has_other_form: false,
-        }),
+        Ok(()) => Ok(Counts::NONE),
         Err(_) => Err(Fault::Write(machine.failure(output))),
     }
 }
@@ -211,7 +206,7 @@ fn do_request<M: Machine, K: StateStore>(
     machine: &mut M,
     request: &ParsedArgs,
     outlets: &mut OutputStreams<M::Output, M::Errors, K>,
-) -> Result<CommandOutcome, Fault>
+) -> Result<Counts, Fault>
     ensures same { M.world machine.new ≡ M.world machine.old }
     ensures does { DoesAsked (M.world machine.old) request.now
         (outside M.Output.Sink M.Errors.Sink K.StateStore (M.calls machine.old) outlets.old)
@@ -225,46 +220,20 @@ fn do_request<M: Machine, K: StateStore>(
 }
 
 /// Says on a terminal what to do with a log of another form, after a command has read all of it.
-fn say_hint<M: Machine, E: Sink>(machine: &M, ending: CommandOutcome, errors: &mut E)
-    ensures { Hints (M.world machine.now) ending.has_other_form
+fn say_hint<M: Machine, E: Sink>(machine: &M, counts: &Counts, errors: &mut E)
+    ensures { Hints (M.world machine.now) (has_other_form counts.now)
         (place (E.contents errors.old) (E.failed_calls errors.old))
         (place (E.contents errors.new) (E.failed_calls errors.new)) }
 {
-    if ending.has_other_form {
+    if has_other_form(counts) {
         if machine.is_terminal() {
             write_text(hint(), errors);
         }
     }
 }
 
-/// Does what is asked for, reports on it, and returns the exit status. An error
-/// beside it if memory for the sentence of a fault is refused.
-#[tactic(auto, using(crate::proofs::run::MachineLemmas::reported, crate::proofs::run::MachineLemmas::ended))]
-fn run_request<M: Machine, K: StateStore>(
-    alloc: Global,
-    machine: &mut M,
-    request: &ParsedArgs,
-    outlets: &mut OutputStreams<M::Output, M::Errors, K>,
-) -> (ExitCode, Result<(), AllocError>)
-    ensures { RunsRequest (M.world machine.old) M.words request.now
-        (outside M.Output.Sink M.Errors.Sink K.StateStore (M.calls machine.old) outlets.old)
-        (outside M.Output.Sink M.Errors.Sink K.StateStore (M.calls machine.new) outlets.new)
-        (exit_status result.0) result.1 }
-{
-    match do_request(alloc, machine, request, outlets) {
-        Ok(ending) => {
-            say_hint(machine, ending, &mut outlets.errors);
-            (ExitCode::from(ending.status), Ok(()))
-        }
-        Err(fault) => {
-            let said = write_fault(alloc, machine, request, fault, &mut outlets.errors);
-            (ExitCode::from(status(&fault)), said)
-        }
-    }
-}
-
-/// Does what was typed, and returns the exit status. An error beside it if memory for what is
-/// said of a fault is refused.
+/// Does what was typed, reports on it, and returns the exit status. An error beside it if memory for what is said of a
+/// fault is refused.
 pub fn run<M: Machine, K: StateStore>(
     alloc: Global,
     machine: &mut M,
@@ -273,8 +242,17 @@ pub fn run<M: Machine, K: StateStore>(
     ensures { RunsTyped (M.world machine.old) M.words
         (outside M.Output.Sink M.Errors.Sink K.StateStore (M.calls machine.old) outlets.old)
         (outside M.Output.Sink M.Errors.Sink K.StateStore (M.calls machine.new) outlets.new)
-        (exit_status result.0) result.1 }
+        (status_of_code result.0) result.1 }
 {
     let request = typed_request(alloc, machine);
-    run_request(alloc, machine, &request, outlets)
+    match do_request(alloc, machine, &request, outlets) {
+        Ok(counts) => {
+            say_hint(machine, &counts, &mut outlets.errors);
+            (ExitCode::from(exit_status(&counts)), Ok(()))
+        }
+        Err(fault) => {
+            let said = write_fault(alloc, machine, &request, fault, &mut outlets.errors);
+            (ExitCode::from(status(&fault)), said)
+        }
+    }
 }

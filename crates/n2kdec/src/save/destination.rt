@@ -3,8 +3,8 @@ ghost use Rattle.std.specs.Prelude.{◌≡◌, suc, IfSome, IfOk, string_bytes};
 ghost use Rattle.std.specs.declared.io.ErrorKind.TheVariants.{InvalidFilename as Nameless};
 ghost use Rattle.n2k_wire.specs.Steps.{or_cause};
 ghost use Rattle.n2kdec.specs.Save.Destination.{are_one, are_one_file, are_one_input, link_target, destination, feeds, folder_of};
-ghost use Rattle.n2kdec.specs.Save.Destination.{is_file, is_folder, is_missing, is_no_link};
-ghost use Rattle.n2kdec.specs.Save.Destination.{is_of_proc, is_open_file, is_shared, leads, linked, linked_path, new_path};
+ghost use Rattle.n2kdec.specs.Save.Destination.{is_missing, is_no_link, kind_at};
+ghost use Rattle.n2kdec.specs.Save.Destination.{is_of_proc, is_open_file, leads, linked, linked_path, new_path};
 ghost use Rattle.n2kdec.specs.Save.Destination.{if_there, target_of};
 ghost use Rattle.n2kdec.specs.System.Disk.{IsAnswer, IsAnswerUnlessMemory, OfKind};
 
@@ -155,33 +155,16 @@ fn look<D: Disk>(disk: &D, name: &str) -> io::Result<Option<Found>>
     }
 }
 
-/// Whether nothing is there, or a regular file.
-fn is_file(was: &Option<Found>) -> bool
-    ensures { result ≡ is_file was.now }
+/// The kind of what is at a name, over links; nothing will be a file of this name alone. An error if it is a folder.
+fn kind_at(was: &Option<Found>) -> io::Result<Kind>
+    ensures { IsAnswer (λ kind. kind) (kind_at was.now) result }
 {
     match was {
-        Some(found) => found.is_file,
-        None => true,
-    }
-}
-
-/// Whether a name is that of a folder.
-fn is_folder(was: &Option<Found>) -> bool
-    ensures { result ≡ is_folder was.now }
-{
-    match was {
-        Some(found) => found.is_folder,
-        None => false,
-    }
-}
-
-/// Whether it has other names too.
-fn is_shared(was: &Option<Found>) -> bool
-    ensures { result ≡ is_shared was.now }
-{
-    match was {
-        Some(found) => found.links > 1,
-        None => false,
+        None => Ok(Kind::Alone),
+        Some(found) if found.is_folder => Err(Error::from(ErrorKind::IsADirectory)),
+        Some(found) if !found.is_file => Ok(Kind::Special),
+        Some(found) if found.links > 1 => Ok(Kind::Shared),
+        Some(_) => Ok(Kind::Alone),
     }
 }
 
@@ -195,22 +178,13 @@ fn target_of<D: Disk>(
 ) -> io::Result<(Word, Kind)>
     ensures { IfSome (D.answers disk.now) (λ a. IsAnswerUnlessMemory (λ to. to) (target_of a name.now was.now) result) }
 {
-    if is_folder(was) {
-        return Err(Error::from(ErrorKind::IsADirectory));
+    match kind_at(was)? {
+        Kind::Special => Ok((Word::new(alloc, name)?, Kind::Special)),
+        kind => match link_target(alloc, disk, name, MOST_LINKS + 1)? {
+            Some(target) => Ok((target, kind)),
+            None => Ok((Word::new(alloc, name)?, Kind::Special)),
+        },
     }
-    if is_file(was)
-        && let Some(target) = link_target(alloc, disk, name, MOST_LINKS + 1)?
-    {
-        return Ok((
-            target,
-            if is_shared(was) {
-                Kind::Shared
-            } else {
-                Kind::Alone
-            },
-        ));
-    }
-    Ok((Word::new(alloc, name)?, Kind::Special))
 }
 
 /// Finds the destination of a state of this name.

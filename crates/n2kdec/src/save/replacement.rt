@@ -128,15 +128,6 @@ fn pour<D: Disk>(disk: &mut D, to: &Destination, mode: Option<u32>, text: &[u8])
     disk.sync()
 }
 
-/// Closes the open file, and returns the answer of the calls before.
-fn close<D: Disk>(disk: &mut D, answer: io::Result<()>) -> io::Result<()>
-    ensures acts { D.acts disk.new ≡ noted closed (D.acts disk.old) }
-    ensures same { result ≡ answer }
-{
-    disk.close();
-    answer
-}
-
 /// The same as `pour`, and closes the file, also after an error.
 fn pour_and_close<D: Disk>(
     disk: &mut D,
@@ -147,21 +138,18 @@ fn pour_and_close<D: Disk>(
     ensures { Makes to.now (D.acts disk.old) (D.acts disk.new) (Closes (WritesContent mode text.now)) result }
 {
     let poured = pour(disk, to, mode, text);
-    close(disk, poured)
+    disk.close();
+    poured
 }
 
-/// Makes the new file and fills it, with the permissions of the file in whose place it comes.
-fn fill<D: Disk>(disk: &mut D, to: &Destination, text: &[u8]) -> Result<(), ReplaceError>
-    ensures { Makes to.now (D.acts disk.old) (D.acts disk.new) (IsFilled to.now text.now) result }
+/// Makes the new file and fills it, with the permissions of the file in whose place it comes, and then gives it the name,
+/// if that is its file's one name. That of a file with other names, which would keep the old text, only shows that there
+/// is room.
+fn place<D: Disk>(disk: &mut D, to: &Destination, text: &[u8]) -> Result<(), ReplaceError>
+    ensures { Makes to.now (D.acts disk.old) (D.acts disk.new) (RenamesIntoPlace to.now text.now) result }
 {
     make(disk, to)?;
-    failed(pour_and_close(disk, to, to.mode, text))
-}
-
-/// Gives the new file the name, if that is its file's one name.
-fn name<D: Disk>(disk: &mut D, to: &Destination) -> Result<(), ReplaceError>
-    ensures { Makes to.now (D.acts disk.old) (D.acts disk.new) (IsNamed to.now.kind) result }
-{
+    failed(pour_and_close(disk, to, to.mode, text))?;
     match to.kind {
         Kind::Alone => {
             let new = to.temp.as_str();
@@ -171,28 +159,12 @@ fn name<D: Disk>(disk: &mut D, to: &Destination) -> Result<(), ReplaceError>
     }
 }
 
-/// Fills a new file and gives it the name, once it is synced. That of a file with other names, which would keep the old
-/// text, only shows that there is room.
-fn place<D: Disk>(disk: &mut D, to: &Destination, text: &[u8]) -> Result<(), ReplaceError>
-    ensures { Makes to.now (D.acts disk.old) (D.acts disk.new) (RenamesIntoPlace to.now text.now) result }
-{
-    fill(disk, to, text)?;
-    name(disk, to)
-}
-
-/// Writes the whole text over what the file of the name has.
-fn write_whole<D: Disk>(disk: &mut D, to: &Destination, text: &[u8]) -> io::Result<()>
-    ensures { Makes to.now (D.acts disk.old) (D.acts disk.new) (IsWritten to.now text.now) result }
-{
-    empty(disk, to)?;
-    pour_and_close(disk, to, None, text)
-}
-
-/// The same, and takes the new file away once that is done.
+/// Writes the whole text over what the file of the name has, and takes the new file away once that is done.
 fn write_over<D: Disk>(disk: &mut D, to: &Destination, text: &[u8]) -> io::Result<()>
     ensures { Makes to.now (D.acts disk.old) (D.acts disk.new) (Overwrites to.now text.now) result }
 {
-    write_whole(disk, to, text)?;
+    empty(disk, to)?;
+    pour_and_close(disk, to, None, text)?;
     let _ = remove_new(disk, to);
     Ok(())
 }
@@ -216,20 +188,14 @@ pub fn replace<D: Disk>(disk: &mut D, to: &Destination, text: &[u8]) -> io::Resu
     }
 }
 
-/// Writes a text to the open file and closes it, also after an error.
-fn write_and_close<D: Disk>(disk: &mut D, to: &Destination, text: &[u8]) -> io::Result<()>
-    ensures { Makes to.now (D.acts disk.old) (D.acts disk.new) (Closes (IsOne (write text.now))) result }
-{
-    let written = disk.write(text);
-    close(disk, written)
-}
-
-/// Appends a text to what is at the name.
+/// Appends a text to what is at the name, and closes it, also after an error.
 fn append<D: Disk>(disk: &mut D, to: &Destination, text: &[u8]) -> io::Result<()>
     ensures { Makes to.now (D.acts disk.old) (D.acts disk.new) (IsAppended text.now) result }
 {
     disk.open(to.target.as_str(), OpenOptions::new().append(true))?;
-    write_and_close(disk, to, text)
+    let written = disk.write(text);
+    disk.close();
+    written
 }
 
 /// Saves a text at its destination: a special file, or a path of an open file, gets it appended.

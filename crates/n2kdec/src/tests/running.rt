@@ -2,7 +2,6 @@ use crate::command_line::asked::ParsedArgs;
 use crate::command_line::request;
 use crate::fault::{Fault, exit_status, fault_text, status};
 use crate::run::commands::run_command;
-use crate::run::ending::CommandOutcome;
 use crate::run::program::run;
 use crate::save::keeper::SaveError;
 use crate::system::machine::OutputStreams;
@@ -441,7 +440,7 @@ fn performs<R: Abort + AllocGlobal>(rt: &R, table: &[u8], example: &Example) -> 
         keeper: MemoryKeeper::new(alloc),
     };
     let ended = run_command(alloc, &command.task, table, state, &mut log, &mut outlets);
-    assert!(rt; matches!(ended, Ok(CommandOutcome { status: 0, .. })));
+    assert!(rt; matches!(ended, Ok(Counts { bad: 0, .. })));
     assert_eq!(rt; outlets.output.bytes(), example.text.as_bytes());
     let kept = format!(in alloc; "{:?}", outlets.keeper.kept)?;
     let left = match example.left {

@@ -1,9 +1,14 @@
-use Rattle.std.proofs.Common.{ap, refl}
-use Rattle.n2k_c.specs.Queue.{Waiting}
+use Rattle.std.proofs.Common.{refl, subst, sym}
+use Rattle.n2k_run.specs.Decoded.{out, reports}
+use Rattle.n2k_c.specs.Job.{decoding}
+use Rattle.n2k_c.specs.Stands.{IsAfter}
 use Rattle.n2k_c.proofs.Feeding.{ok_is, opened_at}
 use Rattle.n2k_c.proofs.decoder.open.Goals as goal
 
 pub returns-clause-stands : goal.returns-clause-stands
 returns-clause-stands c = λ prefix is.
-    opened_at c.args.table c.args.options prefix _ refl refl refl refl c.new.ensures.items (ap (λ (w : Waiting). w.held) c.new-2.ensures) (ap (λ (w : Waiting). w.held) c.new-3.ensures) is.whole_lines
-    (ok_is _ _ _ c.in_ok-join.ensures is.leads_to)
+    let t = c.args.table in
+    let o = c.args.options in
+    let made = c.new-2.ensures in
+    opened_at t (decoding o) prefix (out t o prefix) (reports t o prefix) c.new-2.result made.table made.ended made.cut made.output made.reports is.whole_lines
+    (subst (IsAfter t (decoding o) prefix) (sym made.work) (refl, refl, ok_is _ _ _ c.in_ok-join.ensures is.leads_to)) refl refl

@@ -1,5 +1,5 @@
 use Rattle.n2k_encode.proofs.Again.{bytes_accepted, digits_accepted, text_accepted}
-use Rattle.n2k_encode.proofs.Named.{name_accepted, unnamed_accepted}
+use Rattle.n2k_encode.proofs.Named.{first_name_accepted, name_accepted, unnamed_accepted}
 use Rattle.n2k_encode.proofs.Numbers.{number_accepted, shifted_accepted}
 use Rattle.n2k_encode.proofs.Strings.{characters_accepted}
 use Rattle.n2k_encode.proofs.Wide.{wide_accepted}
@@ -13,6 +13,9 @@ returns-clause-shifted c = shifted_accepted
 
 pub returns-clause-names : goal.returns-clause-names
 returns-clause-names c = name_accepted
+
+pub returns-clause-first_names : goal.returns-clause-first_names
+returns-clause-first_names c = first_name_accepted
 
 pub returns-clause-unnamed : goal.returns-clause-unnamed
 returns-clause-unnamed c = unnamed_accepted

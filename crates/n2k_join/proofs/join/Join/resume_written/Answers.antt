@@ -14,12 +14,12 @@ pub returns-then-eq : goal.returns-then-eq
 returns-then-eq c =
     let s : State = c.in-Ok.join in
     let k = kind c.args.table.now in
-    let t : State = state_of_parts c.id-id.result c.args.window c.in-Some.counts c.deref.result.now in
+    let t : State = state_of_parts c.args.id c.args.window c.in-Some.counts c.deref.result.now in
     let given = given-parts (is_valid k t) t s c.in-Ok.ensures in
     let same : t ≡ s = given.1 in
     let bytes : c.in_ok-text.text.items ≡ c.args.bytes.now = search rules in
     let text : c.in_ok-text.text.items ≡ state_text s = c.in_ok-text.ensures.text in
     let id : IsId s.id = search rules in
     let fast = valid-fast k s (subst (λ (u : State). is_valid k u ≡ true) same given.0) in
-    (λ i. resumed k ((sym c.id-id.ensures ∙ ap (λ (u : State). u.id) same) i) (same i).window ((sym bytes ∙ text) i))
+    (λ i. resumed k ((ap (λ (u : State). u.id) same) i) (same i).window ((sym bytes ∙ text) i))
     ∙ c.in_ok-text.ensures.reads_back k fast id

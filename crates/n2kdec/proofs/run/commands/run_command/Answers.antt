@@ -1,8 +1,7 @@
-use Rattle.std.proofs.Common.{◌≡◌, ℕ, List, Bor, option_map}
-use Rattle.n2k_run.specs.Runs.{Devices, seen}
-use Rattle.n2kdec.specs.Run.Commands.{Place, place}
-use Rattle.n2kdec.proofs.run.CommandLemmas.{decode_refused, frames_refused, performs_decode, performs_frames, performs_plain, tells_decode, tells_frames, tells_plain}
-use Rattle.n2kdec.proofs.run.EncodeLemmas.{performs_encode, tells_encode}
+use Rattle.std.proofs.Common.{rules}
+use Rattle.n2k_run.specs.Runs.{seen}
+use Rattle.n2kdec.specs.Run.Commands.{place}
+use Rattle.n2kdec.proofs.run.CommandLemmas.{performs_counted, performs_decode, performs_frames, performs_plain, refused}
 use Rattle.n2kdec.proofs.run.commands.run_command.Goals as goal
 
 pub returns-in-Plain-clause-performs : goal.returns-in-Plain-clause-performs
@@ -13,33 +12,24 @@ returns-in-Plain-clause-performs g c =
     performs_plain c.args.task.now c.args.table.now _ before after errors c.close_whole.result (g.K.StateStore.kept c.args.outlets.now.keeper) c.run_plain_counted-ended.new.counts c.run_plain_counted-ended.result c.close_whole.ensures.closes c.in-Plain.is
     c.run_plain_counted-ended.ensures.runs
 
-pub returns-in-Plain-clause-told : goal.returns-in-Plain-clause-told
-returns-in-Plain-clause-told g c =
-    let before = seen g.R.Source g.W.Sink g.E.Sink c.args.log.now c.args.outlets.now.output c.args.outlets.now.errors in
-    let after = seen g.R.Source g.W.Sink g.E.Sink c.run_plain_counted-ended.new.reader c.run_plain_counted-ended.new.writer c.close_whole.new.errors in
-    let errors = place (g.E.Sink.contents c.run_plain_counted-ended.new.reporter) (g.E.Sink.failed_calls c.run_plain_counted-ended.new.reporter) in
-    tells_plain c.args.task.now c.args.table.now _ before after errors c.close_whole.result (g.K.StateStore.kept c.args.outlets.now.keeper) c.run_plain_counted-ended.new.counts c.run_plain_counted-ended.result c.close_whole.ensures.closes c.in-Plain.is
-    c.run_plain_counted-ended.ensures.runs
-
 pub returns-in-Ok-clause-performs : goal.returns-in-Ok-clause-performs
 returns-in-Ok-clause-performs g c =
+    let before = seen g.R.Source g.W.Sink g.E.Sink c.args.log.now c.args.outlets.now.output c.args.outlets.now.errors in
+    let after = seen g.R.Source g.W.Sink g.E.Sink c.run_counted-ended.new.reader c.run_counted-ended.new.writer c.close_counted.new.errors in
+    let errors = place (g.E.Sink.contents c.run_counted-ended.new.reporter) (g.E.Sink.failed_calls c.run_counted-ended.new.reporter) in
+    performs_counted c.args.task.now c.args.table.now _ before after errors c.close_counted.result (g.K.StateStore.kept c.args.outlets.now.keeper) c.in-Decode.options c.in-Decode.save c.run_counted-ended.new.counts c.run_counted-ended.result
+    c.in-Ok.table c.in-Decode.is c.in-Ok.ensures.sound c.run_counted-ended.ensures.runs c.close_counted.ensures.closes (search rules) (search rules)
+
+pub returns-in-Ok-2-clause-performs : goal.returns-in-Ok-2-clause-performs
+returns-in-Ok-2-clause-performs g c =
     let before = seen g.R.Source g.W.Sink g.E.Sink c.args.log.now c.args.outlets.now.output c.args.outlets.now.errors in
     let after = seen g.R.Source g.W.Sink g.E.Sink c.run_part-ended.new.reader c.run_part-ended.new.writer c.close_part.new.errors in
     let errors = place (g.E.Sink.contents c.run_part-ended.new.reporter) (g.E.Sink.failed_calls c.run_part-ended.new.reporter) in
     performs_decode c.args.task.now c.args.table.now _ before after errors c.close_part.result (g.K.StateStore.kept c.args.outlets.now.keeper) (g.K.StateStore.kept c.close_part.new.keeper) c.in-Decode.options c.in-Decode.save c.of_end-of.result c.run_part-ended.result
-    c.in-Ok.table c.in-Decode.is c.in-Ok.ensures.sound c.run_part-ended.ensures.runs c.close_part.ensures.closes
-
-pub returns-in-Ok-clause-told : goal.returns-in-Ok-clause-told
-returns-in-Ok-clause-told g c =
-    let before = seen g.R.Source g.W.Sink g.E.Sink c.args.log.now c.args.outlets.now.output c.args.outlets.now.errors in
-    let after = seen g.R.Source g.W.Sink g.E.Sink c.run_part-ended.new.reader c.run_part-ended.new.writer c.close_part.new.errors in
-    let errors = place (g.E.Sink.contents c.run_part-ended.new.reporter) (g.E.Sink.failed_calls c.run_part-ended.new.reporter) in
-    tells_decode c.args.task.now c.args.table.now _ before after errors c.close_part.result (g.K.StateStore.kept c.args.outlets.now.keeper) (g.K.StateStore.kept c.close_part.new.keeper) c.in-Decode.options c.in-Decode.save c.of_end-of.result c.run_part-ended.result
     c.in-Ok.table c.in-Decode.is c.in-Ok.ensures.sound c.run_part-ended.ensures.runs c.close_part.ensures.closes c.of_end-of.ensures
 
 pub returns-in-Err-clause-performs : goal.returns-in-Err-clause-performs
-returns-in-Err-clause-performs g c =
-    decode_refused c.args.task.now c.args.table.now _ _ (g.K.StateStore.kept c.args.outlets.now.keeper) c.in-Err.fault c.in-Err.ensures.stands c.in-Decode.options _ c.in-Decode.is
+returns-in-Err-clause-performs g c = refused c.args.task.now c.args.table.now _ _ (g.K.StateStore.kept c.args.outlets.now.keeper) c.in-Err.fault c.in-Err.ensures.stands (λ plain. cc)
 
 pub returns-in-Ok-read-clause-performs : goal.returns-in-Ok-read-clause-performs
 returns-in-Ok-read-clause-performs g c =
@@ -47,26 +37,7 @@ returns-in-Ok-read-clause-performs g c =
     let after = seen g.R.Source g.W.Sink g.E.Sink c.run_frames_counted-ended.new.reader c.run_frames_counted-ended.new.writer c.close_whole-in-Ok-read.new.errors in
     let errors = place (g.E.Sink.contents c.run_frames_counted-ended.new.reporter) (g.E.Sink.failed_calls c.run_frames_counted-ended.new.reporter) in
     performs_frames c.args.task.now c.args.table.now _ before after errors c.close_whole-in-Ok-read.result (g.K.StateStore.kept c.args.outlets.now.keeper) c.run_frames_counted-ended.new.counts c.run_frames_counted-ended.result c.close_whole-in-Ok-read.ensures.closes
-    c.in-Frames.interface _ c.in-Ok-read.table c.in-Frames.is c.name_of-name.ensures.same c.in-Ok-read.ensures.sound c.run_frames_counted-ended.ensures.runs
-
-pub returns-in-Ok-read-clause-told : goal.returns-in-Ok-read-clause-told
-returns-in-Ok-read-clause-told g c =
-    let before = seen g.R.Source g.W.Sink g.E.Sink c.args.log.now c.args.outlets.now.output c.args.outlets.now.errors in
-    let after = seen g.R.Source g.W.Sink g.E.Sink c.run_frames_counted-ended.new.reader c.run_frames_counted-ended.new.writer c.close_whole-in-Ok-read.new.errors in
-    let errors = place (g.E.Sink.contents c.run_frames_counted-ended.new.reporter) (g.E.Sink.failed_calls c.run_frames_counted-ended.new.reporter) in
-    tells_frames c.args.task.now c.args.table.now _ before after errors c.close_whole-in-Ok-read.result (g.K.StateStore.kept c.args.outlets.now.keeper) c.run_frames_counted-ended.new.counts c.run_frames_counted-ended.result c.close_whole-in-Ok-read.ensures.closes
-    c.in-Frames.interface _ c.in-Ok-read.table c.in-Frames.is c.name_of-name.ensures.same c.in-Ok-read.ensures.sound c.run_frames_counted-ended.ensures.runs
+    c.in-Frames.interface _ c.in-Ok-read.table c.in-Frames.is c.name_of-name.ensures.same c.in-Ok-read.ensures.sound c.run_frames_counted-ended.ensures.runs c.close_whole-in-Ok-read.ensures.begun
 
 pub returns-in-Err-read-clause-performs : goal.returns-in-Err-read-clause-performs
-returns-in-Err-read-clause-performs g c =
-    frames_refused c.args.task.now c.args.table.now _ _ (g.K.StateStore.kept c.args.outlets.now.keeper) c.in-Err-read.fault c.in-Err-read.ensures.stands c.in-Frames.interface c.in-Frames.is
-
-pub returns-in-Encode-clause-performs : goal.returns-in-Encode-clause-performs
-returns-in-Encode-clause-performs g c =
-    let before = seen g.R.Source g.W.Sink g.E.Sink c.args.log.now c.args.outlets.now.output c.args.outlets.now.errors in
-    let after = seen g.R.Source g.W.Sink g.E.Sink c.encode_log.new.log c.encode_log.new.output c.encode_log.new.errors in
-    performs_encode c.args.task.now c.args.table.now _ before after (g.K.StateStore.kept c.args.outlets.now.keeper) c.in-Encode.nearest c.encode_log.result c.in-Encode.is c.encode_log.ensures.encodes
-
-pub returns-in-Encode-clause-told : goal.returns-in-Encode-clause-told
-returns-in-Encode-clause-told g c =
-    tells_encode c.args.task.now c.args.table.now _ _ _ c.in-Encode.nearest c.encode_log.result c.in-Encode.is (c.encode_log.ensures.told (option_map (λ (bytes : Bor (List ℕ)). bytes.now) c.args.state))
+returns-in-Err-read-clause-performs g c = refused c.args.task.now c.args.table.now _ _ (g.K.StateStore.kept c.args.outlets.now.keeper) c.in-Err-read.fault c.in-Err-read.ensures.stands (λ plain. cc)

@@ -1,6 +1,6 @@
-use Rattle.std.proofs.Common.{rules, ◌≡◌, ◌∙◌, Err, option_map, refl, subst}
+use Rattle.std.proofs.Common.{rules, ◌≡◌, ◌∙◌, [], Err, option_map, refl, subst, unwrap_or}
 use Rattle.n2k_run.specs.Device.{IsWhy}
-use Rattle.n2kdec.specs.System.Machine.{IsOfFile, IsRead, IsUnread, LogAfter, bytes_named, explained, outside, table_bytes}
+use Rattle.n2kdec.specs.System.Machine.{IsOfFile, IsRead, IsUnread, LogAfter, bytes_named, explained, outside}
 use Rattle.n2kdec.specs.declared.fault.InputFile.TheVariants as reading
 use Rattle.n2kdec.proofs.run.MachineLemmas.{all_calls, log_unread, performed, performed_over, state_unread, table_is, table_unread}
 use Rattle.n2kdec.proofs.run.program.run_on_files.Goals as goal
@@ -41,7 +41,7 @@ returns-clause-runs g c =
     let after = outside g.M.Output.Sink g.M.Errors.Sink g.K.StateStore (g.M.Machine.calls c.close-why.new.self) c.run_command-answer.new.outlets in
     let table_read = option_map (λ bytes. bytes.items) c.in_ok-table.table in
     let state_read = option_map (λ bytes. bytes.items) c.in_ok-state.state in
-    let is_table : c.deref.result.now ≡ table_bytes table_read = c.deref.ensures.value ∙ table_is (λ bytes. bytes.items) c.in_ok-table.table c.new.result c.unwrap_or-table.result c.new.ensures.items c.unwrap_or-table.ensures in
+    let is_table : c.deref.result.now ≡ unwrap_or table_read [] = c.deref.ensures.value ∙ table_is (λ bytes. bytes.items) c.in_ok-table.table c.new.result c.unwrap_or-table.result c.new.ensures.items c.unwrap_or-table.ensures in
     let is_state : option_map (λ bytes. bytes.now) c.map-state.result ≡ state_read = search rules in
     let stands : LogAfter = record { left = g.M.File.Source.remaining log; calls = g.M.File.Source.calls log; failed = g.M.File.Source.failed_calls log } in
     performed w c.args.command.now before after c.explained.result (record {
@@ -60,8 +60,8 @@ returns-clause-runs g c =
       is_why_unwritten = subst (IsWhy (g.M.Output.Sink.failed_calls c.run_command-answer.new.outlets.output)) c.failure.ensures.told c.failure.ensures.why;
       calls = all_calls files _ _ _ _ _ table.calls.0 state.calls.0 _ _ table.calls.1 state.calls.1 opened.calls closed.calls;
       ended = c.run_command-answer.result;
-      over = performed_over c.args.command.now.task (table_bytes table_read) state_read before after stands c.run_command-answer.result
+      over = performed_over c.args.command.now.task (unwrap_or table_read []) state_read before after stands c.run_command-answer.result
           _ _ _ (bytes_named w files.log) _ _ is_table is_state (subst (λ v. g.M.File.Source.remaining c.in-Ok.log ≡ bytes_named v files.log) (state.same ∙ table.same) opened.bytes) opened.none_called opened.none_failed
-          c.run_command-answer.ensures.performs c.run_command-answer.ensures.told;
+          c.run_command-answer.ensures.performs;
       told = subst (λ why. c.explained.result ≡ explained c.close-why.result why c.run_command-answer.result) c.failure.ensures.told c.explained.ensures;
     })
