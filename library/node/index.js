@@ -82,7 +82,7 @@ async function* printed(words, input, toText, options) {
     }
   })();
   reports.catch(() => child.kill());
-  // If the program ends first, its own fault tells more than the broken pipe. If the input fails, what came before is printed.
+  // If the program ends first, its own fault says more than the broken pipe. If the input fails, what came before is printed.
   let fault;
   if (input !== null) {
     pipeline(input, toText, child.stdin).catch((error) => {

@@ -22,8 +22,9 @@ pub fn given_texts_are_shown()
 {}
 
 /// A field accepts the values that it can show. If a raw value shows a number or a value of a lookup, the field is set to
-/// this raw value; if two values have the same name, to the first that the field can hold. If bytes are shown as pairs of digits or as characters, the text is read as these bytes. If a string
-/// shows a text, one of its encodings accepts the text.
+/// this raw value; if two values have the same name, to the first that the field can hold. If bytes are shown as pairs of
+/// digits or as characters, the text is read as these bytes. If a string shows a text, one of its encodings accepts the
+/// text.
 pub fn shown_values_are_accepted()
     ensures numbers { (signed : Bool) (n raw : ℕ) (res : Resolution) (text : List ℕ) → 1 ≤ n → 0 < res.mantissa → raw < 2 ^ n
         → says 0 (shown_number signed res n raw) (number text) ≡ true → number_raw false signed n res text ≡ Some raw }

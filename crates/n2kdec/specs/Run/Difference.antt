@@ -35,7 +35,8 @@ windows_in lines d = option_map (λ saved. Windows saved lines) (option_and_then
 abbrev pub Told : Type 0
 Told = Result (Option StateMismatch) AllocError
 
--- What a state is of that is refused for it, unless memory for that was refused; no other fault tells anything.
+-- Both tables, or both windows, if a state is refused because they differ, unless memory for them was refused. Other faults
+-- have neither.
 abbrev pub Differs : List ℕ → Options → Option (List ℕ) → StateFault → Told → Type 0
 Differs id o (Some state) TableDiffers told = IfOk told (λ known. known ≡ option_and_then (tables_in id) (parsed state))
 Differs id o (Some state) WindowDiffers told = IfOk told (λ known. known ≡ option_and_then (windows_in o.window.lines) (parsed state))
