@@ -1,16 +1,16 @@
 -- Plain lines, written in pieces of constant length.
-use Rattle.std.proofs.Common.{◌≡◌, ℕ, suc, ◌+◌, ◌-◌, ◌*◌, ◌/◌, ◌%◌, ◌^◌, ◌<◌, ◌≤◌, true, cond, eqb, ltb, List, [], ◌∷◌, ◌++◌, length, get_or, map, take, replicate, bit_and, refl, ap, append_assoc, arith, inl, inr, codes, length-take-le, take-take}
-use Rattle.std.specs.List.{flat_map}
+use Rattle.std.proofs.Common.{◌≡◌, ℕ, suc, ◌+◌, ◌-◌, ◌*◌, ◌/◌, ◌%◌, ◌^◌, ◌<◌, ◌≤◌, IsTrue, true, false, cond, eqb, ltb, List, [], ◌∷◌, ◌++◌, length, get_or, map, take, slice_index, replicate, bit_and, refl, ap, append_assoc, arith, inl, inr, codes, length-take-le, take-take}
 use Rattle.std.specs.Int.{w32, w64, to_le_bytes}
 use Rattle.std.proofs.lemmas.Bool.{agree_below_at, cases_Bool, cases_lt, eqb-true}
 use Rattle.std.proofs.lemmas.Nat.{and_mask}
-use Rattle.hex.specs.Hex.{encode_with, lower_digits}
-use Rattle.n2k_wire.specs.Packet.{PacketParts}
-use Rattle.n2k_wire.specs.Inner.Digits.{lower_lane}
+use Rattle.hex.specs.Hex.{encode_with, encode_lower, encode_upper, lower_digits, upper_digits}
+use Rattle.n2k_wire.specs.Packet.{PacketParts, is_stamp}
+use Rattle.n2k_wire.specs.Inner.Digits.{digit_lane}
+use Rattle.n2k_wire.specs.Heads.{begins_candump, plain_end, plain_head}
 use lib.Lanes.{pick_l, sel_l, top, zip2}
 use Rattle.itoa.proofs.Decimal.{decimal_two, decimal_four}
 use Rattle.std.proofs.lemmas.Fmt.{decimal_digit}
-use Rattle.n2k_wire.specs.Texts.{byte_column, number_column, plain_line, plain_text}
+use Rattle.n2k_wire.specs.Texts.{number_column, plain_line, plain_text}
 use Rattle.n2k_wire.proofs.TextLemmas.{listed, listed_all, column_of_one, column_of_two, column_of_three}
 
 take_past : (p q : List ℕ) (k : ℕ) → take (length p + k) (p ++ q) ≡ p ++ take k q
@@ -65,45 +65,76 @@ word_is_large n free few = grind (arith, cases_lt free 1, cases_lt free 2)
 
 -- ---- the eight bytes
 
-lane_is : (n : ℕ) → n < 16 → lower_lane n ≡ get_or lower_digits n 0
-lane_is n small = eqb-true _ _ (agree_below_at (λ k. eqb (lower_lane k) (get_or lower_digits k 0)) (λ k. true) 16 n refl small)
-
 -- the digits of some numbers, lane by lane
-pub lanes_lower : (xs : List ℕ)
-    → sel_l (map (top 7) (zip2 (λ a b. cond (ltb a b) 255 0) (replicate (length xs) 9) xs)) (zip2 (λ a b. (a + b) % 256) xs (replicate (length xs) 87)) (zip2 (λ a b. (a + b) % 256) xs (replicate (length xs) 48)) ≡ map lower_lane xs
-lanes_lower [] = refl
-lanes_lower (x ∷ xs) = elim (cases_Bool (ltb 9 x)) [ inl letter ↦ rw (letter, lanes_lower xs) refl | inr figure ↦ rw (figure, lanes_lower xs) refl ]
+pub lanes_are : (letter : ℕ) (xs : List ℕ)
+    → sel_l (map (top 7) (zip2 (λ a b. cond (ltb a b) 255 0) (replicate (length xs) 9) xs)) (zip2 (λ a b. (a + b) % 256) xs (replicate (length xs) (letter - 10))) (zip2 (λ a b. (a + b) % 256) xs (replicate (length xs) 48)) ≡ map (digit_lane letter) xs
+lanes_are letter [] = refl
+lanes_are letter (x ∷ xs) = elim (cases_Bool (ltb 9 x)) [ inl large ↦ rw (large, lanes_are letter xs) refl | inr figure ↦ rw (figure, lanes_are letter xs) refl ]
 
-high_digit : (b : ℕ) → b < 256 → lower_lane (b / 16) ≡ get_or lower_digits (b / 16) 0
-high_digit b byte = lane_is (b / 16) (omega arith)
+-- the digits of eight bytes
+abbrev pub digits_of_eight : ℕ → List ℕ → List ℕ
+digits_of_eight letter bytes =
+    map (digit_lane letter) (pick_l 0 (zip2 (λ a b. a / 2 ^ b) bytes (replicate 8 4) ++ zip2 bit_and bytes (replicate 8 15)) (0 ∷ 8 ∷ 1 ∷ 9 ∷ 2 ∷ 10 ∷ 3 ∷ 11 ∷ 4 ∷ 12 ∷ 5 ∷ 13 ∷ 6 ∷ 14 ∷ 7 ∷ 15 ∷ []))
 
-low_digit : (b : ℕ) → lower_lane (bit_and b 15) ≡ get_or lower_digits (b % 16) 0
-low_digit b = grind (arith, and_mask b 4)
+-- a letter and a table of digits that agree
+module _ (letter : ℕ) (table : List ℕ) (agree : (n : ℕ) → n < 16 → digit_lane letter n ≡ slice_index table n) where
+  high_digit : (b : ℕ) → b < 256 → digit_lane letter (b / 16) ≡ slice_index table (b / 16)
+  high_digit b byte = agree (b / 16) (omega arith)
 
-abbrev pub pieces_of : List ℕ → List ℕ
-pieces_of bytes = number_column 8 ++ flat_map byte_column bytes ++ codes "\n"
+  low_digit : (b : ℕ) → digit_lane letter (bit_and b 15) ≡ slice_index table (b % 16)
+  low_digit b = grind (arith, and_mask b 4, agree (b % 16))
 
-abbrev end_of : List ℕ → List ℕ
-end_of bytes =
-    let both = pick_l 0 (zip2 (λ a b. a / 2 ^ b) bytes (replicate 8 4) ++ zip2 bit_and bytes (replicate 8 15)) (0 ∷ 8 ∷ 1 ∷ 9 ∷ 2 ∷ 10 ∷ 3 ∷ 11 ∷ 4 ∷ 12 ∷ 5 ∷ 13 ∷ 6 ∷ 14 ∷ 7 ∷ 15 ∷ []) in
-    take 27 (pick_l 0 (map lower_lane both ++ codes ",8\n.............") (16 ∷ 17 ∷ 16 ∷ 0 ∷ 1 ∷ 16 ∷ 2 ∷ 3 ∷ 16 ∷ 4 ∷ 5 ∷ 16 ∷ 6 ∷ 7 ∷ 16 ∷ 8 ∷ 9 ∷ 16 ∷ 10 ∷ 11 ∷ 16 ∷ 12 ∷ 13 ∷ 16 ∷ 14 ∷ 15 ∷ 18 ∷ 19 ∷ 19 ∷ 19 ∷ 19 ∷ 19 ∷ []))
+  eight_by : (a b c d e f g h : ℕ) → a < 256 → b < 256 → c < 256 → d < 256 → e < 256 → f < 256 → g < 256 → h < 256
+      → digits_of_eight letter (a ∷ b ∷ c ∷ d ∷ e ∷ f ∷ g ∷ h ∷ []) ≡ encode_with table (a ∷ b ∷ c ∷ d ∷ e ∷ f ∷ g ∷ h ∷ [])
+  unfolding encode_with
+  eight_by a b c d e f g h A B C D E F G H = grind (arith, high_digit, low_digit)
 
-end_of_eight : (a b c d e f g h : ℕ) → a < 256 → b < 256 → c < 256 → d < 256 → e < 256 → f < 256 → g < 256 → h < 256
-    → end_of (a ∷ b ∷ c ∷ d ∷ e ∷ f ∷ g ∷ h ∷ []) ≡ pieces_of (a ∷ b ∷ c ∷ d ∷ e ∷ f ∷ g ∷ h ∷ [])
+  eight_are : (bytes : List ℕ) → length bytes ≡ 8 → ((k : ℕ) → get_or bytes k 0 < 256) → digits_of_eight letter bytes ≡ encode_with table bytes
+  unfolding listed
+  eight_are bytes long small = grind (arith, listed_all 8 0 bytes long, eight_by (get_or bytes 0 0) (get_or bytes 1 0) (get_or bytes 2 0) (get_or bytes 3 0) (get_or bytes 4 0) (get_or bytes 5 0) (get_or bytes 6 0) (get_or bytes 7 0) (small 0) (small 1) (small 2) (small 3) (small 4) (small 5) (small 6) (small 7))
+
+lower_agrees : (n : ℕ) → n < 16 → digit_lane 97 n ≡ slice_index lower_digits n
+lower_agrees n small = eqb-true _ _ (agree_below_at (λ k. eqb (digit_lane 97 k) (slice_index lower_digits k)) (λ k. true) 16 n refl small)
+
+upper_agrees : (n : ℕ) → n < 16 → digit_lane 65 n ≡ slice_index upper_digits n
+upper_agrees n small = eqb-true _ _ (agree_below_at (λ k. eqb (digit_lane 65 k) (slice_index upper_digits k)) (λ k. true) 16 n refl small)
+
+pub lower_are : (bytes : List ℕ) → length bytes ≡ 8 → ((k : ℕ) → get_or bytes k 0 < 256) → digits_of_eight 97 bytes ≡ encode_lower bytes
+lower_are = eight_are 97 lower_digits lower_agrees
+
+pub upper_are : (bytes : List ℕ) → length bytes ≡ 8 → ((k : ℕ) → get_or bytes k 0 < 256) → digits_of_eight 65 bytes ≡ encode_upper bytes
+upper_are = eight_are 65 upper_digits upper_agrees
+
+-- the end of a line of eight bytes, picked from their digits
+abbrev pub end_of : List ℕ → List ℕ
+end_of digits =
+    take 27 (pick_l 0 (digits ++ codes ",8\n.............") (16 ∷ 17 ∷ 16 ∷ 0 ∷ 1 ∷ 16 ∷ 2 ∷ 3 ∷ 16 ∷ 4 ∷ 5 ∷ 16 ∷ 6 ∷ 7 ∷ 16 ∷ 8 ∷ 9 ∷ 16 ∷ 10 ∷ 11 ∷ 16 ∷ 12 ∷ 13 ∷ 16 ∷ 14 ∷ 15 ∷ 18 ∷ 19 ∷ 19 ∷ 19 ∷ 19 ∷ 19 ∷ []))
+
+end_of_eight : (a b c d e f g h : ℕ) → end_of (encode_lower (a ∷ b ∷ c ∷ d ∷ e ∷ f ∷ g ∷ h ∷ [])) ≡ plain_end (a ∷ b ∷ c ∷ d ∷ e ∷ f ∷ g ∷ h ∷ [])
 unfolding encode_with
-end_of_eight a b c d e f g h A B C D E F G H = grind (arith, decimal_digit, high_digit, low_digit)
+end_of_eight a b c d e f g h = grind (arith, decimal_digit)
 
-pub end_is : (bytes : List ℕ) → length bytes ≡ 8 → ((k : ℕ) → get_or bytes k 0 < 256) → end_of bytes ≡ pieces_of bytes
+pub end_is : (bytes digits : List ℕ) → length bytes ≡ 8 → digits ≡ encode_lower bytes → end_of digits ≡ plain_end bytes
 unfolding listed
-end_is bytes long small = grind (arith, listed_all 8 0 bytes long, end_of_eight (get_or bytes 0 0) (get_or bytes 1 0) (get_or bytes 2 0) (get_or bytes 3 0) (get_or bytes 4 0) (get_or bytes 5 0) (get_or bytes 6 0) (get_or bytes 7 0) (small 0) (small 1) (small 2) (small 3) (small 4) (small 5) (small 6) (small 7))
+end_is bytes digits long is = grind (arith, listed_all 8 0 bytes long, end_of_eight (get_or bytes 0 0) (get_or bytes 1 0) (get_or bytes 2 0) (get_or bytes 3 0) (get_or bytes 4 0) (get_or bytes 5 0) (get_or bytes 6 0) (get_or bytes 7 0))
 
 -- ---- the line
 
--- the pieces, written in order, are the line
-pub line_is : (p : PacketParts) (t0 t1 t2 t3 t4 t5 t6 stamp prio pgn src dst bytes : List ℕ)
+-- the pieces, written in order, are the start of the line
+pub head_is : (p : PacketParts) (t0 t1 t2 t3 t4 t5 stamp prio pgn src dst : List ℕ)
     → t1 ≡ t0 ++ stamp → t2 ≡ t1 ++ prio → t3 ≡ t2 ++ pgn → t4 ≡ t3 ++ src → t5 ≡ t4 ++ dst
-    → t6 ≡ t5 ++ number_column (length bytes) ++ flat_map byte_column bytes ++ codes "\n"
     → stamp ≡ p.stamp → prio ≡ number_column p.id.prio → pgn ≡ number_column p.id.pgn → src ≡ number_column p.id.src → dst ≡ number_column p.id.dst
-    → bytes ≡ p.payload → t6 ≡ t0 ++ plain_text p
+    → t5 ≡ t0 ++ plain_head p
+head_is p t0 t1 t2 t3 t4 t5 stamp prio pgn src dst a b c d e stamp_is prio_is pgn_is src_is dst_is = grind (arith, append_assoc)
+
+-- a plain line's first byte is another than a candump line's
+pub is_plain : (p : PacketParts) → IsTrue (is_stamp p.stamp) → begins_candump (plain_head p) ≡ false
+is_plain p ok = first p.stamp (number_column p.id.prio) (number_column p.id.pgn) (number_column p.id.src) (number_column p.id.dst) ok where
+  first : (stamp prio pgn src dst : List ℕ) → is_stamp stamp ≡ true → begins_candump (stamp ++ prio ++ pgn ++ src ++ dst) ≡ false
+  first [] prio pgn src dst ok = absurd cc
+  first (b ∷ bs) prio pgn src dst ok = grind arith
+
+-- the start and the end are the line
+pub line_is : (p : PacketParts) (payload : List ℕ) → plain_head p ++ plain_end payload ≡ plain_text (record p { payload = payload })
 unfolding plain_line
-line_is p t0 t1 t2 t3 t4 t5 t6 stamp prio pgn src dst bytes a b c d e f stamp_is prio_is pgn_is src_is dst_is bytes_are = grind (arith, append_assoc)
+line_is p payload = grind (arith, append_assoc)

@@ -2,6 +2,7 @@ pub mod Calendar
 pub mod Candump
 pub mod Digits
 pub mod Entry
+pub mod Heads
 pub mod Identifier
 pub mod Inner
 pub mod Packet

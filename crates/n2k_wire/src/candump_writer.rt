@@ -1,19 +1,20 @@
 //! Packets as candump lines, `(0000000010.300000) can0 1DFF0405#000BA39901414243`, written in place as plain lines are.
-//! Kept of the packet before: the start of its stamp and of its line, and the digits of its identifier.
-ghost use Rattle.std.specs.Prelude.{◌≡◌, ◌+◌, ◌-◌, ◌*◌, ◌<◌, ◌≤◌, ◌++◌, [], codes, length, take, IfSome, IfNone, None, true, false, IsTrue, OnErr};
+//! Kept of the packet before: the start of its stamp and of its line.
+ghost use Rattle.std.specs.Prelude.{◌≡◌, ◌+◌, ◌-◌, ◌*◌, ◌<◌, ◌≤◌, ◌++◌, [], codes, length, take, List, ℕ, IfSome, IfNone, IfErr, None, Ok, Err, IsTrue, OnOk, OnErr};
+ghost use Rattle.std.specs.Int.{w32, to_be_bytes};
 ghost use Rattle.hex.specs.Hex.{encode_upper};
 ghost use Rattle.n2k_wire.specs.Candump.{frame_payload, is_interface, longest_interface};
-ghost use Rattle.n2k_wire.specs.Identifier.{join};
-ghost use Rattle.n2k_wire.specs.Inner.Digits.{AreDigitsOf};
+ghost use Rattle.n2k_wire.specs.Heads.{candump_end, line_after};
 ghost use Rattle.n2k_wire.specs.Inner.Stamp.{IsSecond, IsStampText, are_millis, after_millis, second_prefix};
 ghost use Rattle.n2k_wire.specs.Stamp.{last_second, utc_moment};
 ghost use Rattle.n2k_wire.specs.Texts.{Appends, candump_text};
 
 use crate::candump::FRAME_PAYLOAD;
 use crate::fault::WireFault;
-use crate::identifier::{Id, join_id, split_id};
+use crate::identifier::join_id;
+use crate::line_head::LineHead;
 use crate::packet::Packet;
-use crate::plain_writer::{append_room, put};
+use crate::plain_writer::{eight_digits, put};
 use crate::stamp::read_utc;
 use std::alloc::Global;
 use std::marker::Model;
@@ -24,59 +25,15 @@ const SECOND_LEN: usize = 20;
 /// The bytes of the milliseconds and the `Z`, `300Z`.
 const MILLIS_LEN: usize = 4;
 
-/// A short text and unused room after it. It is copied with its room, since a copy of known length costs less.
-#[derive(Drop)]
-struct ShortText {
-    bytes: [u8; 32],
-    len: usize,
-}
-
-impl Model for ShortText {
-    ghost use Rattle.std.specs.Prelude.{◌≤◌, List, ℕ, take};
-
-    ghost Value = { List ℕ };
-
-    ghost view = { λ p. take p.len p.bytes };
-
-    ghost invariant = { λ p. p.len ≤ 32 };
-}
-
-impl ShortText {
-    const EMPTY: ShortText = ShortText {
-        bytes: [0; 32],
-        len: 0,
-    };
-
-    fn push(&mut self, text: &[u8])
-        requires { length self.old + length text.now ≤ 32 }
-        ensures { self.new ≡ self.old ++ text.now }
-    {
-        let end = self.len + text.len();
-        self.bytes[self.len..end].copy_from_slice(text);
-        self.len = end;
-    }
-
-    /// Writes the text at a place, and returns the place after it.
-    #[inline(always)]
-    fn put(&self, text: &mut [u8], at: usize) -> usize
-        requires { at + 32 ≤ length text.old }
-        ensures bytes { take result text.new ≡ take at text.old ++ self.now }
-        ensures end { result ≡ at + length self.now }
-        ensures len { length text.new ≡ length text.old }
-    {
-        put(text, at, &self.bytes, self.len)
-    }
-}
-
 /// The start of the lines of a second, `(0000000010.`.
 #[tactic(auto, using(crate::proofs::CandumpLemmas::seconds_short, std::proofs::Common::append_assoc))]
-fn second_prefix(seconds: u64) -> ShortText
+fn second_prefix(seconds: u64) -> LineHead
     requires { seconds ≤ last_second }
     ensures { result ≡ second_prefix seconds }
 {
     let mut buffer = itoa::Buffer::new();
     let digits = buffer.format(seconds).as_bytes();
-    let mut prefix = ShortText::EMPTY;
+    let mut prefix = LineHead::EMPTY;
     prefix.push(b"(");
     prefix.push(&b"0000000000"[digits.len().min(10)..]);
     prefix.push(digits);
@@ -86,11 +43,11 @@ fn second_prefix(seconds: u64) -> ShortText
 
 /// The text between the milliseconds and the identifier, `000) can0 `.
 #[tactic(auto, using(std::proofs::Common::append_assoc))]
-fn after_millis(interface: &[u8]) -> ShortText
+fn after_millis(interface: &[u8]) -> LineHead
     requires { length interface.now ≤ longest_interface }
     ensures { result ≡ after_millis interface.now }
 {
-    let mut after = ShortText::EMPTY;
+    let mut after = LineHead::EMPTY;
     after.push(b"000) ");
     after.push(interface);
     after.push(b" ");
@@ -112,7 +69,7 @@ struct WrittenSecond {
     /// The first bytes of its stamps.
     stamp: [u8; SECOND_LEN],
     /// The first bytes of its candump lines.
-    line: ShortText,
+    line: LineHead,
 }
 
 impl WrittenSecond {
@@ -152,18 +109,13 @@ impl WrittenSecond {
 pub struct CandumpLines<'a> {
     interface: &'a str,
     /// The text after the milliseconds.
-    after: ShortText,
+    after: LineHead,
     second: WrittenSecond,
-    /// The identifier of the packet before.
-    id: Id,
-    /// The digits of that identifier.
-    digits: [u8; 8],
 }
 
 impl<'a> Model for CandumpLines<'a> {
     ghost use Rattle.std.specs.Prelude.{◌≡◌, List, ℕ, IsTrue};
     ghost use Rattle.n2k_wire.specs.Candump.{is_interface};
-    ghost use Rattle.n2k_wire.specs.Inner.Digits.{AreDigitsOf};
     ghost use Rattle.n2k_wire.specs.Inner.Stamp.{IsSecond, after_millis};
 
     ghost Value = { List ℕ };
@@ -171,7 +123,7 @@ impl<'a> Model for CandumpLines<'a> {
     ghost view = { λ l. l.interface.now };
 
     ghost invariant = { λ l. IsTrue (is_interface l.interface.now) × (l.after ≡ after_millis l.interface.now)
-        × IsSecond l.second.stamp l.second.line × AreDigitsOf l.id l.digits };
+        × IsSecond l.second.stamp l.second.line };
 }
 
 /// Writes bytes as digits in upper case at a place of a text, and returns the place after them. Without memory, `hex`
@@ -191,62 +143,18 @@ fn put_upper(text: &mut [u8], at: usize, bytes: &[u8]) -> usize
     end
 }
 
-/// Sets the identifier and its digits, if there is one. Mostly it is the identifier of the packet before.
-#[inline(always)]
-fn advance_id(id: Id, kept: &mut Id, digits: &mut [u8; 8]) -> bool
-    requires { AreDigitsOf kept.old digits.old }
-    ensures kept { AreDigitsOf kept.new digits.new }
-    ensures some { result ≡ true → AreDigitsOf id digits.new }
-    ensures none { result ≡ false → join id ≡ None }
-{
-    if id != *kept {
-        let Some(identifier) = join_id(&id) else {
-            return false;
-        };
-        put_upper(digits, 0, &identifier.to_be_bytes());
-        *kept = id;
-    }
-    true
-}
-
 /// Writes the data and the LF at a place of the text, and returns the place after them. Most frames have eight bytes; a
 /// known length costs less.
-fn put_data(text: &mut [u8], at: usize, payload: &[u8]) -> usize
+#[inline(always)]
+pub(crate) fn put_data(text: &mut [u8], at: usize, payload: &[u8]) -> usize
     requires room { at + 2 * length payload.now < length text.old }
-    ensures { take result text.new ≡ take at text.old ++ (encode_upper payload.now ++ codes "\n") }
+    ensures { take result text.new ≡ take at text.old ++ candump_end payload.now }
 {
     let end = match payload.as_array::<FRAME_PAYLOAD>() {
-        Some(eight) => put_upper(text, at, eight),
+        Some(eight) => put(text, at, &eight_digits(eight, b'A').to_array(), 16),
         None => put_upper(text, at, payload),
     };
     put(text, end, b"\n", 1)
-}
-
-/// Writes a line at a place of the text, and returns the place after it.
-#[tactic(auto, using(std::proofs::Common::append_assoc))]
-#[inline(always)]
-fn write_line(
-    text: &mut [u8],
-    at: usize,
-    prefix: &ShortText,
-    millis: &[u8; MILLIS_LEN],
-    after: &ShortText,
-    digits: &[u8; 8],
-    payload: &[u8],
-) -> usize
-    requires room { at + 85 ≤ length text.old }
-    requires prefix { length prefix.now ≤ 14 }
-    requires after { length after.now ≤ 21 }
-    requires short { length payload.now ≤ frame_payload }
-    ensures { take result text.new ≡ take at text.old ++ (prefix.now ++ take 3 millis.now ++ after.now
-        ++ take 8 digits.now ++ codes "#" ++ encode_upper payload.now ++ codes "\n") }
-{
-    let at = prefix.put(text, at);
-    let at = put(text, at, millis, 3);
-    let at = after.put(text, at);
-    let at = put(text, at, digits, 8);
-    let at = put(text, at, b"#", 1);
-    put_data(text, at, payload)
 }
 
 impl<'a> CandumpLines<'a> {
@@ -273,8 +181,6 @@ impl<'a> CandumpLines<'a> {
             interface,
             after: after_millis(interface.as_bytes()),
             second: WrittenSecond::new(),
-            id: split_id(0),
-            digits: [b'0'; 8],
         }
     }
 
@@ -293,10 +199,9 @@ impl<'a> CandumpLines<'a> {
     /// let wanted = "(0000000010.300000) can0 18EAFF01#14F001\n";
     /// assert_eq!(rt; text.as_slice(), wanted.repeat(alloc, 2)?.as_bytes());
     /// ```
-    #[tactic(auto, using(crate::proofs::CandumpLemmas::after_short, crate::proofs::CandumpLemmas::no_stamp, crate::proofs::CandumpLemmas::no_id, crate::proofs::CandumpLemmas::no_memory, crate::proofs::CandumpLemmas::appended))]
     pub fn append(
         &mut self,
-        _alloc: Global,
+        alloc: Global,
         packet: &Packet,
         out: &mut Vec<u8>,
     ) -> Result<(), WireFault>
@@ -305,24 +210,43 @@ impl<'a> CandumpLines<'a> {
         ensures unchanged { OnErr result (out.new.items ≡ out.old.items) }
         ensures interface { self.new ≡ self.old }
     {
+        let mut head = LineHead::EMPTY;
+        self.set_head(packet, &mut head)?;
+        head.append(alloc, packet.data(), out)
+            .map_err(|_| WireFault::Memory)
+    }
+
+    /// Turns a head into how a packet's line begins. The faults are `NoStamp` and `NoId`, as of `candump_text`.
+    ///
+    /// ```rust
+    /// assert!(rt; is_interface(b"can0"));
+    /// let (mut lines, mut head) = (CandumpLines::new("can0"), LineHead::EMPTY);
+    /// lines.set_head(&frame_in("(1.0) can0 18EAFF01#14F001")?, &mut head)?;
+    /// let mut text = Vec::new(alloc);
+    /// head.append(alloc, &[0x14, 0xf0], &mut text)?;
+    /// let wanted = "(0000000001.000000) can0 18EAFF01#14F0\n";
+    /// assert_eq!(rt; text.as_slice(), wanted.as_bytes());
+    /// ```
+    #[tactic(auto, using(crate::proofs::CandumpLemmas::after_short, crate::proofs::CandumpLemmas::no_stamp, crate::proofs::CandumpLemmas::no_id))]
+    pub fn set_head(&mut self, packet: &Packet, head: &mut LineHead) -> Result<(), WireFault>
+        ensures ok { OnOk result ((payload : List ℕ)
+            → candump_text self.old (record packet.now { payload = payload }) ≡ Ok (line_after head.new payload)) }
+        ensures fault { IfErr result (λ fault. (payload : List ℕ)
+            → candump_text self.old (record packet.now { payload = payload }) ≡ Err fault) }
+        ensures interface { self.new ≡ self.old }
+    {
         let Some(millis) = self.second.advance_to(packet.stamp()) else {
             return Err(WireFault::NoStamp);
         };
-        if !advance_id(packet.id(), &mut self.id, &mut self.digits) {
+        let Some(identifier) = join_id(&packet.id()) else {
             return Err(WireFault::NoId);
-        }
-        let start = out.len();
-        append_room(FRAME_PAYLOAD, out).map_err(|_| WireFault::Memory)?;
-        let end = write_line(
-            out.as_mut_slice(),
-            start,
-            &self.second.line,
-            millis,
-            &self.after,
-            &self.digits,
-            packet.data(),
-        );
-        out.truncate(end);
+        };
+        let text = &mut head.bytes[..];
+        let at = self.second.line.put(text, 0);
+        let at = put(text, at, millis, 3);
+        let at = self.after.put(text, at);
+        let at = put_upper(text, at, &identifier.to_be_bytes());
+        head.len = put(text, at, b"#", 1);
         Ok(())
     }
 }

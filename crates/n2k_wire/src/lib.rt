@@ -18,7 +18,8 @@
 //! - `split_id` splits a CAN identifier into priority, PGN, source and destination (`Id`), and `join_id` joins them.
 //! - `Packet` holds a message or a frame: its stamp, its `Id`, and up to 223 bytes.
 //! - `plain_text` and `candump_text` append a packet as a line, and `CandumpLines` appends packets in a row faster;
-//!   `is_interface` tests the name of an interface. `laws` has theorems that connect these calls.
+//!   `LineHead` is how the lines of a message's frames begin; `is_interface` tests the name of an interface. `laws` has
+//!   theorems that connect these calls.
 //!
 //! No other call needs memory. Each result is a defined function of the given bytes.
 //!
@@ -35,6 +36,7 @@ mod entry;
 mod fault;
 mod identifier;
 pub mod laws;
+mod line_head;
 mod packet;
 mod plain;
 mod plain_fast;
@@ -46,6 +48,7 @@ pub use candump_writer::{CandumpLines, candump_text};
 pub use entry::{BadCause, Entry, LONGEST_LINE, LineReader, Packing, read_line};
 pub use fault::WireFault;
 pub use identifier::{Id, join_id, split_id};
+pub use line_head::LineHead;
 pub use packet::{GREATEST_PGN, Packet};
 pub use plain::GREATEST_ADDRESS;
 pub use plain_writer::{LINE_ROOM, plain_text, write_line};

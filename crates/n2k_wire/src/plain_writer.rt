@@ -1,10 +1,12 @@
 //! A packet as a plain line, `2016-02-28T19:57:02.364Z,2,127250,67,255,8,ff,10,3b,ff,7f,ce,f5,fc`, written in place:
 //! zeros are appended, and pieces of constant length are written over them, each perhaps only in part used.
 ghost use Rattle.std.specs.Prelude.{◌≡◌, ◌+◌, ◌*◌, ◌/◌, ◌%◌, ◌^◌, ◌<◌, ◌≤◌, ◌++◌, ◌∷◌, [], codes, length, map, take};
-ghost use Rattle.std.specs.Prelude.{OnOk, OnErr};
+ghost use Rattle.std.specs.Prelude.{OnOk, OnErr, false};
 ghost use Rattle.std.specs.List.{flat_map};
 ghost use Rattle.n2k_wire.specs.Packet.{longest_message};
-ghost use Rattle.n2k_wire.specs.Inner.Digits.{lower_lane};
+ghost use Rattle.hex.specs.Hex.{encode_lower, encode_upper};
+ghost use Rattle.n2k_wire.specs.Inner.Digits.{digit_lane};
+ghost use Rattle.n2k_wire.specs.Heads.{begins_candump, plain_end, plain_head};
 ghost use Rattle.n2k_wire.specs.Texts.{byte_column, number_column, plain_text};
 
 use crate::candump::FRAME_PAYLOAD;
@@ -125,27 +127,38 @@ fn put_pgn(text: &mut [u8], at: usize, pgn: u32) -> usize
     }
 }
 
-/// The digits of numbers below 16 in lower case.
+/// The digits of numbers below 16, with letters from `letter` on.
 #[inline(always)]
-fn lower_digits(numbers: u8x16) -> u8x16
-    ensures { result ≡ map lower_lane numbers }
+fn digits_from(numbers: u8x16, letter: u8) -> u8x16
+    requires { 10 ≤ letter }
+    ensures { result ≡ map (digit_lane letter) numbers }
 {
     numbers.simd_gt(u8x16::splat(9)).select(
-        numbers + u8x16::splat(b'a' - 10),
+        numbers + u8x16::splat(letter - 10),
         numbers + u8x16::splat(b'0'),
     )
 }
 
-/// The text after the destination in the line of eight bytes.
+/// The digits of eight bytes, with letters from `letter` on: `a` or `A`.
 #[inline(always)]
-fn end_column(data: &[u8; FRAME_PAYLOAD]) -> [u8; 32]
-    ensures { take 27 result ≡ number_column 8 ++ flat_map byte_column «data».now ++ codes "\n" }
+pub(crate) fn eight_digits(data: &[u8; FRAME_PAYLOAD], letter: u8) -> u8x16
+    requires { 10 ≤ letter }
+    ensures lower { letter ≡ 97 → result ≡ encode_lower «data».now }
+    ensures upper { letter ≡ 65 → take 16 result ≡ encode_upper «data».now }
 {
     let bytes = u8x8::from_array(*data);
     let high = bytes >> u8x8::splat(4);
     let low = bytes & u8x8::splat(15);
     let both: u8x16 = high.shuffle(low, [0, 8, 1, 9, 2, 10, 3, 11, 4, 12, 5, 13, 6, 14, 7, 15]);
-    let digits = lower_digits(both);
+    digits_from(both, letter)
+}
+
+/// The text after the destination in the line of eight bytes.
+#[inline(always)]
+fn end_column(data: &[u8; FRAME_PAYLOAD]) -> [u8; 32]
+    ensures { take 27 result ≡ plain_end «data».now }
+{
+    let digits = eight_digits(data, b'a');
     let line: u8x32 = digits.shuffle(
         u8x16::from_array(*b",8\n............."),
         [
@@ -183,12 +196,11 @@ fn put_bytes(text: &mut [u8], at: usize, bytes: &[u8]) -> usize
 
 /// Writes the text after the destination.
 #[inline(always)]
-fn put_end(text: &mut [u8], at: usize, data: &[u8]) -> usize
+pub(crate) fn put_end(text: &mut [u8], at: usize, data: &[u8]) -> usize
     requires room { at + 32 ≤ length text.old }
     requires bytes { at + 3 * length «data».now + 5 ≤ length text.old }
     requires short { length «data».now ≤ 223 }
-    ensures bytes { take result text.new ≡ take at text.old ++ number_column (length «data».now)
-        ++ flat_map byte_column «data».now ++ codes "\n" }
+    ensures bytes { take result text.new ≡ take at text.old ++ plain_end «data».now }
     ensures end { result ≤ length text.old }
 {
     if let Some(data) = data.as_array() {
@@ -198,6 +210,26 @@ fn put_end(text: &mut [u8], at: usize, data: &[u8]) -> usize
     let at = put(text, at, &column, count);
     let at = put_bytes(text, at, data);
     put(text, at, b"\n", 1)
+}
+
+/// Writes the text before the length at a place of the text, and returns the place after it.
+#[inline(always)]
+pub(crate) fn put_head(text: &mut [u8], at: usize, packet: &Packet) -> usize
+    requires { at + 53 ≤ length text.old }
+    ensures bytes { take result text.new ≡ take at text.old ++ plain_head packet.now }
+    ensures plain { begins_candump (plain_head packet.now) ≡ false }
+    ensures end { result ≤ at + 53 }
+    ensures len { length text.new ≡ length text.old }
+{
+    let id = packet.id();
+    let (stamp, len) = packet.stamp_buffer();
+    let at = put(text, at, stamp, len);
+    let at = put(text, at, &[b',', b'0' + id.prio], 2);
+    let at = put_pgn(text, at, id.pgn);
+    let (column, count) = small_column(id.src);
+    let at = put(text, at, &column, count);
+    let (column, count) = small_column(id.dst);
+    put(text, at, &column, count)
 }
 
 /// Writes the plain line of a packet at a place of the text, and returns the place after it. `LINE_ROOM` bytes are
@@ -218,15 +250,7 @@ pub fn write_line(text: &mut [u8], at: usize, packet: &Packet) -> usize
     ensures bytes { take result text.new ≡ take at text.old ++ plain_text packet.now }
     ensures end { result ≤ length text.old }
 {
-    let id = packet.id();
-    let (stamp, len) = packet.stamp_buffer();
-    let at = put(text, at, stamp, len);
-    let at = put(text, at, &[b',', b'0' + id.prio], 2);
-    let at = put_pgn(text, at, id.pgn);
-    let (column, count) = small_column(id.src);
-    let at = put(text, at, &column, count);
-    let (column, count) = small_column(id.dst);
-    let at = put(text, at, &column, count);
+    let at = put_head(text, at, packet);
     put_end(text, at, packet.data())
 }
 
