@@ -1,12 +1,15 @@
 -- What fields ask of the first eight bytes, put together.
-use Rattle.std.proofs.Common.{◌≡◌, ℕ, ◌+◌, ◌-◌, ◌*◌, ◌/◌, ◌%◌, ◌^◌, ◌<◌, ◌≤◌, ◌≢◌, min, max, bit_and, bit_or, true, false, List, length, slice_get, Option, Some, sym, ap, ◌∙◌, arith, lit<}
-use Rattle.std.proofs.lemmas.Nat.{pow-add, shl_whole}
+use Rattle.std.proofs.Common.{◌≡◌, ℕ, ◌+◌, ◌-◌, ◌*◌, ◌/◌, ◌%◌, ◌^◌, ◌<◌, ◌≤◌, ◌≢◌, min, max, bit_and, bit_or, true, false, List, length, get_or, Option, Some, sym, ap, ◌∙◌, arith, lit<}
+use Rattle.std.proofs.lemmas.Nat.{and_assoc, and_mask, and_shr, pow-add, shl_whole}
 use Rattle.std.proofs.lemmas.Nat.Bits.{and_high, bit_at_and, bit_at_or, same_from_bits}
 use Rattle.std.proofs.Math.Nat.{one-le-pow}
+use Rattle.std.proofs.lemmas.Option.{slice_get-get_or}
 use Rattle.n2k_table.specs.declared.index.Candidate.{Candidate}
 use Rattle.n2k_table.specs.Bits.{raw}
 use Rattle.n2k_table.specs.Definition.{DefinitionParts}
 use Rattle.n2k_table.specs.Inner.Index.{IsOfPlace}
+use Rattle.n2k_table.specs.Inner.MatchPrefilter.{IsMatchPrefilter}
+use Rattle.n2k_table.specs.declared.match_prefilter.MatchPrefilter.{MatchPrefilter}
 use Rattle.n2k_table.specs.Field.{FieldParts}
 use Rattle.n2k_table.specs.Table.{has_match_value, matches}
 use Rattle.n2k_table.proofs.RawBits.{raw_out_of}
@@ -46,7 +49,26 @@ has_value payload f m value is match = grind arith
 pub in_word : (payload : List ℕ) (a n : ℕ) → a + n ≤ 64 → raw payload 0 64 / 2 ^ a % 2 ^ n ≡ raw payload a n
 in_word payload a n inside = grind (arith, raw_out_of)
 
--- data whose first eight bytes differ don't match the definition of a candidate
-pub candidate_differs : (payload : List ℕ) (ds : List DefinitionParts) (c : Candidate) → IsOfPlace ds c → 8 ≤ length payload → bit_and (raw payload 0 64) c.match_prefilter.mask ≢ c.match_prefilter.wanted
-    → (d : DefinitionParts) → slice_get ds c.place ≡ Some d → matches payload d ≡ false
-candidate_differs payload ds c is enough differs d at = grind arith
+-- bits under a mask that has all of them are those that are wanted
+wanted_bits : (word mask wanted a n value : ℕ) → bit_and word mask ≡ wanted → bit_and (mask / 2 ^ a) (2 ^ n - 1) ≡ 2 ^ n - 1 → bit_and (wanted / 2 ^ a) (2 ^ n - 1) ≡ value
+    → word / 2 ^ a % 2 ^ n ≡ value
+wanted_bits word mask wanted a n value is all same =
+    sym (and_mask (word / 2 ^ a) n) ∙ ap (bit_and (word / 2 ^ a)) (sym all) ∙ sym (and_assoc (2 ^ n - 1) (word / 2 ^ a) (mask / 2 ^ a))
+    ∙ ap (λ w. bit_and w (2 ^ n - 1)) (sym (and_shr word mask a) ∙ ap (λ w. w / 2 ^ a) is) ∙ same
+
+-- the field at whose bits they stand has what it asks for
+pub settled_field : (payload : List ℕ) (f : FieldParts) (m : Option ℕ) (value mask wanted : ℕ) → m ≡ Some value → f.at + f.bits ≤ 64 → 8 ≤ length payload
+    → bit_and (raw payload 0 64) mask ≡ wanted → bit_and (mask / 2 ^ f.at) (2 ^ f.bits - 1) ≡ 2 ^ f.bits - 1 → bit_and (wanted / 2 ^ f.at) (2 ^ f.bits - 1) ≡ value
+    → has_match_value m f payload ≡ true
+settled_field payload f m value mask wanted is inside enough same all there =
+    let raw_is : raw payload f.at f.bits ≡ value = sym (in_word payload f.at f.bits inside) ∙ wanted_bits (raw payload 0 64) mask wanted f.at f.bits value same all there in
+    grind (arith, raw_is)
+
+-- data whose first eight bytes differ don't match
+pub differs : (payload : List ℕ) (p : MatchPrefilter) (d : DefinitionParts) → IsMatchPrefilter p d.fields → 8 ≤ length payload → bit_and (raw payload 0 64) p.mask ≢ p.wanted
+    → false ≡ matches payload d
+differs payload p d is enough other = grind arith
+
+-- what is asked at the place of a candidate is what its definition asks for
+pub asked_there : (ds : List DefinitionParts) (c : Candidate) (d : DefinitionParts) → IsOfPlace ds c → c.place < length ds → d ≡ get_or ds c.place d → IsMatchPrefilter c.match_prefilter d.fields
+asked_there ds c d is inside at = grind (arith, slice_get-get_or)

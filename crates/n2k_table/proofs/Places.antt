@@ -125,14 +125,6 @@ pub candidate_here : (q : DefinitionParts → Bool) (ds : List DefinitionParts) 
     → c.place < length ds → d ≡ get_or ds c.place d → first_at q ds (drop k (places_of cs)) ≡ cond (q d) (Some d) (first_at q ds (drop (k + 1) (places_of cs)))
 candidate_here q ds cs k c e d lt is within at = grind (arith, length-map, get_or-map, first_here)
 
-passed : (q : DefinitionParts → Bool) (rest o : Option DefinitionParts) → ((d : DefinitionParts) → o ≡ Some d → q d ≡ false) → option_map_or (λ d. cond (q d) (Some d) rest) o rest ≡ rest
-passed q rest o fails = grind arith
-
--- a candidate whose definition doesn't pass is not chosen
-pub passed_over : (q : DefinitionParts → Bool) (ds : List DefinitionParts) (cs : List Candidate) (k : ℕ) (c e : Candidate) → k < length cs → c ≡ get_or cs k e
-    → ((d : DefinitionParts) → slice_get ds c.place ≡ Some d → q d ≡ false) → first_at q ds (drop k (places_of cs)) ≡ first_at q ds (drop (k + 1) (places_of cs))
-passed_over q ds cs k c e lt is fails = grind (arith, get_or-map (λ (x : Candidate). x.place) cs k e 0 lt, drop_more (places_of cs) k 0 (omega (arith, lt, (length-map cs (λ (x : Candidate). x.place)))))
-
 -- a definition of a PGN at its place among those of the PGN
 filter_from : (pgn : ℕ) (prefix ds : List DefinitionParts) (k : ℕ)
     → slice_get (filter (is_of pgn) ds) k ≡ option_and_then (slice_get (prefix ++ ds)) (slice_get (places_from (length prefix) pgn (pgns ds)) k)

@@ -1,8 +1,9 @@
 -- Raw values, a byte at a time and in parts.
-use Rattle.std.proofs.Common.{◌≡◌, ℕ, zero, suc, ◌+◌, ◌-◌, ◌*◌, ◌/◌, ◌%◌, ◌^◌, ◌<◌, ◌≤◌, List, length, slice_index, take, drop, refl, sym, ap, ◌∙◌, arith, lit<}
-use Rattle.std.specs.Int.{w32, w64, from_le_bytes}
-use Rattle.std.proofs.lemmas.List.{get_or-take, get_or-drop}
-use Rattle.std.proofs.lemmas.Nat.{pow-add, shr_high, mod_low}
+use Rattle.std.proofs.Common.{◌≡◌, ℕ, zero, suc, ◌+◌, ◌-◌, ◌*◌, ◌/◌, ◌%◌, ◌^◌, ◌<◌, ◌≤◌, bit_and, ◌⊎◌, inl, inr, List, ◌++◌, length, replicate, slice_index, drop, refl, sym, ap, ◌∙◌, arith, lit<}
+use Rattle.std.specs.Int.{w64, from_le_bytes}
+use Rattle.std.proofs.lemmas.Bool.{cases_lt}
+use Rattle.std.proofs.lemmas.List.{get_or-drop, get_or_append_left, get_or-append_right, get_or-replicate, get_or_past}
+use Rattle.std.proofs.lemmas.Nat.{and_mask, pow-add, shr_high, mod_low}
 use Rattle.std.proofs.Math.Nat.{pow-suc, mul-le-mul_left, pow-le-pow_right}
 use Rattle.n2k_table.specs.Bits.{bit, raw}
 
@@ -100,15 +101,18 @@ raw_out_of d p s n whole within =
     ap (raw d p) count ∙ raw_split d p s (n + m) ∙ ap (λ r. r * 2 ^ s + low) (raw_split d (p + s) n m) in
     ap (λ r. r / 2 ^ s % 2 ^ n) parts ∙ ap (λ r. r % 2 ^ n) (shr_high (high * 2 ^ n + here) s low (raw_lt d p s)) ∙ mod_low high n here (raw_lt d (p + s) n)
 
--- a byte at whose first bit p lies, and the bits above it
-next_byte : (d : List ℕ) (f k m : ℕ) → slice_index d (f + k) < 256 → raw d (8 * f + 8 * k) (m + 8) ≡ slice_index d (f + k) + 256 * raw d (8 * f + 8 * (k + 1)) m
-next_byte d f k m small =
-    let byte : (8 * f + 8 * k) / 8 ≡ f + k = omega arith in
-    let place : 8 * f + 8 * k + 8 ≡ 8 * f + 8 * (k + 1) = omega arith in
-    rw (byte, place) at (raw_byte d (8 * f + 8 * k) m (omega arith) (rw byte small))
+-- bits out of the first word, under their mask
+pub bits_of_word : (d : List ℕ) (word at bits mask : ℕ) → word ≡ raw d 0 64 → mask ≡ 2 ^ bits - 1 → at + bits ≤ 64 → bit_and (word / 2 ^ at) mask ≡ raw d at bits
+bits_of_word d word at bits mask is all inside =
+    ap (bit_and (word / 2 ^ at)) all ∙ and_mask (word / 2 ^ at) bits ∙ ap (λ w. w / 2 ^ at % 2 ^ bits) is ∙ raw_out_of d 0 at bits 64 inside
+    ∙ ap (λ p. raw d p bits) (let e : 0 + at ≡ at = omega arith in e)
 
-index_taken : (n : ℕ) (d : List ℕ) (f k : ℕ) → k < n → slice_index (take n (drop f d)) k ≡ slice_index d (f + k)
-index_taken n d f k lt = get_or-take n (drop f d) k 0 lt ∙ get_or-drop f d k 0
+-- a byte, and the bits above it
+next_byte : (d : List ℕ) (k m : ℕ) → slice_index d k < 256 → raw d (8 * k) (m + 8) ≡ slice_index d k + 256 * raw d (8 * (k + 1)) m
+next_byte d k m small =
+    let byte : 8 * k / 8 ≡ k = omega arith in
+    let place : 8 * k + 8 ≡ 8 * (k + 1) = omega arith in
+    rw (byte, place) at (raw_byte d (8 * k) m (omega arith) (rw byte small))
 
 -- a number's eight bytes, each worth 256 times the one before
 worth : (a b c d e f g h : ℕ)
@@ -116,29 +120,26 @@ worth : (a b c d e f g h : ℕ)
     ≡ a + 256 * (b + 256 * (c + 256 * (d + 256 * (e + 256 * (f + 256 * (g + 256 * (h + 256 * 0)))))))
 worth a b c d e f g h = omega arith
 
--- eight bytes as one number
-pub raw_eight_bytes : (d eight : List ℕ) (f : ℕ) → ((k : ℕ) → slice_index d k < 256) → eight ≡ take 8 (drop f d) → from_le_bytes w64 eight ≡ raw d (8 * f) 64
+-- eight bytes as one number; those that are missing count as 0
+pub raw_eight_bytes : (d eight : List ℕ) → ((k : ℕ) → slice_index d k < 256) → ((k : ℕ) → k < 8 → slice_index eight k ≡ slice_index d k) → from_le_bytes w64 eight ≡ raw d 0 64
 unfolding raw
-raw_eight_bytes d eight f small is =
-    let at = λ (k : ℕ) (lt : k < 8). ap (λ (bs : List ℕ). slice_index bs k) is ∙ index_taken 8 d f k lt in
-    let b = λ (k : ℕ). slice_index d (f + k) in
-    let next = λ (k m : ℕ). next_byte d f k m (small (f + k)) in
-    let start : 8 * f ≡ 8 * f + 8 * 0 = omega arith in
+raw_eight_bytes d eight small at =
+    let b = λ (k : ℕ). slice_index d k in
+    let next = λ (k m : ℕ). next_byte d k m (small k) in
     rw (at 0 (lit< tt), at 1 (lit< tt), at 2 (lit< tt), at 3 (lit< tt), at 4 (lit< tt), at 5 (lit< tt), at 6 (lit< tt), at 7 (lit< tt))
     (worth (b 0) (b 1) (b 2) (b 3) (b 4) (b 5) (b 6) (b 7)
-    ∙ sym (ap (λ p. raw d p 64) start ∙ next 0 56 ∙ ap (λ r. b 0 + 256 * r) (next 1 48 ∙ ap (λ r. b 1 + 256 * r) (next 2 40 ∙ ap (λ r. b 2 + 256 * r) (next 3 32
+    ∙ sym (next 0 56 ∙ ap (λ r. b 0 + 256 * r) (next 1 48 ∙ ap (λ r. b 1 + 256 * r) (next 2 40 ∙ ap (λ r. b 2 + 256 * r) (next 3 32
     ∙ ap (λ r. b 3 + 256 * r) (next 4 24 ∙ ap (λ r. b 4 + 256 * r) (next 5 16 ∙ ap (λ r. b 5 + 256 * r) (next 6 8 ∙ ap (λ r. b 6 + 256 * r) (next 7 0)))))))))
 
--- four bytes as one number
-pub raw_four_bytes : (d four : List ℕ) (f : ℕ) → ((k : ℕ) → slice_index d k < 256) → four ≡ take 4 (drop f d) → from_le_bytes w32 four ≡ raw d (8 * f) 32
-unfolding raw
-raw_four_bytes d four f small is =
-    let at = λ (k : ℕ) (lt : k < 4). ap (λ (bs : List ℕ). slice_index bs k) is ∙ index_taken 4 d f k lt in
-    let b = λ (k : ℕ). slice_index d (f + k) in
-    let next = λ (k m : ℕ). next_byte d f k m (small (f + k)) in
-    let start : 8 * f ≡ 8 * f + 8 * 0 = omega arith in
-    let none : raw d (8 * f + 8 * (3 + 1)) 0 ≡ 0 = refl in
-    rw (at 0 (lit< tt), at 1 (lit< tt), at 2 (lit< tt), at 3 (lit< tt)) (omega (arith, ap (λ p. raw d p 32) start, next 0 24, next 1 16, next 2 8, next 3 0, none))
+-- fewer than eight bytes, and zeros after them
+pub raw_padded : (d eight : List ℕ) → length d < 8 → ((k : ℕ) → slice_index d k < 256) → eight ≡ d ++ drop (length d) (replicate 8 0) → from_le_bytes w64 eight ≡ raw d 0 64
+raw_padded d eight few small is = raw_eight_bytes d eight small (λ k lt. ap (λ (bs : List ℕ). slice_index bs k) is ∙ at k lt (cases_lt k (length d)))
+  where
+    at : (k : ℕ) → k < 8 → (k < length d) ⊎ (length d ≤ k) → slice_index (d ++ drop (length d) (replicate 8 0)) k ≡ slice_index d k
+    at k lt (inl inside) = get_or_append_left d (drop (length d) (replicate 8 0)) 0 k inside
+    at k lt (inr past) =
+        get_or-append_right d (drop (length d) (replicate 8 0)) (length d) k 0 refl past ∙ get_or-drop (length d) (replicate 8 0) (k - length d) 0
+        ∙ get_or-replicate 8 (length d + (k - length d)) 0 0 (omega (arith, lt, past)) ∙ sym (get_or_past d k 0 past)
 
 -- bits after the first bytes
 pub raw_drop : (d : List ℕ) (f a n : ℕ) → raw (drop f d) a n ≡ raw d (8 * f + a) n
@@ -149,30 +150,3 @@ raw_drop d f a (suc n) =
     let place : (8 * f + a + n) % 8 ≡ (a + n) % 8 = omega arith in
     let here : bit (drop f d) (a + n) ≡ bit d (8 * f + a + n) = rw (byte, place, get_or-drop f d ((a + n) / 8) 0) refl in
     rw (raw_drop d f a n, here) refl
-
--- the bytes of four to eight as two numbers of four: those of the second that are not of the first stand above them
-pub raw_short : (d : List ℕ) (low high : ℕ) → 4 ≤ length d → length d < 8 → low ≡ raw d 0 32 → high ≡ raw d (8 * (length d - 4)) 32
-    → low + high / 2 ^ (8 * (8 - length d)) * 4294967296 ≡ raw d 0 (8 * length d)
-raw_short d low high many few low_is high_is =
-    let n = 8 * length d - 32 in
-    let s = 8 * (8 - length d) in
-    let p = 8 * (length d - 4) in
-    let count : 32 ≡ s + n = omega (arith, many, few) in
-    let place : p + s ≡ 32 = omega (arith, many, few) in
-    let whole : 8 * length d ≡ 32 + n = omega (arith, many) in
-    let parts : high ≡ raw d 32 n * 2 ^ s + raw d p s = high_is ∙ ap (raw d p) count ∙ raw_split d p s n ∙ ap (λ q. raw d q n * 2 ^ s + raw d p s) place in
-    let rest : high / 2 ^ s ≡ raw d 32 n = ap (λ h. h / 2 ^ s) parts ∙ shr_high (raw d 32 n) s (raw d p s) (raw_lt d p s) in
-    omega (arith, ap (raw d 0) whole, raw_split d 0 32 n, rest, low_is)
-
--- up to three bytes
-pub raw_one : (d : List ℕ) → ((k : ℕ) → slice_index d k < 256) → slice_index d 0 ≡ raw d 0 8
-unfolding raw
-raw_one d small = let none : raw d 8 0 ≡ 0 = refl in omega (arith, raw_byte d 0 0 refl (small 0), none)
-
-pub raw_two : (d : List ℕ) → ((k : ℕ) → slice_index d k < 256) → slice_index d 0 + 256 * slice_index d 1 ≡ raw d 0 16
-unfolding raw
-raw_two d small = let none : raw d 16 0 ≡ 0 = refl in omega (arith, raw_byte d 0 8 refl (small 0), raw_byte d 8 0 refl (small 1), none)
-
-pub raw_three : (d : List ℕ) → ((k : ℕ) → slice_index d k < 256) → slice_index d 0 + 256 * (slice_index d 1 + 256 * slice_index d 2) ≡ raw d 0 24
-unfolding raw
-raw_three d small = let none : raw d 24 0 ≡ 0 = refl in omega (arith, raw_byte d 0 16 refl (small 0), raw_byte d 8 8 refl (small 1), raw_byte d 16 0 refl (small 2), none)

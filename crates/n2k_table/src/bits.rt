@@ -1,6 +1,7 @@
 //! The bits of a message: raw values, and the greatest of them.
 ghost use Rattle.std.specs.Prelude.{◌≡◌, ◌+◌, ◌*◌, ◌-◌, ◌^◌, ◌<◌, ◌≤◌, length};
 ghost use Rattle.n2k_table.specs.Bits.{raw, greatest};
+ghost use Rattle.n2k_table.specs.Inner.Kept.{IsWordMask};
 
 /// The most bits that lie in eight bytes wherever they begin.
 const MOST_AT_ONCE: u32 = 57;
@@ -11,31 +12,23 @@ pub(crate) const WORD_BITS: u32 = 64;
 /// The lower bits of a raw value that is put together of two.
 const HALF: u32 = 32;
 
-/// Fewer than eight bytes as one number, the first lowest: of four or more, which may have bytes in common, two numbers.
-/// It is not inlined: most data have eight bytes.
+/// Fewer than eight bytes as one number, the first lowest. It is not inlined: most data have eight bytes.
+#[tactic(auto, using(crate::proofs::RawBits::raw_padded))]
 #[cold]
 #[inline(never)]
 fn short_word(data: &[u8]) -> u64
     requires { length «data».now < 8 }
-    ensures { result ≡ raw «data».now 0 (8 * length «data».now) }
+    ensures { result ≡ raw «data».now 0 64 }
 {
-    if let (Some(low), Some(high)) = (data.first_chunk::<4>(), data.last_chunk::<4>()) {
-        let rest = u64::from(u32::from_le_bytes(*high)) >> (8 * (8 - data.len()));
-        return u64::from(u32::from_le_bytes(*low)) + rest * 0x1_0000_0000;
-    }
-    match data {
-        [a, b, c] => u64::from(*a) + 0x100 * (u64::from(*b) + 0x100 * u64::from(*c)),
-        [a, b] => u64::from(*a) + 0x100 * u64::from(*b),
-        [a] => u64::from(*a),
-        _ => 0,
-    }
+    let mut eight = [0; 8];
+    eight[..data.len()].copy_from_slice(data);
+    u64::from_le_bytes(eight)
 }
 
-/// The first eight bytes as one number, the first lowest, or all if there are fewer.
+/// The first eight bytes as one number, the first lowest. A byte that is missing counts as 0.
 #[inline(always)]
 pub(crate) fn first_word(data: &[u8]) -> u64
-    ensures all { length «data».now < 8 → result ≡ raw «data».now 0 (8 * length «data».now) }
-    ensures eight { 8 ≤ length «data».now → result ≡ raw «data».now 0 64 }
+    ensures { result ≡ raw «data».now 0 64 }
 {
     match data.first_chunk::<8>() {
         Some(eight) => u64::from_le_bytes(*eight),
@@ -72,18 +65,18 @@ fn raw_of_two(data: &[u8], at: usize, bits: u32) -> u64
     (high << HALF) + low
 }
 
-/// The raw value of some bits, if the greatest of so many is known: from the first eight bytes, from those up to its
-/// last bit, or of two halves.
+/// The raw value of some bits, the sum of bit `at + j` times `2^j`: from the first eight bytes, from those up to its last
+/// bit, or of two halves.
 #[tactic(auto, using(crate::proofs::RawBits::raw_lt))]
 #[inline(always)]
-pub(crate) fn raw_with_mask(data: &[u8], at: u32, bits: u32, mask: u64) -> u64
+pub(crate) fn raw(data: &[u8], at: u32, bits: u32) -> u64
     requires within { at + bits ≤ 8 * length «data».now }
     requires some { 1 ≤ bits }
     requires room { bits ≤ 64 }
-    requires mask { mask ≡ 2 ^ bits - 1 }
     ensures value { result ≡ raw «data».now at bits }
     ensures range { result < 2 ^ bits }
 {
+    let mask = greatest(false, bits);
     let at = at as usize;
     let end = at + bits as usize;
     if end <= WORD_BITS as usize {
@@ -93,18 +86,6 @@ pub(crate) fn raw_with_mask(data: &[u8], at: u32, bits: u32, mask: u64) -> u64
     } else {
         raw_of_two(data, at, bits)
     }
-}
-
-/// The raw value of some bits, the sum of bit `at + j` times `2^j`.
-#[inline(always)]
-pub(crate) fn raw(data: &[u8], at: u32, bits: u32) -> u64
-    requires within { at + bits ≤ 8 * length «data».now }
-    requires some { 1 ≤ bits }
-    requires room { bits ≤ 64 }
-    ensures value { result ≡ raw «data».now at bits }
-    ensures range { result < 2 ^ bits }
-{
-    raw_with_mask(data, at, bits, greatest(false, bits))
 }
 
 /// Half of the values of some bits.
@@ -124,4 +105,15 @@ pub(crate) fn greatest(signed: bool, bits: u32) -> u64
 {
     let half = half(bits);
     if signed { half - 1 } else { half - 1 + half }
+}
+
+/// The mask of some bits, if they lie in the first eight bytes.
+pub(crate) fn word_mask(at: u32, bits: u32) -> Option<u64>
+    requires { at + bits < 2 ^ 32 }
+    ensures { IsWordMask result at bits }
+{
+    if bits == 0 || at + bits > WORD_BITS {
+        return None;
+    }
+    Some(greatest(false, bits))
 }

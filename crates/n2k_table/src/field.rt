@@ -1,8 +1,9 @@
 //! A field, and what it shows.
-ghost use Rattle.std.specs.Prelude.{◌≡◌, ◌≤◌, ◌+◌, ◌*◌, ◌/◌, drop, length, IfSome};
+ghost use Rattle.std.specs.Prelude.{◌≡◌, ◌≤◌, ◌<◌, ◌+◌, ◌*◌, ◌/◌, ◌^◌, drop, length, IfSome};
 ghost use Rattle.n2k_table.specs.Inner.LineBuffer.{AddsText};
+ghost use Rattle.n2k_table.specs.Bits.{raw};
 
-use crate::bits::{raw, raw_with_mask};
+use crate::bits::raw;
 use crate::coding::Coding;
 use crate::field_value::{FieldValue, digits_value, name_value, text_value};
 use crate::flags::flags_value;
@@ -49,6 +50,8 @@ pub struct Field {
     pub(crate) bits: u32,
     /// How many bytes the data must have for it to lie inside them. If a string precedes it, more than any data have.
     pub(crate) end: usize,
+    /// The mask of its bits, if it lies in the first eight bytes.
+    pub(crate) mask: Option<u64>,
     /// Whether it shows the part that is there if the data end before it does.
     pub(crate) short: bool,
     /// The strings before it, from the first on. Its first bit counts from the end of the last.
@@ -74,7 +77,7 @@ impl Model for Field {
       match_value = f.match_value;
     } };
 
-    ghost invariant = { λ f. IsKept (string_bytes f.name) f.key f.at f.bits f.end f.after.items f.meaning f.match_value };
+    ghost invariant = { λ f. IsKept (string_bytes f.name) f.key f.at f.bits f.end f.mask f.after.items f.meaning f.match_value };
 }
 
 impl Field {
@@ -291,10 +294,28 @@ impl Field {
         self.end <= data.len()
     }
 
+    /// The raw value. The first eight bytes are given as one number, from which it is read if it lies there.
+    #[tactic(auto, using(crate::proofs::RawBits::raw_lt, crate::proofs::RawBits::bits_of_word))]
+    #[inline(always)]
+    fn raw(&self, data: &[u8], word: u64) -> u64
+        requires word { word ≡ raw «data».now 0 64 }
+        requires within { self.now.at + self.now.bits ≤ 8 * length «data».now }
+        requires some { 1 ≤ self.now.bits }
+        requires room { self.now.bits ≤ 64 }
+        ensures value { result ≡ raw «data».now self.now.at self.now.bits }
+        ensures range { result < 2 ^ self.now.bits }
+    {
+        match self.mask {
+            Some(mask) => (word >> self.at) & mask,
+            None => raw(data, self.at, self.bits),
+        }
+    }
+
     /// What the field shows of the data of a message or of a set, if its kind is frequent; else `shown` says it. Each
     /// result is returned where it is made, so that none is built in memory.
     #[inline(always)]
-    pub(crate) fn value<'a>(&'a self, data: &'a [u8]) -> FieldValue<'a>
+    pub(crate) fn value<'a>(&'a self, data: &'a [u8], word: u64) -> FieldValue<'a>
+        requires { word ≡ raw «data».now 0 64 }
         ensures { IfSome (value_parts result) (λ parts. parts ≡ shown self.now «data».now) }
     {
         if !self.stands_inside(data) {
@@ -305,11 +326,11 @@ impl Field {
         }
         match &self.meaning {
             Meaning::Number(scale) => {
-                let raw = raw_with_mask(data, self.at, self.bits, scale.max_raw);
+                let raw = self.raw(data, word);
                 return scale.number(raw);
             }
             Meaning::Lookup(lookup) => {
-                let raw = raw(data, self.at, self.bits);
+                let raw = self.raw(data, word);
                 return name_value(lookup.name_of(raw), self.bits, raw);
             }
             Meaning::Text => return text_value(self.bytes(data)),
@@ -330,7 +351,7 @@ impl Field {
         }
         match &self.meaning {
             Meaning::Number(scale) => {
-                let raw = raw_with_mask(data, self.at, self.bits, scale.max_raw);
+                let raw = raw(data, self.at, self.bits);
                 return scale.number(raw).shown();
             }
             Meaning::Lookup(lookup) => {

@@ -14,7 +14,7 @@ ghost use Rattle.n2k_table.specs.Field.{steps_through, steps_named, steps_to, st
 ghost use Rattle.n2k_table.specs.Field.{check_unit, number_of_bits, lookup_named, named_form, form_of, meaning_of, short_of};
 ghost use Rattle.n2k_table.specs.Field.{raw_or_none, match_value_of, field_at, field};
 
-use crate::bits::greatest;
+use crate::bits::{greatest, word_mask};
 use crate::fault::TableFault;
 use crate::field::{Field, Meaning};
 use crate::lookup::{Lookup, Lookups};
@@ -444,6 +444,7 @@ fn field_at(
         at,
         bits,
         end,
+        mask: word_mask(at, bits),
         short,
         after,
         meaning,

@@ -13,7 +13,9 @@ ghost use Rattle.n2k_table.specs.Json.{unmatched_json, chosen_json, json};
 ghost use Rattle.n2k_table.specs.Inner.Line.{are_null, has_members, key_json, member_text};
 ghost use Rattle.n2k_table.specs.Text.{text_json, character, hex_pairs};
 ghost use Rattle.n2k_table.specs.Inner.LineBuffer.{AddsText, begins};
+ghost use Rattle.n2k_table.specs.Bits.{raw};
 
+use crate::bits::first_word;
 use crate::decimal::{push_decimal, push_number};
 use crate::definition::{Definition, StoredDefinition};
 use crate::field::Field;
@@ -215,16 +217,18 @@ fn push_seldom<const SIZE: usize>(
 fn push_member<const SIZE: usize>(
     field: &Field,
     data: &[u8],
+    word: u64,
     absent: AbsentFields,
     later: &mut bool,
     line: &mut TextBuffer<SIZE>,
 ) -> Result<(), AllocError>
+    requires { word ≡ raw «data».now 0 64 }
     ensures items { let member = member_json (are_null absent) (field.now.name, shown field.now «data».now) in
         AddsText result line.old.items line.new.items (member_text later.old member) }
     ensures later { let member = member_json (are_null absent) (field.now.name, shown field.now «data».now) in
         OnOk result (later.new ≡ (later.old || is_some member)) }
 {
-    match field.value(data) {
+    match field.value(data, word) {
         FieldValue::Absent => match absent {
             AbsentFields::LeftOut => return Ok(()),
             AbsentFields::Null => push_null(field, *later, line)?,
@@ -261,10 +265,11 @@ fn push_members<const SIZE: usize>(
         IfOk result (λ later. (line.new.items ≡ line.old.items ++ join_with_byte comma ms) × (later ≡ has_members ms)) }
     ensures prefix { OnErr result (begins line.old.items line.new.items ≡ true) }
 {
+    let word = first_word(data);
     let mut later = false;
     let mut rest = fields;
     while let Some((field, others)) = rest.split_first() {
-        push_member(field, data, absent, &mut later, line)?;
+        push_member(field, data, word, absent, &mut later, line)?;
         rest = others;
     }
     Ok(later)

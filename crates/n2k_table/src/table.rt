@@ -234,11 +234,9 @@ impl Table {
             → option_map (λ d. d.now) result ≡ choice self.now pgn «data».now }
     {
         for candidate in candidates {
-            if candidate.match_prefilter.allows(data) {
-                let definition = &self.definitions[candidate.place];
-                if definition.matches(data) {
-                    return Some(definition);
-                }
+            let definition = &self.definitions[candidate.place];
+            if candidate.match_prefilter.matches(definition, data) {
+                return Some(definition);
             }
         }
         None

@@ -1,5 +1,7 @@
 //! One value of a TOML table: of which kind it is, and whether it lies in its range.
 ghost use Rattle.std.specs.Prelude.{◌≡◌, ◌≤◌, map, option_map, IfOk};
+ghost use Rattle.std.specs.List.{list_any};
+ghost use Rattle.std.specs.Str.{bytes_eq};
 ghost use Rattle.toml.specs.Data.{get_member};
 ghost use Rattle.toml.specs.View.{view, table_view};
 ghost use Rattle.n2k_wire.specs.Views.{Gives};
@@ -68,6 +70,13 @@ pub(crate) enum Section {
     Repeat(TableFormat),
     /// A field of this kind, in a table of this format.
     Field(TableFormat, FieldKind, Holder),
+}
+
+/// Whether a key is one of these.
+fn is_among(key: &str, keys: &[&str]) -> bool
+    ensures { result ≡ list_any (λ one. bytes_eq key.now one.now) keys.now }
+{
+    keys.iter().any(|one| key == *one)
 }
 
 impl TableFormat {
@@ -190,20 +199,14 @@ impl Section {
         ensures { result ≡ is_key self key.now }
     {
         match self {
-            Section::Document => key == "format" || key == "lookup" || key == "pgn",
-            Section::Lookup => key == "name" || key == "entries",
+            Section::Document => is_among(key, &["format", "lookup", "pgn"]),
+            Section::Lookup => is_among(key, &["name", "entries"]),
             Section::Definition(format) => {
-                key == "number"
-                    || key == "kind"
-                    || key == "description"
-                    || key == "fields"
+                is_among(key, &["number", "kind", "description", "fields"])
                     || (format.has_sets() && key == "repeat")
             }
             Section::Repeat(format) => {
-                key == "at"
-                    || key == "bits"
-                    || key == "fields"
-                    || (format.is_extended() && key == "after")
+                is_among(key, &["at", "bits", "fields"]) || (format.is_extended() && key == "after")
             }
             Section::Field(format, kind, holder) => {
                 key == "name"

@@ -52,12 +52,17 @@ abbrev pub left_beside : ℕ → Option ℕ → Option ℕ
 left_beside room None = None
 left_beside room (Some n) = if nat_le n room then Some (room - n) else None
 
+-- if there is a mask, the bits lie in the first eight bytes, and it is theirs
+abbrev pub IsWordMask : Option ℕ → ℕ → ℕ → Type 0
+IsWordMask mask at bits = IfSome mask (λ m. (1 ≤ bits) × (at + bits ≤ 64) × (m ≡ 2 ^ bits - 1))
+
 -- What the code keeps of each field: also the text before its value, and a place that a message can have.
-pub record IsKept (name before_value : List ℕ) (at bits needed : ℕ) (after : List Step) (meaning : CodeMeaning)
-    (match_value : Option ℕ) : Type 0 where
+pub record IsKept (name before_value : List ℕ) (at bits needed : ℕ) (word_mask : Option ℕ) (after : List Step)
+    (meaning : CodeMeaning) (match_value : Option ℕ) : Type 0 where
   pub key : before_value ≡ key_json true name
   pub inside : at + bits ≤ message_bits
   pub fixed : fixed_place after at + bits ≤ message_bits
   pub end : needed ≡ bytes_needed after at bits
+  pub mask : IsWordMask word_mask at bits
   pub room : HasRoom meaning bits
   pub room_match : IfSome match_value (λ _. (1 ≤ bits) × (bits ≤ most_number_bits))

@@ -1,8 +1,8 @@
 //! Examples of `n2k_wire`.
 use super::frame_in;
 use n2k_wire::{
-    BadCause, CandumpLines, Entry, Id, LINE_ROOM, LineReader, Packet, Packing, candump_text,
-    is_interface, join_id, plain_text, read_line, split_id, write_line,
+    BadCause, CandumpLines, Entry, Id, LINE_ROOM, LineHead, LineReader, Packet, Packing,
+    candump_text, is_interface, join_id, plain_text, read_line, split_id, write_line,
 };
 use std::test::Fail;
 
@@ -176,5 +176,32 @@ fn candump_texts_in_a_row(rt: HostRuntime) -> Result<(), Fail> {
     lines.append(alloc, &packet, &mut text)?;
     let wanted = "(0000000010.300000) can0 18EAFF01#14F001\n";
     assert_eq!(rt; text.as_slice(), wanted.repeat(alloc, 2)?.as_bytes());
+    Ok(())
+}
+
+// CandumpLines::set_head
+#[test]
+fn candump_heads(rt: HostRuntime) -> Result<(), Fail> {
+    let alloc = rt.alloc();
+    assert!(rt; is_interface(b"can0"));
+    let (mut lines, mut head) = (CandumpLines::new("can0"), LineHead::EMPTY);
+    lines.set_head(&frame_in("(1.0) can0 18EAFF01#14F001")?, &mut head)?;
+    let mut text = Vec::new(alloc);
+    head.append(alloc, &[0x14, 0xf0], &mut text)?;
+    let wanted = "(0000000001.000000) can0 18EAFF01#14F0\n";
+    assert_eq!(rt; text.as_slice(), wanted.as_bytes());
+    Ok(())
+}
+
+// LineHead::set_plain, LineHead::append
+#[test]
+fn plain_heads(rt: HostRuntime) -> Result<(), Fail> {
+    let alloc = rt.alloc();
+    let mut head = LineHead::EMPTY;
+    head.set_plain(&frame_in("(1.0) can0 18EAFF01#14F001")?);
+    let mut text = Vec::new(alloc);
+    head.append(alloc, &[0x14, 0xf0], &mut text)?;
+    let wanted = "1970-01-01T00:00:01.000Z,6,59904,1,255,2,14,f0\n";
+    assert_eq!(rt; text.as_slice(), wanted.as_bytes());
     Ok(())
 }

@@ -10,11 +10,8 @@ returns-in-Number c =
     let kept = c.self.invariant in
     let inside = ap (λ (f : FieldParts). lies_inside f payload) c.self.view_is ∙ sym c.if-not-lies_inside.ensures in
     (rw c.number.ensures at c.shown.ensures)
-    ∙ field_shows _ payload c.self.inside.meaning c.in-Number.scale c.raw_with_mask-raw.result refl c.in-Number.is kept.room c.raw_with_mask-raw.ensures.value c.raw_with_mask-raw.ensures.range inside
+    ∙ field_shows _ payload c.self.inside.meaning c.in-Number.scale c.raw-raw.result refl c.in-Number.is kept.room c.raw-raw.ensures.value c.raw-raw.ensures.range inside
     ∙ ap (λ (f : FieldParts). shown_from f payload) c.self.view_is
-
-pub raw_with_mask-raw-requires-clause-mask : goal.raw_with_mask-raw-requires-clause-mask
-raw_with_mask-raw-requires-clause-mask c = (rw c.in-Number.is at c.self.invariant.room).2.max_raw
 
 pub returns-in-Shifted : goal.returns-in-Shifted
 returns-in-Shifted c =

@@ -1,12 +1,11 @@
-use Rattle.std.proofs.Common.{◌≡◌, ℕ, List, Bool, ◌&&◌, cond, Some, get_or, drop, length, ◌+◌, refl, sym, ap, ◌∙◌, arith}
+use Rattle.std.proofs.Common.{◌≡◌, ℕ, List, Bool, false, ◌&&◌, cond, Some, get_or, drop, length, ◌+◌, refl, sym, ap, ◌∙◌, arith}
 use Rattle.std.proofs.lemmas.List.{at_drop_all, length-map}
 use Rattle.n2k_table.specs.Definition.{DefinitionParts}
 use Rattle.n2k_table.specs.Table.{TableParts, is_of, matches, choice}
 use Rattle.n2k_table.specs.declared.index.Candidate.{Candidate}
 use Rattle.n2k_table.specs.Inner.Index.{pgns, places, places_of}
-use Rattle.n2k_table.proofs.MatchPrefilters.{candidate_differs}
-use Rattle.n2k_table.proofs.Places.{first_at, candidate_here, passed_over, find_places}
-use Rattle.n2k_table.proofs.table.Table.chosen.Goals.{then-allows+else-matches, else-allows}
+use Rattle.n2k_table.proofs.MatchPrefilters.{asked_there}
+use Rattle.n2k_table.proofs.Places.{first_at, candidate_here, find_places}
 use Rattle.n2k_table.proofs.table.Table.chosen.Goals as goal
 
 pub loop-candidate-init : goal.loop-candidate-init
@@ -26,7 +25,7 @@ returns-then-matches c = λ pgn same.
     let ds = c.args.self.now.definitions in
     let cs = c.args.candidates.now in
     let k = c.loop-candidate.candidate-index in
-    let e : Candidate = record { place = 0; match_prefilter = record { mask = 0; wanted = 0 } } in
+    let e : Candidate = record { place = 0; match_prefilter = record { mask = 0; wanted = 0; settles = false } } in
     let x = get_or cs k e in
     let d = c.index-definition.result.now in
     let at : d ≡ get_or ds x.place d = c.index-definition.ensures ∙ ap (λ (t : TableParts). get_or t.definitions x.place d) c.self.view_is in
@@ -45,21 +44,24 @@ returns c = λ pgn same.
 
 pub loop-candidate-preserved : goal.loop-candidate-preserved
 loop-candidate-preserved c =
-    let payload = c.args.«data».now in
-    let q = matches payload in
+    let q = matches c.args.«data».now in
     let ds = c.args.self.now.definitions in
     let cs = c.args.candidates.now in
     let k = c.loop-candidate.candidate-index in
-    let e : Candidate = record { place = 0; match_prefilter = record { mask = 0; wanted = 0 } } in
+    let e : Candidate = record { place = 0; match_prefilter = record { mask = 0; wanted = 0; settles = false } } in
     let x = get_or cs k e in
-    elim c.if-allows.branch [
-      | then-allows+else-matches w ↦
-          let d = w.index-definition.result.now in
-          let at : d ≡ get_or ds x.place d = w.index-definition.ensures ∙ ap (λ (t : TableParts). get_or t.definitions x.place d) c.self.view_is in
-          sym (candidate_here q ds cs k x e d c.loop-candidate-test.true refl (c.requires.within k _ c.loop-candidate-test.true) at
-          ∙ ap (λ (b : Bool). cond b (Some d) (first_at q ds (drop (k + 1) (places_of cs)))) (sym w.if-matches.ensures)) ∙ c.loop-candidate.invariant
-      | else-allows w ↦
-          let known = c.allows.ensures w.if-allows.false in
-          let differs = candidate_differs payload ds x (c.requires.asked k e c.loop-candidate-test.true) known.0 known.1 in
-          sym (passed_over q ds cs k x e c.loop-candidate-test.true refl differs) ∙ c.loop-candidate.invariant
-    ]
+    let d = c.index-definition.result.now in
+    let at : d ≡ get_or ds x.place d = c.index-definition.ensures ∙ ap (λ (t : TableParts). get_or t.definitions x.place d) c.self.view_is in
+    sym (candidate_here q ds cs k x e d c.loop-candidate-test.true refl (c.requires.within k _ c.loop-candidate-test.true) at
+    ∙ ap (λ (b : Bool). cond b (Some d) (first_at q ds (drop (k + 1) (places_of cs)))) (sym c.if-matches.ensures)) ∙ c.loop-candidate.invariant
+
+pub matches-requires : goal.matches-requires
+matches-requires c =
+    let ds = c.args.self.now.definitions in
+    let cs = c.args.candidates.now in
+    let k = c.loop-candidate.candidate-index in
+    let e : Candidate = record { place = 0; match_prefilter = record { mask = 0; wanted = 0; settles = false } } in
+    let x = get_or cs k e in
+    let d = c.index-definition.result.now in
+    let at : d ≡ get_or ds x.place d = c.index-definition.ensures ∙ ap (λ (t : TableParts). get_or t.definitions x.place d) c.self.view_is in
+    asked_there ds x d (c.requires.asked k e c.loop-candidate-test.true) (c.requires.within k _ c.loop-candidate-test.true) at
