@@ -1,12 +1,10 @@
 -- A result and the lines of all the bytes.
-use Rattle.std.proofs.Common.{◌≡◌, ℕ, ◌<◌, Bool, List, [], ◌∷◌, ◌++◌, length, map, ap, ◌∙◌, append_assoc, arith, Option, Some, Result, Ok, Err, Bor, append-nil}
+use Rattle.std.proofs.Common.{◌≡◌, ℕ, ◌<◌, Bool, List, [], ◌∷◌, ◌++◌, length, map, ap, ◌∙◌, append_assoc, arith, Option, Some, Result, Ok, Err, append-nil}
 use Rattle.std.proofs.lemmas.List.Splits.{slice_split_none}
-use Rattle.n2k_run.specs.declared.blocks.Found.TheVariants as found
 use Rattle.n2k_run.specs.declared.blocks.Next.{Next}
 use Rattle.n2k_run.specs.declared.blocks.Next.TheVariants.{Line, Long, End}
 use Rattle.n2k_run.specs.declared.device.Failed.{Failed}
 use Rattle.n2k_run.specs.Blocks.{BlocksView, Answers, AnswersKnown, AnswersLine, FirstLine, GivesNext, HasNoFeed}
-use Rattle.n2k_run.specs.Inner.Block.{AnswersFound}
 use Rattle.n2k_run.specs.Lines.{is_line_feed, lines, without_last_empty, without_return}
 use Rattle.n2k_run.proofs.Finding.{stays_more}
 use Rattle.n2k_run.proofs.Splits.{lines_feed}
@@ -29,6 +27,3 @@ gives_line whole rest left ended (Err failed) gives = stays_more whole rest left
 
 pub answers_known : (old new : BlocksView) (left₀ left : Option (List ℕ)) (calls₀ calls : ℕ) (result : Result Next Failed) → Answers old new left₀ left calls₀ calls result → AnswersKnown old new left₀ left result
 answers_known old new left₀ left calls₀ calls result answers = grind (arith, append_assoc, gives_line)
-
-pub answers_line : (old new : BlocksView) (left₀ left : Option (List ℕ)) (calls₀ calls : ℕ) (line : Bor (List ℕ)) → AnswersFound old new left₀ left calls₀ calls (Ok found.Line) → line.now ≡ new.line → Answers old new left₀ left calls₀ calls (Ok (Line line))
-answers_line old new left₀ left calls₀ calls line a is = rw is a

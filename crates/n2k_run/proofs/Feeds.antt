@@ -1,14 +1,17 @@
 -- The first line of bytes that begin with the placeholder for a part of a long line.
-use Rattle.std.proofs.Common.{◌≡◌, ◌⊎◌, inl, inr, ℕ, ◌+◌, ◌<◌, ◌≤◌, Bool, true, false, List, [], ◌∷◌, ◌++◌, length, take, drop, refl, sym, ap, ◌∙◌, subst, append_assoc, arith, length-append, length-take, Option, Some, if◌then◌else◌, slice_index}
+use Rattle.std.proofs.Common.{◌≡◌, ◌⊎◌, inl, inr, ℕ, ◌+◌, ◌-◌, ◌<◌, ◌≤◌, Bool, true, false, List, [], ◌∷◌, ◌++◌, length, take, drop, refl, sym, ap, ◌∙◌, subst, append_assoc, arith, length-append, length-take, Option, Ok, if◌then◌else◌, slice_index, min}
 use Rattle.std.specs.Io.KnownBytes.{IsAtEnd}
-use Rattle.std.proofs.lemmas.List.{append-nil, length-replicate, get_or-replicate, get_or_at}
+use Rattle.std.proofs.lemmas.List.{append-nil, drop_all, take_all, length-replicate, get_or-replicate, get_or_at}
 use Rattle.std.proofs.lemmas.List.Elements.{All-head, All-tail, All-append, All-replicate}
+use borrow.Rule.Slice.PartMut.{mid_of}
 use Rattle.n2k_wire.specs.Entry.{longest_line}
-use Rattle.n2k_run.specs.declared.blocks.Found.{Found}
-use Rattle.n2k_run.specs.declared.blocks.Found.TheVariants.{Line, Long, End}
-use Rattle.n2k_run.specs.Blocks.{BlocksView, FirstLine, HasFeed, HasNoFeed, passed, unanswered}
-use Rattle.n2k_run.specs.Inner.Block.{EndsAt, FindsLine, FindsEnd, Judges, MakesRoom}
+use Rattle.n2k_run.specs.declared.blocks.Blocks.TheInside.{Inside}
+use Rattle.n2k_run.specs.declared.blocks.Next.{Next}
+use Rattle.n2k_run.specs.declared.blocks.Next.TheVariants.{Line, Long, End}
+use Rattle.n2k_run.specs.Blocks.{BlocksView, FirstLine, GivesNext, HasFeed, HasNoFeed, passed, unanswered}
+use Rattle.n2k_run.specs.Inner.Block.{HasLine, HasPlaces, Judges, MakesRoom, block_view}
 use Rattle.n2k_run.specs.Lines.{is_line_feed, without_return}
+use Rattle.n2k_run.proofs.Ranges.{length-range, range_rest, range_take}
 
 -- a byte that ends no line
 abbrev pub is_plain : ℕ → Type 0
@@ -58,17 +61,16 @@ split_past (byte ∷ prefix) rest (x ∷ chunk) after none is = grind (arith, sp
 pub feed_or_none : (bytes : List ℕ) → HasFeed bytes → HasNoFeed bytes → ⊥
 feed_or_none bytes feed none = grind (arith, length-append feed.0 (10 ∷ feed.1), get_or_at feed.0 10 feed.1 0 (length feed.0) refl)
 
--- the place that was found
-pub feed_at : (bytes : List ℕ) (feed : Option ℕ) (size : ℕ) → FindsEnd bytes feed → feed ≡ Some size → EndsAt bytes size
-feed_at bytes feed size finds is = subst (FindsEnd bytes) is finds
-
 -- The piece ends at a line feed, or at the end of the source, with nothing left after it; `prefix` is before it.
 abbrev pub EndsChunk : (prefix kept chunk rest : List ℕ) → Bool → Option (List ℕ) → Type 0
 EndsChunk prefix kept chunk rest ended left = ((ended ≡ false) × (kept ≡ chunk ++ (10 ∷ rest)))
     ⊎ (IsAtEnd left × (ended ≡ true) × (kept ≡ chunk) × (0 < length (prefix ++ chunk)) × (rest ≡ []))
 
-pub at_feed : (prefix kept rest : List ℕ) (size : ℕ) (ended : Bool) (left : Option (List ℕ)) → EndsAt kept size → rest ≡ drop (size + 1) kept → ended ≡ false → EndsChunk prefix kept (take size kept) rest ended left
-at_feed prefix kept rest size ended left at is on = inl (on, at.split ∙ ap (λ r. take size kept ++ (10 ∷ r)) (sym is))
+ends_chunk : (prefix kept : List ℕ) (size : ℕ) (ended : Bool) (left : Option (List ℕ)) → HasLine kept size ended left → (ended ≡ true → 0 < length (prefix ++ kept)) → HasNoFeed (take size kept) × EndsChunk prefix kept (take size kept) (drop (size + 1) kept) ended left
+ends_chunk prefix kept size false left has some = (has.no_feed, inl (refl, has.split))
+ends_chunk prefix kept size true left has some =
+    let all = take_all size kept (omega (arith, has.2)) in
+    (subst HasNoFeed (sym all) has.1, inr (has.0, refl, sym all, subst (λ chunk. 0 < length (prefix ++ chunk)) (sym all) (some refl), drop_all (size + 1) kept (omega (arith, has.2))))
 
 first_of : (prefix kept chunk line rest : List ℕ) (ended : Bool) (left : Option (List ℕ)) → HasNoFeed prefix → HasNoFeed chunk → EndsChunk prefix kept chunk rest ended left → line ≡ without_return (prefix ++ chunk) → FirstLine (prefix ++ kept) line rest ended left
 first_of prefix kept chunk line rest ended left before none ends is = record {
@@ -84,18 +86,44 @@ first_of prefix kept chunk line rest ended left before none ends is = record {
 none : HasNoFeed []
 none = λ k d below. absurd (omega (arith, below))
 
--- the line found is the first of all bytes not yet returned
-pub finds : (passing : Bool) (kept chunk : List ℕ) (new : BlocksView) (found : Found) (left : Option (List ℕ)) → HasNoFeed chunk → Judges passing (without_return chunk) new.line found → EndsChunk (if passing then passed else []) kept chunk (unanswered new) new.has_ended left
-    → FindsLine ((if passing then passed else []) ++ kept) new left found
-finds false kept chunk new Line left no_feed judged ends = (first_of [] kept chunk new.line _ _ left none no_feed ends judged.1, rw judged.1 judged.2)
-finds false kept chunk new Long left no_feed judged ends = (without_return chunk, first_of [] kept chunk _ _ _ left none no_feed ends refl, elim judged [ inl p ↦ cc | inr p ↦ p ])
-finds true kept chunk new Line left no_feed judged ends = cc
-finds true kept chunk new Long left no_feed judged ends = (without_return (passed ++ chunk), first_of passed kept chunk _ _ _ left passed-no_feed no_feed ends refl, long_after chunk)
-finds _ kept chunk new End left no_feed judged ends = absurd judged
+-- the result for a piece is the result for all bytes not yet returned
+gives_chunk : (passing : Bool) (kept chunk rest : List ℕ) (ended : Bool) (left : Option (List ℕ)) (next : Next) → HasNoFeed chunk → EndsChunk (if passing then passed else []) kept chunk rest ended left → Judges passing (without_return chunk) next
+    → GivesNext ((if passing then passed else []) ++ kept) rest ended left (Ok next)
+gives_chunk false kept chunk rest ended left (Line line) no_feed ends judged = (first_of [] kept chunk line.now rest ended left none no_feed ends judged.1, rw judged.1 judged.2)
+gives_chunk false kept chunk rest ended left Long no_feed ends judged = (without_return chunk, first_of [] kept chunk _ rest ended left none no_feed ends refl, elim judged [ inl p ↦ cc | inr p ↦ p ])
+gives_chunk true kept chunk rest ended left (Line line) no_feed ends judged = cc
+gives_chunk true kept chunk rest ended left Long no_feed ends judged = (without_return (passed ++ chunk), first_of passed kept chunk _ rest ended left passed-no_feed no_feed ends refl, long_after chunk)
+gives_chunk _ kept chunk rest ended left End no_feed ends judged = absurd judged
 
 -- the bytes not yet returned include at least one
-pub some_byte : (passing : Bool) (kept : List ℕ) → (passing ≡ true) ⊎ (0 < length kept) → 0 < length ((if passing then passed else []) ++ kept)
-some_byte passing kept some = grind (arith, length-append, length-passed)
+some_byte : (passing : Bool) (kept : List ℕ) (size : ℕ) → size ≡ length kept → (size ≡ 0 → passing ≡ false → ⊥) → 0 < length ((if passing then passed else []) ++ kept)
+some_byte true kept size is some = omega (arith, length-append passed kept, length-passed)
+some_byte false [] size is some = absurd (some is refl)
+some_byte false (byte ∷ bytes) size is some = omega arith
+
+-- the block after the first line was returned
+pub record PassesLine (old new : BlocksView) (size : ℕ) : Type 0 where
+  pub kept : new.kept ≡ drop (size + 1) old.kept
+  pub plain : new.is_passing ≡ false
+  pub ended : new.has_ended ≡ old.has_ended
+
+pub gives_line : (old new : BlocksView) (size : ℕ) (left : Option (List ℕ)) (next : Next) → HasLine old.kept size old.has_ended left → PassesLine old new size → (old.has_ended ≡ true → size ≡ 0 → old.is_passing ≡ false → ⊥) → Judges old.is_passing (without_return (take size old.kept)) next
+    → GivesNext (unanswered old) (unanswered new) new.has_ended left (Ok next)
+gives_line old new size left next has passes some judged =
+    let byte : old.has_ended ≡ true → 0 < length (unanswered old) = λ ended.
+    let at_end : IsAtEnd left × HasNoFeed old.kept × (size ≡ length old.kept) = subst (λ e. HasLine old.kept size e left) ended has in
+    some_byte old.is_passing old.kept size at_end.2 (some ended) in
+    let ends = ends_chunk (if old.is_passing then passed else []) old.kept size old.has_ended left has byte in
+    let rest : drop (size + 1) old.kept ≡ unanswered new = sym (unanswered_plain new passes.plain ∙ passes.kept) in
+    let gives = gives_chunk old.is_passing old.kept (take size old.kept) (drop (size + 1) old.kept) old.has_ended left next ends.0 ends.1 judged in
+    subst (λ e. GivesNext (unanswered old) (unanswered new) e left (Ok next)) (sym passes.ended) (subst (λ r. GivesNext (unanswered old) r old.has_ended left (Ok next)) rest gives)
+
+-- the log has no further line
+pub gives_end : (old new : BlocksView) (size : ℕ) (left : Option (List ℕ)) → HasLine old.kept size old.has_ended left → PassesLine old new size → old.has_ended ≡ true → size ≡ 0 → old.is_passing ≡ false → GivesNext (unanswered old) (unanswered new) new.has_ended left (Ok End)
+gives_end old new size left has passes ended no_byte plain =
+    let at_end : IsAtEnd left × HasNoFeed old.kept × (size ≡ length old.kept) = subst (λ e. HasLine old.kept size e left) ended has in
+    let nothing : old.kept ≡ [] = drop_all 0 old.kept (omega (arith, at_end.2, no_byte)) in
+    (at_end.0, passes.ended ∙ ended, unanswered_plain old plain ∙ nothing, unanswered_plain new passes.plain ∙ passes.kept ∙ ap (drop (size + 1)) nothing ∙ drop_all {X = ℕ} (size + 1) [] (omega arith))
 
 -- no line ends in the bytes not yet returned if none ends in the kept bytes
 pub unanswered-no_feed : (held : BlocksView) → HasNoFeed held.kept → HasNoFeed (unanswered held)
@@ -117,3 +145,24 @@ lets_go held size why long =
       | false ↦ λ w. inr (elim w [ inl p ↦ cc | inr p ↦ omega (arith, p, long) ], append-nil passed)
     ] in
     split held.is_passing why
+
+-- the first line is within the kept bytes
+pub line_within : (kept : List ℕ) (size : ℕ) (ended : Bool) (left : Option (List ℕ)) → HasLine kept size ended left → size ≤ length kept
+line_within kept size false left has = omega (arith, has.within)
+line_within kept size true left has = omega (arith, has.2)
+
+pub passes_line : (i : Inside) (old : BlocksView) (size m : ℕ) → block_view i ≡ old → HasPlaces i → length i.block ≡ 4096 → m ≡ min i.end (i.start + size + 1) → PassesLine old (block_view (record i { start = m; is_passing = false })) size
+passes_line i old size m is places whole at = record {
+  kept = range_rest i.block i.start i.end (size + 1) m places.kept_ends (omega (arith, places.kept_within, whole)) (at ∙ ap (min i.end) (let same : i.start + size + 1 ≡ i.start + (size + 1) = omega arith in same)) ∙ ap (λ (h : BlocksView). drop (size + 1) h.kept) is;
+  plain = refl;
+  ended = ap (λ (h : BlocksView). h.has_ended) is;
+}
+
+-- the result for the first bytes of the block
+pub judges_line : (i : Inside) (old : BlocksView) (size : ℕ) (next : Next) → block_view i ≡ old → HasPlaces i → length i.block ≡ 4096 → size ≤ length old.kept → Judges i.is_passing (without_return (mid_of i.start (i.start + size - i.start) i.block)) next
+    → Judges old.is_passing (without_return (take size old.kept)) next
+judges_line i old size next is places whole few judged =
+    let all = ap (λ (h : BlocksView). length h.kept) is in
+    let within : size ≤ i.end - i.start = omega (arith, all, few, length-range i.block i.start i.end places.kept_ends (omega (arith, places.kept_within, whole))) in
+    subst (λ (h : BlocksView). Judges h.is_passing (without_return (take size h.kept)) next) is
+    (subst (λ text. Judges i.is_passing (without_return text) next) (range_take i.block i.start i.end size within) judged)

@@ -4,12 +4,12 @@ use Rattle.std.specs.Io.KnownBytes.{IsAtEnd}
 use Rattle.std.proofs.KnownBytes.{Consumes-nil}
 use Rattle.std.proofs.lemmas.List.Elements.{All-append, All-drop}
 use Rattle.n2k_wire.specs.Entry.{longest_line}
-use Rattle.n2k_run.specs.declared.blocks.Found.{Found}
-use Rattle.n2k_run.specs.declared.blocks.Found.TheVariants.{Line, Long, End}
+use Rattle.n2k_run.specs.declared.blocks.Next.{Next}
+use Rattle.n2k_run.specs.declared.blocks.Next.TheVariants.{Line, Long, End}
 use Rattle.n2k_run.specs.declared.device.Failed.{Failed}
-use Rattle.n2k_run.specs.Blocks.{BlocksView, FirstLine, FirstLong, HasNoFeed, ReplacesLong, Stays, CallsAre, passed, unanswered}
+use Rattle.n2k_run.specs.Blocks.{BlocksView, Answers, FirstLine, FirstLong, GivesNext, HasNoFeed, ReplacesLong, Stays, CallsAre, passed, unanswered}
 use Rattle.n2k_run.specs.Device.{one_more}
-use Rattle.n2k_run.specs.Inner.Block.{FindsLine, MakesRoom, Reads, AnswersFound}
+use Rattle.n2k_run.specs.Inner.Block.{MakesRoom, Reads}
 use Rattle.n2k_run.specs.Lines.{without_return}
 use Rattle.n2k_run.specs.Reading.{OutlastsReads, most_reads}
 use Rattle.n2k_run.specs.Inner.Reading.{Gains}
@@ -57,10 +57,9 @@ pub reads_more : (idle : ℕ) (old mid new : BlocksView) (left₀ left left' : O
 reads_more idle old mid new left₀ left left' calls₀ calls calls' so_far gains gave passing reads called = grind (arith, stays_more, append_assoc, unanswered_gained, calls_more, one_more_at_most, length-append, stays_more (unanswered old ++ so_far.came) (unanswered mid) gains.gained so_far.answer, append_assoc (unanswered old) so_far.came gains.gained, unanswered_gained mid new gains.gained passing gains.appended, calls_more calls₀ calls calls' old.reads mid.reads new.reads so_far.called called reads, one_more_at_most calls, length-append mid.kept gains.gained, length-append so_far.came gains.gained)
 
 -- one round: nothing was found, room was made, and a read followed
-pub reads_round : (idle : ℕ) (old loop taken made new : BlocksView) (left₀ left left' : Option (List ℕ)) (calls₀ calls calls' : ℕ) → Reads 0 old loop left₀ left calls₀ calls → taken ≡ loop → HasNoFeed loop.kept
-    → MakesRoom (unanswered taken) (unanswered made) → made.reads ≡ taken.reads
+pub reads_round : (idle : ℕ) (old mid made new : BlocksView) (left₀ left left' : Option (List ℕ)) (calls₀ calls calls' : ℕ) → Reads 0 old mid left₀ left calls₀ calls → HasNoFeed mid.kept → MakesRoom (unanswered mid) (unanswered made) → made.reads ≡ mid.reads
     → Gains made.kept new.kept left left' → length made.kept < length new.kept + idle → new.is_passing ≡ made.is_passing → new.reads ≡ made.reads + 1 → calls' ≡ one_more calls → Reads idle old new left₀ left' calls₀ calls'
-reads_round idle old loop taken made new left₀ left left' calls₀ calls calls' so_far same none room room_reads gains gave passing reads called = grind (arith, reads_more idle old made new left₀ left left' calls₀ calls calls' (reads_room old taken made left₀ left calls₀ calls (subst (λ (h : BlocksView). Reads 0 old h left₀ left calls₀ calls) (sym same) so_far) (subst (λ (h : BlocksView). HasNoFeed h.kept) (sym same) none) room room_reads) gains gave passing reads called)
+reads_round idle old mid made new left₀ left left' calls₀ calls calls' so_far none room room_reads gains gave passing reads called = reads_more idle old made new left₀ left left' calls₀ calls calls' (reads_room old mid made left₀ left calls₀ calls so_far none room room_reads) gains gave passing reads called
 
 -- a first line that begins with the placeholder is a long first line of the bytes
 long_first : (whole bytes line rest : List ℕ) (ended : Bool) (left : Option (List ℕ)) (r : ReplacesLong whole bytes) → FirstLine bytes line rest ended left → FirstLong whole rest ended left × (longest_line < length line)
@@ -82,32 +81,42 @@ long_first whole bytes line rest ended left r f =
     ((without_return whole, record { chunk = whole; line_is = refl; no_feed = none; ends = inr (e.0, e.1, refl, omega (arith, size), e.4) }, long_chunk whole size), over) in
     elim f.ends [ inl e ↦ feed e | inr e ↦ end e ]
 
-finds_replaced : (whole bytes : List ℕ) (new : BlocksView) (left : Option (List ℕ)) (found : Found) → ReplacesLong whole bytes → FindsLine bytes new left found → FindsLine whole new left found
-finds_replaced whole bytes new left Line r f = absurd (omega (arith, f.1, (long_first whole bytes new.line (unanswered new) new.has_ended left r f.0).1))
-finds_replaced whole bytes new left Long r f = (long_first whole bytes f.0 (unanswered new) new.has_ended left r f.1).0
-finds_replaced whole bytes new left End r f = absurd (omega (arith, ap length f.2, ap length r.bytes_are, length-append passed r.rest, length-passed))
+gives_replaced : (whole bytes rest : List ℕ) (ended : Bool) (left : Option (List ℕ)) (next : Next) → ReplacesLong whole bytes → GivesNext bytes rest ended left (Ok next) → GivesNext whole rest ended left (Ok next)
+gives_replaced whole bytes rest ended left (Line line) r f = absurd (omega (arith, f.1, (long_first whole bytes line.now rest ended left r f.0).1))
+gives_replaced whole bytes rest ended left Long r f = (long_first whole bytes f.0 rest ended left r f.1).0
+gives_replaced whole bytes rest ended left End r f = absurd (omega (arith, ap length f.2, ap length r.bytes_are, length-append passed r.rest, length-passed))
 
-finds_whole : (whole bytes : List ℕ) (new : BlocksView) (left : Option (List ℕ)) (found : Found) → Stays whole bytes → FindsLine bytes new left found → FindsLine whole new left found
-finds_whole whole bytes new left found (inl same) f = subst (λ b. FindsLine b new left found) same f
-finds_whole whole bytes new left found (inr r) f = finds_replaced whole bytes new left found r f
+gives_whole : (whole bytes rest : List ℕ) (ended : Bool) (left : Option (List ℕ)) (next : Next) → Stays whole bytes → GivesNext bytes rest ended left (Ok next) → GivesNext whole rest ended left (Ok next)
+gives_whole whole bytes rest ended left next (inl same) f = subst (λ b. GivesNext b rest ended left (Ok next)) same f
+gives_whole whole bytes rest ended left next (inr r) f = gives_replaced whole bytes rest ended left next r f
 
--- the line is there
-pub found_line : (idle : ℕ) (old mid new : BlocksView) (left₀ left : Option (List ℕ)) (calls₀ calls : ℕ) (found : Found) → Reads idle old mid left₀ left calls₀ calls → FindsLine (unanswered mid) new left found → new.reads ≡ mid.reads → idle ≤ (if new.has_ended then 1 else 0)
-    → AnswersFound old new left₀ left calls₀ calls (Ok found)
-found_line idle old mid new left₀ left calls₀ calls found so_far finds reads ended = record {
+-- only the fields that say what came count
+pub reads_same : (idle idle' : ℕ) (old mid new : BlocksView) (left₀ left : Option (List ℕ)) (calls₀ calls : ℕ) → Reads idle old mid left₀ left calls₀ calls → unanswered new ≡ unanswered mid → new.reads ≡ mid.reads → idle ≤ idle' → Reads idle' old new left₀ left calls₀ calls
+reads_same idle idle' old mid new left₀ left calls₀ calls so_far same reads more = record {
   came = so_far.came;
   given = so_far.given;
-  answer = finds_whole _ _ new left found so_far.answer finds;
-  called = subst (λ r. CallsAre calls₀ calls old.reads r) (sym reads) so_far.called;
-  few = omega (arith, so_far.few, ended);
+  answer = rw same so_far.answer;
+  called = rw reads so_far.called;
+  few = omega (arith, so_far.few, more);
+}
+
+-- the line is there
+pub answers_next : (old mid new : BlocksView) (left₀ left : Option (List ℕ)) (calls₀ calls : ℕ) (next : Next) → Reads (if mid.has_ended then 1 else 0) old mid left₀ left calls₀ calls → new.reads ≡ mid.reads → new.has_ended ≡ mid.has_ended → GivesNext (unanswered mid) (unanswered new) new.has_ended left (Ok next)
+    → Answers old new left₀ left calls₀ calls (Ok next)
+answers_next old mid new left₀ left calls₀ calls next so_far reads ended gives = record {
+  came = so_far.came;
+  given = so_far.given;
+  answer = gives_whole _ _ _ new.has_ended left next so_far.answer gives;
+  called = rw reads so_far.called;
+  few = rw ended so_far.few;
 }
 
 -- the source failed, or no more is read of it
-pub found_none : (idle : ℕ) (old new : BlocksView) (left₀ left : Option (List ℕ)) (calls₀ calls : ℕ) (failed : Failed) → Reads idle old new left₀ left calls₀ calls → idle ≤ 1 → HasNoFeed new.kept → AnswersFound old new left₀ left calls₀ calls (Err failed)
-found_none idle old new left₀ left calls₀ calls failed so_far once none = record {
+pub answers_none : (old new : BlocksView) (left₀ left : Option (List ℕ)) (calls₀ calls : ℕ) (failed : Failed) → Reads 1 old new left₀ left calls₀ calls → HasNoFeed new.kept → Answers old new left₀ left calls₀ calls (Err failed)
+answers_none old new left₀ left calls₀ calls failed so_far none = record {
   came = so_far.came;
   given = so_far.given;
   answer = (no_feed_whole _ _ so_far.answer (unanswered-no_feed new none), so_far.answer);
   called = so_far.called;
-  few = omega (arith, so_far.few, once);
+  few = so_far.few;
 }

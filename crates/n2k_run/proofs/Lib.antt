@@ -8,6 +8,7 @@ pub mod Finding
 pub mod Folds
 pub mod Prefixes
 pub mod GoingOn
+pub mod HeldLines
 pub mod Joined
 pub mod LimitLines
 pub mod LogSteps

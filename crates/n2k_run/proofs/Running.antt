@@ -14,7 +14,7 @@ use Rattle.n2k_run.specs.Fold.{Fold, after_all, given_from, texts_from, reports_
 use Rattle.n2k_run.specs.Reading.{ReadsBytes}
 use Rattle.n2k_run.specs.Runs.{AreNumbered, Devices, RunEnds, Gained, IsOfDevice, HasPrefixes, IsCut, IsAtLastNumber, NoneFailed, Output, ReportsFirst, Runs, output_from}
 use Rattle.n2k_run.specs.Writing.{AppendsPrefix}
-use Rattle.n2k_run.specs.Inner.Engine.{FailsPending, Made, MovesOn, ReadsNext, BetweenLines, Unmoved, TakesNext, WritesPending}
+use Rattle.n2k_run.specs.Inner.Engine.{FailsPending, Made, MovesOn, ReadsNext, BetweenLines, Unmoved, TakesNext, WritesPending, read_on}
 use Rattle.n2k_run.proofs.Calls.{ended_within_one, none_read as no_calls, reads_on}
 use Rattle.n2k_run.proofs.Folds.{after-append, given-append}
 use Rattle.n2k_run.proofs.Prefixes.{Leads, leads, takes_more, whole_prefix}
@@ -70,7 +70,7 @@ module _ {S : Type 0} (m : Fold S) (packing : Packing) (s₀ : S) (before : Devi
   MadeOf s es text report now = Made m s₀ s es text report before.written now.written before.reported now.reported
 
   -- nothing is made yet
-  pub begins : (held : BlocksView) (text report : List ℕ) → held ≡ record { kept = []; is_passing = false; has_ended = false; reads = 0; line = []; room = 4096 } → text ≡ [] → report ≡ [] → BetweenLines m packing s₀ s₀ held text report before before
+  pub begins : (held : BlocksView) (text report : List ℕ) → held ≡ record { kept = []; is_passing = false; has_ended = false; reads = 0; room = 4096 } → text ≡ [] → report ≡ [] → BetweenLines m packing s₀ s₀ held text report before before
   begins held text report is none_text none_report =
       let none : unanswered held ≡ [] = rw is refl in
       record {
@@ -122,10 +122,6 @@ module _ {S : Type 0} (m : Fold S) (packing : Packing) (s₀ : S) (before : Devi
 
   made_still : (s s' : S) (es : List Entry) (text text' report report' : List ℕ) (now : Devices) → MadeOf s es text report now → Unmoved s s' text text' report report' → MadeOf s' es text' report' now
   made_still s s' es text text' report report' now made still = rw (still.same_state, still.same_text, still.same_report) made
-
-  -- the source after a call, the sinks as they were
-  abbrev read_on : Devices → Option (List ℕ) → ℕ → ℕ → Devices
-  read_on now left calls failed = record now { left = left; calls = calls; failed_reads = failed }
 
   calls_trans : (c₀ c c' r₀ r r' : ℕ) → CallsAre c₀ c r₀ r → CallsAre c c' r r' → CallsAre c₀ c' r₀ r'
   calls_trans c₀ c c' r₀ r r' h is = grind arith

@@ -1,44 +1,36 @@
 -- The frames of one message, and their lines.
-use Rattle.std.proofs.Common.{◌≡◌, ◌≤◌, ◌<◌, ◌+◌, ◌*◌, ℕ, zero, suc, List, [], ◌∷◌, ◌++◌, length, get_or, map, take, refl, ap, ◌∙◌, append_assoc, arith, Option, Some, None, Ok, Err, IsOkUnless, MatchOption, option_map, slice_get, leb-true, append-nil}
+use Rattle.std.proofs.Common.{◌≡◌, ◌≤◌, ◌<◌, ◌+◌, ℕ, zero, suc, List, [], ◌∷◌, ◌++◌, length, get_or, map, take, refl, append_assoc, arith, Option, Some, None, Ok, Err, IsOkUnless, MatchOption, option_map, slice_get, append-nil}
 use Rattle.std.specs.List.{AllByRecursion, range_with_len}
-use Rattle.std.proofs.Math.Seq.{take-append_seam, take-suc, take_all}
+use Rattle.std.proofs.Math.Seq.{take-suc, take_all}
 use Rattle.std.proofs.lemmas.List.Concat.{flat_map-append}
-use Rattle.std.proofs.lemmas.List.FromFn.{length-map-range_with_len}
 use Rattle.std.proofs.lemmas.Option.{get_or_from_slice_get, slice_get_within}
 use Rattle.n2k_wire.specs.declared.fault.WireFault.{WireFault}
-use Rattle.n2k_wire.specs.Candump.{frame_payload}
+use Rattle.n2k_wire.specs.Heads.{line_after}
 use Rattle.n2k_wire.specs.Packet.{PacketParts}
-use Rattle.n2k_wire.specs.Texts.{Appends, candump_parts}
 use Rattle.n2k_table.specs.declared.definition.Kind.{Kind}
+use Rattle.n2k_table.specs.declared.definition.Kind.TheVariants.{Fast, Single}
 use Rattle.n2k_join.specs.declared.fault.SplitFault.{SplitFault}
 use Rattle.n2k_join.specs.declared.fault.SplitFault.TheVariants as unsplit
-use Rattle.n2k_join.specs.Pieces.{Sequences, piece, piece_bytes, pieces_as, pieces_by, raised, sent_byte, stream_of}
+use Rattle.n2k_join.specs.Pieces.{Sequences, piece, pieces_as, pieces_by, raised, stream_of}
 use Rattle.n2k_join.specs.Splitter.{refusal}
 use Rattle.n2k_run.specs.declared.frames.Outcome.{Outcome}
 use Rattle.n2k_run.specs.declared.frames.Outcome.TheVariants.{Written, Bad}
 use Rattle.n2k_run.specs.FramesOut.{fault_cause, frame_text, frame_texts, interface_cause}
-use Rattle.n2k_run.specs.Inner.Sending.{SentMessage, frame_line}
+use Rattle.n2k_run.specs.Inner.Sending.{BeginsLines, SentMessage, frame_line}
 
--- candump writes the same before the data of a frame as for its message, and the frame has at most 8 bytes
-pub record IsFrameOf (m p : PacketParts) : Type 0 where
-  pub parts_are : candump_parts p ≡ candump_parts m
-  pub short : length p.payload ≤ frame_payload
-
-seven : (m : PacketParts) (n : ℕ) → length (piece_bytes m.payload n) ≡ 7
-unfolding piece_bytes
-seven m n = length-map-range_with_len (sent_byte m.payload) (7 * n) 7
-
-piece_parts : (m : PacketParts) (s n : ℕ) → candump_parts (piece m s n) ≡ candump_parts m
-unfolding candump_parts
-piece_parts m s n = refl
+-- a frame differs from its message in its data alone
+abbrev pub IsFrameOf : PacketParts → PacketParts → Type 0
+IsFrameOf m p = p ≡ record m { payload = p.payload }
 
 pieces_are : (m : PacketParts) (s first n : ℕ) → AllByRecursion (IsFrameOf m) (map (piece m s) (range_with_len first n))
 pieces_are m s first zero = tt
-pieces_are m s first (suc n) = grind (arith, pieces_are m s (first + 1) n, piece_parts, seven)
+pieces_are m s first (suc n) = (refl, pieces_are m s (first + 1) n)
 
-frames_are : (k : Option Kind) (m : PacketParts) (s : ℕ) → refusal k m ≡ None → AllByRecursion (IsFrameOf m) (pieces_as k m s)
+frames_are : (k : Option Kind) (m : PacketParts) (s : ℕ) → AllByRecursion (IsFrameOf m) (pieces_as k m s)
 unfolding pieces_as
-frames_are k m s e = grind (arith, leb-true, pieces_are)
+frames_are None m s = tt
+frames_are (Some Single) m s = (refl, tt)
+frames_are (Some Fast) m s = pieces_are m s 0 _
 
 -- a property of all items holds of one
 at : {A : Type 0} (P : A → Type 0) (xs : List A) (n : ℕ) (d : A) → AllByRecursion P xs → n < length xs → P (get_or xs n d)
@@ -46,24 +38,24 @@ at P [] n d all within = absurd (omega (arith, within))
 at P (x ∷ xs) zero d all within = all.0
 at P (x ∷ xs) (suc n) d all within = at P xs n d all.1 (omega (arith, within))
 
-pub frame_of : (k : Option Kind) (m : PacketParts) (s : ℕ) (ps : List PacketParts) (n : ℕ) (p : PacketParts) → ps ≡ pieces_as k m s → refusal k m ≡ None → slice_get ps n ≡ Some p → IsFrameOf m p
-frame_of k m s ps n p are split is = grind (arith, frames_are k m s split, get_or_from_slice_get ps n p p is, slice_get_within ps n p is, at)
+pub frame_of : (k : Option Kind) (m : PacketParts) (s : ℕ) (ps : List PacketParts) (n : ℕ) (p : PacketParts) → ps ≡ pieces_as k m s → slice_get ps n ≡ Some p → IsFrameOf m p
+frame_of k m s ps n p are is = grind (arith, frames_are k m s, get_or_from_slice_get ps n p p is, slice_get_within ps n p is, at)
 
 -- a message that was split isn't refused
 pub split_of : {A : Type 0} (refused : Option SplitFault) (x : A) → MatchOption refused (IsOkUnless (Ok x) unsplit.Memory) (λ fault. Ok x ≡ Err fault) → refused ≡ None
 split_of refused x e = grind arith
 
--- A frame's line was appended: the message is seen at the interface.
-pub record IsLineAppended (interface : Option (List ℕ)) (m p : PacketParts) (old new : List ℕ) : Type 0 where
-  pub seen : interface_cause interface m ≡ None
-  pub text_is : new ≡ old ++ frame_text interface p
+-- the lines of a message that is seen at the interface begin so
+pub seen : (interface : Option (List ℕ)) (m : PacketParts) (head : List ℕ) → BeginsLines interface m head → interface_cause interface m ≡ None
+seen None m head begins = refl
+seen (Some name) m head begins = grind (arith, begins m.payload)
 
-pub line_appended : (interface : Option (List ℕ)) (m p : PacketParts) (old new : List ℕ) → IsFrameOf m p → Appends (frame_line interface p) (Ok tt) old new → IsLineAppended interface m p old new
-line_appended interface m p old new is a = grind arith
+pub line_of : (interface : Option (List ℕ)) (m p : PacketParts) (head : List ℕ) → IsFrameOf m p → BeginsLines interface m head → line_after head p.payload ≡ frame_text interface p
+line_of interface m p head is begins = grind (arith, begins p.payload)
 
-pub no_line : (interface : Option (List ℕ)) (m p : PacketParts) (fault : WireFault) (made : Outcome) (old new : List ℕ) → IsFrameOf m p → Some made ≡ option_map Bad (fault_cause fault) → Appends (frame_line interface p) (Err fault) old new
+pub no_line : (interface : Option (List ℕ)) (m : PacketParts) (fault : WireFault) (made : Outcome) → Some made ≡ option_map Bad (fault_cause fault) → ((payload : List ℕ) → frame_line interface (record m { payload = payload }) ≡ Err fault)
     → interface_cause interface m ≡ fault_cause fault
-no_line interface m p fault made old new is outcome a = grind arith
+no_line interface m fault made outcome none = grind (arith, none m.payload)
 
 pub one_more : (interface : Option (List ℕ)) (frames : List PacketParts) (n : ℕ) (p : PacketParts) (start now after : List ℕ) → slice_get frames n ≡ Some p → now ≡ start ++ frame_texts interface (take n frames) → after ≡ now ++ frame_text interface p
     → after ≡ start ++ frame_texts interface (take (n + 1) frames)
@@ -77,7 +69,3 @@ sent kind interface m held held' frames n text text' are split after seen all is
 pub not_sent : (kind : ℕ → Option Kind) (interface : Option (List ℕ)) (m : PacketParts) (held held' : Sequences) (fault : WireFault) (made : Outcome) (text : List ℕ) → refusal (kind m.id.pgn) m ≡ None → held' ≡ raised kind held (stream_of m.id)
     → interface_cause interface m ≡ fault_cause fault → Some made ≡ option_map Bad (fault_cause fault) → SentMessage kind interface m held held' text text made
 not_sent kind interface m held held' fault made text split after seen outcome = grind (arith, append-nil)
-
--- the appended bytes are cut off
-pub cut_back : (start more now after cut : List ℕ) (n : ℕ) → now ≡ start ++ more → after ≡ now → n ≡ length start → cut ≡ take n after → cut ≡ start
-cut_back start more now after cut n is same len back = back ∙ ap (λ k. take k after) len ∙ ap (take (length start)) (same ∙ is) ∙ take-append_seam start more

@@ -17,11 +17,11 @@ unfolding entry
 long_entry line packing long = grind arith
 
 module _ {S : Type 0} (m : Fold S) (packing : Packing) (s s' : S) (old new : BlocksView) (left₀ left : Option (List ℕ)) (text text' report report' : List ℕ) where
-  takes_entry : {T : Type 0} (x : Entry) (result : Result T RunFault) → NextEntry packing old new left₀ left x → TakesEntry m s s' x text text' report report' result → TakesNext m packing s s' old new left₀ left text text' report report' result
+  pub takes_entry : {T : Type 0} (x : Entry) (result : Result T RunFault) → NextEntry packing old new left₀ left x → TakesEntry m s s' x text text' report report' result → TakesNext m packing s s' old new left₀ left text text' report report' result
   takes_entry x result next takes = grind arith
 
-  pub takes_line : {T : Type 0} (line : Bor (List ℕ)) (x : Entry) (calls₀ calls : ℕ) (result : Result T RunFault) → Answers old new left₀ left calls₀ calls (Ok (Line line)) → x ≡ entry line.now packing → TakesEntry m s s' x text text' report report' result → TakesNext m packing s s' old new left₀ left text text' report report' result
-  takes_line line x calls₀ calls result a is takes = grind (arith, takes_entry)
+  pub takes_line : {T : Type 0} (line : Bor (List ℕ)) (calls₀ calls : ℕ) (result : Result T RunFault) → Answers old new left₀ left calls₀ calls (Ok (Line line)) → TakesEntry m s s' (entry line.now packing) text text' report report' result → TakesNext m packing s s' old new left₀ left text text' report report' result
+  takes_line line calls₀ calls result a takes = grind (arith, takes_entry)
 
   pub takes_long : {T : Type 0} (calls₀ calls : ℕ) (result : Result T RunFault) → Answers old new left₀ left calls₀ calls (Ok Long) → TakesEntry m s s' (Bad causes.Long) text text' report report' result → TakesNext m packing s s' old new left₀ left text text' report report' result
   takes_long calls₀ calls result a takes = grind (arith, takes_entry, long_entry)

@@ -20,8 +20,6 @@ pub record BlocksView : Type 0 where
   pub has_ended : Bool
   -- the calls that were made of sources
   pub reads : ℕ
-  -- the bytes of the last line found
-  pub line : List ℕ
   -- how many bytes more the block takes
   pub room : ℕ
 

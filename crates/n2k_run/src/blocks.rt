@@ -1,6 +1,6 @@
 //! A log's bytes in blocks of a fixed size, and its lines, borrowed from the block.
-ghost use Rattle.std.specs.Prelude.{◌≡◌, ◌⊎◌, ◌<◌, ◌≤◌, ◌+◌, ℕ, List, Option, [], true, false, length, take, drop, IfOk, IfSome, IfNone, OnOk, OnErr};
-ghost use Rattle.n2k_run.specs.Inner.Block.{FindsEnd};
+ghost use Rattle.std.specs.Prelude.{◌≡◌, ◌⊎◌, ◌<◌, ◌≤◌, ◌+◌, [], false, length, IfOk, OnOk, OnErr};
+ghost use Rattle.n2k_run.specs.Inner.Block.{FindsEnd, Judges};
 ghost use Rattle.n2k_run.specs.Lines.{without_return};
 
 use crate::device::{Failed, Source};
@@ -26,23 +26,12 @@ pub enum Next<'a> {
     End,
 }
 
-/// What the bytes not yet returned start with. `line` then returns a found line.
-enum Found {
-    Line,
-    Long,
-    End,
-}
-
 /// The bytes of a log, at most 4,096 of them at once.
 #[derive(Drop)]
 pub struct Blocks {
     block: [u8; BLOCK],
-    line_start: usize,
-    line_end: usize,
     start: usize,
     end: usize,
-    /// The place of the first LF of the kept bytes, counted from `start`.
-    feed: Option<usize>,
     is_passing: bool,
     has_ended: bool,
     reads: u64,
@@ -61,7 +50,7 @@ impl Model for Blocks {
 }
 
 /// The piece, without one carriage return at its end.
-fn without_return(chunk: &[u8]) -> &[u8]
+pub(crate) fn without_return(chunk: &[u8]) -> &[u8]
     ensures { result.now ≡ without_return chunk.now }
 {
     match chunk {
@@ -71,10 +60,21 @@ fn without_return(chunk: &[u8]) -> &[u8]
 }
 
 /// The place of the first LF.
-fn line_end(bytes: &[u8]) -> Option<usize>
+pub(crate) fn line_end(bytes: &[u8]) -> Option<usize>
     ensures { FindsEnd bytes.now result }
 {
     memchr::memchr(LINE_FEED, bytes)
+}
+
+/// The result for a piece: its line, or `Long` if the line is over the limit or continues one that is.
+fn next_of(chunk: &[u8], was_passing: bool) -> Next<'_>
+    ensures { Judges was_passing (without_return chunk.now) result }
+{
+    let line = without_return(chunk);
+    if was_passing || line.len() > LONGEST_LINE {
+        return Next::Long;
+    }
+    Next::Line(line)
 }
 
 impl Blocks {
@@ -84,8 +84,8 @@ impl Blocks {
     ghost use Rattle.n2k_run.specs.contracts.blocks.Blocks.{the_row};
     ghost use Rattle.n2k_run.specs.Blocks.{unanswered, HasFeed, HasNoFeed, Answers, AnswersKnown};
     ghost use Rattle.n2k_run.specs.Device.{CountsFailure, HasFailed, one_more};
-    ghost use Rattle.n2k_run.specs.Inner.Block.{AnswersFound, FindsLine, Judges, MakesRoom};
-    ghost use Rattle.n2k_run.specs.Reading.{most_reads};
+    ghost use Rattle.n2k_run.specs.Inner.Block.{HasLine, MakesRoom, Reads, held_lines, skipped};
+    ghost use Rattle.n2k_run.specs.Reading.{idle_calls, most_reads};
     ghost use Rattle.n2k_run.specs.Inner.Reading.{Gains};
 
     /// A block before the first read.
@@ -102,17 +102,13 @@ impl Blocks {
           is_passing = false;
           has_ended = false;
           reads = 0;
-          line = [];
           room = BLOCK;
         } }
     {
         Blocks {
             block: [0; BLOCK],
-            line_start: 0,
-            line_end: 0,
             start: 0,
             end: 0,
-            feed: None,
             is_passing: false,
             has_ended: false,
             reads: 0,
@@ -126,15 +122,11 @@ impl Blocks {
           is_passing = false;
           has_ended = false;
           reads = 0;
-          line = [];
           room = BLOCK;
         } }
     {
-        self.line_start = 0;
-        self.line_end = 0;
         self.start = 0;
         self.end = 0;
-        self.feed = None;
         self.is_passing = false;
         self.has_ended = false;
         self.reads = 0;
@@ -147,12 +139,29 @@ impl Blocks {
         self.has_ended
     }
 
-    /// Whether the next line can be returned without a read.
-    pub(crate) fn has_line(&self) -> bool
-        ensures line { result ≡ true → HasFeed self.now.kept }
-        ensures none { result ≡ false → HasNoFeed self.now.kept }
+    /// The bytes not yet returned, or none if they continue a long line.
+    pub(crate) fn held(&self) -> &[u8]
+        ensures { result.now ≡ held_lines self.now }
     {
-        self.feed.is_some()
+        if self.is_passing {
+            return &[];
+        }
+        self.kept()
+    }
+
+    /// Discards the first of these bytes.
+    pub(crate) fn skip(&mut self, count: usize)
+        requires { count ≤ length self.old.kept }
+        ensures { self.new ≡ skipped count self.old }
+    {
+        self.start += count;
+    }
+
+    /// The bytes that came and were not returned yet.
+    fn kept(&self) -> &[u8]
+        ensures { result.now ≡ self.now.kept }
+    {
+        &self.block[self.start..self.end]
     }
 
     /// The next line of the bytes not yet returned and of the source's remaining bytes. If the block has no line's end,
@@ -169,7 +178,6 @@ impl Blocks {
     /// assert!(rt; matches!(next, Ok(Next::Line(line)) if line == b"two".as_slice()));
     /// assert!(rt; matches!(blocks.next_line(&mut source), Ok(Next::End)));
     /// ```
-    #[inline(always)]
     pub fn next_line<R: Source>(&mut self, reader: &mut R) -> Result<Next<'_>, Failed>
         ensures* answers { sem 𝓛 (Rests the_row self.entry (λ new.
             Answers self.old new (R.remaining reader.old) (R.remaining reader.new) (R.calls reader.old)
@@ -180,104 +188,42 @@ impl Blocks {
         ensures quiet { HasFeed self.old.kept → reader.new ≡ reader.old }
         ensures none_failed { OnOk result (R.failed_calls reader.new ≡ R.failed_calls reader.old) }
     {
-        match self.find_line(reader)? {
-            Found::Line => Ok(Next::Line(self.line())),
-            Found::Long => Ok(Next::Long),
-            Found::End => Ok(Next::End),
+        let size = self.find_end(reader)?;
+        let (start, was_passing) = (self.start, self.is_passing);
+        self.start = self.end.min(start + size + 1);
+        self.is_passing = false;
+        if self.has_ended && size == 0 && !was_passing {
+            return Ok(Next::End);
         }
+        let block = &self.block;
+        Ok(next_of(&block[start..start + size], was_passing))
     }
 
-    /// The line that was found last.
-    fn line(&self) -> &[u8]
-        ensures { result.now ≡ self.now.line }
-    {
-        &self.block[self.line_start..self.line_end]
-    }
-
-    /// Finds the next line, which the block mostly has, and reads if it doesn't.
-    #[inline(always)]
-    fn find_line<R: Source>(&mut self, reader: &mut R) -> Result<Found, Failed>
-        ensures found { AnswersFound self.old self.new (R.remaining reader.old) (R.remaining reader.new)
-            (R.calls reader.old) (R.calls reader.new) result }
-        ensures quiet { HasFeed self.old.kept → reader.new ≡ reader.old }
-        ensures none_failed { OnOk result (R.failed_calls reader.new ≡ R.failed_calls reader.old) }
-        ensures failed { OnErr result (HasFailed (R.failed_calls reader.old) (R.failed_calls reader.new)
-            ⊎ ((self.new.reads ≡ most_reads) × (R.failed_calls reader.new ≡ R.failed_calls reader.old))) }
-    {
-        match self.take_line() {
-            Some(found) => Ok(found),
-            None => self.read_line(reader),
-        }
-    }
-
-    /// Reads until a line is found. A separate function, since few lines need it.
-    #[inline(never)]
-    fn read_line<R: Source>(&mut self, reader: &mut R) -> Result<Found, Failed>
-        ensures found { AnswersFound self.old self.new (R.remaining reader.old) (R.remaining reader.new)
-            (R.calls reader.old) (R.calls reader.new) result }
+    /// The size of the first line, without its end. Reads until its end or the end of the source has come.
+    fn find_end<R: Source>(&mut self, reader: &mut R) -> Result<usize, Failed>
+        ensures found { IfOk result (λ size. HasLine self.new.kept size self.new.has_ended (R.remaining reader.new)) }
+        ensures none { OnErr result (HasNoFeed self.new.kept) }
+        ensures reads { Reads (idle_calls self.new.has_ended result) self.old self.new (R.remaining reader.old)
+            (R.remaining reader.new) (R.calls reader.old) (R.calls reader.new) }
         ensures quiet { HasFeed self.old.kept → reader.new ≡ reader.old }
         ensures none_failed { OnOk result (R.failed_calls reader.new ≡ R.failed_calls reader.old) }
         ensures failed { OnErr result (HasFailed (R.failed_calls reader.old) (R.failed_calls reader.new)
             ⊎ ((self.new.reads ≡ most_reads) × (R.failed_calls reader.new ≡ R.failed_calls reader.old))) }
     {
         loop {
-            if let Some(found) = self.take_line() {
-                return Ok(found);
+            if let Some(size) = line_end(self.kept()) {
+                self.has_ended = false;
+                return Ok(size);
             }
             if self.reads == MOST_READS {
                 return Err(Failed);
             }
             self.make_room();
             if self.read_some(reader)? == 0 {
-                return Ok(self.take_rest());
+                self.has_ended = true;
+                return Ok(self.kept().len());
             }
         }
-    }
-
-    /// Takes the first line, if the block has its end.
-    fn take_line(&mut self) -> Option<Found>
-        ensures none { IfNone result ((self.new ≡ self.old) × HasNoFeed self.old.kept) }
-        ensures found { IfSome result (λ found. (left : Option (List ℕ))
-            → FindsLine (unanswered self.old) self.new left found) }
-        ensures reads { self.new.reads ≡ self.old.reads }
-    {
-        let size = self.feed?;
-        self.has_ended = false;
-        Some(self.answer(size, 1))
-    }
-
-    /// Takes the remaining bytes at the end of the source, which have no line's end.
-    fn take_rest(&mut self) -> Found
-        requires { HasNoFeed self.old.kept }
-        ensures found { (left : Option (List ℕ)) → IsAtEnd left → FindsLine (unanswered self.old) self.new left result }
-        ensures ended { self.new.has_ended ≡ true }
-        ensures reads { self.new.reads ≡ self.old.reads }
-    {
-        self.has_ended = true;
-        let size = self.end - self.start;
-        if size == 0 && !self.is_passing {
-            return Found::End;
-        }
-        self.answer(size, 0)
-    }
-
-    /// Makes the first `size` kept bytes the line found, and discards `past` bytes after them.
-    fn answer(&mut self, size: usize, past: usize) -> Found
-        requires { size + past ≤ length self.old.kept }
-        ensures found { Judges self.old.is_passing (without_return (take size self.old.kept)) self.new.line result }
-        ensures kept { self.new.kept ≡ drop (size + past) self.old.kept }
-        ensures passing { self.new.is_passing ≡ false }
-        ensures ended { self.new.has_ended ≡ self.old.has_ended }
-        ensures reads { self.new.reads ≡ self.old.reads }
-    {
-        let line = without_return(&self.block[self.start..self.start + size]).len();
-        let is_long = self.is_passing || line > LONGEST_LINE;
-        self.line_start = self.start;
-        self.line_end = self.start + line;
-        self.start += size + past;
-        self.feed = line_end(&self.block[self.start..self.end]);
-        self.is_passing = false;
-        if is_long { Found::Long } else { Found::Line }
     }
 
     /// Makes room for a read: moves the kept bytes to the start of the block, or discards them if no line can be so
@@ -293,10 +239,7 @@ impl Blocks {
             self.is_passing = true;
             self.start = 0;
             self.end = 0;
-            self.feed = None;
         } else {
-            self.line_start = 0;
-            self.line_end = 0;
             self.block.copy_within(self.start..self.end, 0);
             self.end -= self.start;
             self.start = 0;
@@ -320,7 +263,6 @@ impl Blocks {
         self.reads += 1;
         let count = reader.read(&mut self.block[self.end..])?;
         self.end += count;
-        self.feed = line_end(&self.block[self.start..self.end]);
         Ok(count)
     }
 }

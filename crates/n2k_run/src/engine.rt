@@ -1,15 +1,15 @@
 //! The engine of the runs: it takes the lines of a log from a block, and a handler takes their entries one by one.
-ghost use Rattle.std.specs.Prelude.{◌≡◌, ◌⊎◌, [], OnOk};
-ghost use Rattle.n2k_run.specs.Blocks.{CallsAre, HasFeed};
+ghost use Rattle.std.specs.Prelude.{◌≡◌, [], false, OnOk};
+ghost use Rattle.n2k_run.specs.Blocks.{CallsAre};
 ghost use Rattle.n2k_run.specs.Fold.{Fold, after_all};
-ghost use Rattle.n2k_wire.specs.Entry.{IsShort};
+ghost use Rattle.n2k_wire.specs.Entry.{IsShort, entry};
 ghost use Rattle.n2k_run.specs.Reading.{ReadsBytes, idle_calls};
-ghost use Rattle.n2k_run.specs.Runs.{Runs, output_from, seen};
+ghost use Rattle.n2k_run.specs.Runs.{Devices, Runs, output_from, seen};
 ghost use Rattle.n2k_wire.specs.declared.entry.BadCause.TheVariants.{Long};
 ghost use Rattle.n2k_wire.specs.declared.entry.Entry.TheVariants.{Bad};
-ghost use Rattle.n2k_run.specs.Inner.Engine.{FailsPending, ReadsNext, TakesEntry, TakesNext, WritesPending};
+ghost use Rattle.n2k_run.specs.Inner.Engine.{BetweenLines, FailsPending, Proceeds, ReadsNext, TakesEntry, TakesLines, TakesNext, WritesPending, read_on};
 
-use crate::blocks::{Blocks, Next};
+use crate::blocks::{Blocks, Next, line_end, without_return};
 use crate::device::{Failed, Sink, Source};
 use crate::fault::RunFault;
 use crate::writing::{write_all, write_parts};
@@ -159,8 +159,29 @@ fn take_long<H: EntryHandler>(
         .take(engine.alloc, state, &mut entry, text, report)
 }
 
-/// Takes the next line of the log. If the block has no line's end, it reads, which may wait: so then nothing may be
-/// pending.
+/// Takes a line, given without its LF and CR.
+#[inline(always)]
+fn take_line<H: EntryHandler>(
+    engine: &Engine<'_, H>,
+    state: &mut H::State,
+    line: &[u8],
+    lines: &mut LineReader,
+    pending: &mut Pending,
+) -> Result<(), RunFault>
+    requires { H.is_ready engine.now.handler.now state.old }
+    ensures taken { TakesEntry (H.fold engine.now.handler.now) (H.known state.old) (H.known state.new)
+        (entry line.now engine.now.packing) pending.old.text.items pending.new.text.items pending.old.report.items
+        pending.new.report.items result }
+    ensures ready { OnOk result (H.is_ready engine.now.handler.now state.new) }
+{
+    let entry = lines.read_mut(line, engine.packing);
+    let Pending { text, report } = pending;
+    engine
+        .handler
+        .take(engine.alloc, state, entry, text, report)
+}
+
+/// Takes the next line of the log. This mostly reads, which may wait: so nothing may be pending.
 fn take_next<H: EntryHandler, R: Source>(
     engine: &Engine<'_, H>,
     state: &mut H::State,
@@ -170,7 +191,7 @@ fn take_next<H: EntryHandler, R: Source>(
     pending: &mut Pending,
 ) -> Result<(), RunFault>
     requires ready { H.is_ready engine.now.handler.now state.old }
-    requires written { HasFeed blocks.old.kept ⊎ ((pending.old.text.items ≡ []) × (pending.old.report.items ≡ [])) }
+    requires written { (pending.old.text.items ≡ []) × (pending.old.report.items ≡ []) }
     ensures taken { TakesNext (H.fold engine.now.handler.now) engine.now.packing (H.known state.old) (H.known state.new)
         blocks.old blocks.new (R.remaining reader.old) (R.remaining reader.new)
         pending.old.text.items pending.new.text.items pending.old.report.items pending.new.report.items result }
@@ -181,17 +202,45 @@ fn take_next<H: EntryHandler, R: Source>(
     ensures called { CallsAre (R.calls reader.old) (R.calls reader.new) blocks.old.reads blocks.new.reads }
 {
     match blocks.next_line(reader) {
-        Ok(Next::Line(line)) => {
-            let entry = lines.read_mut(line, engine.packing);
-            let Pending { text, report } = pending;
-            engine
-                .handler
-                .take(engine.alloc, state, entry, text, report)
-        }
+        Ok(Next::Line(line)) => take_line(engine, state, line, lines, pending),
         Ok(Next::Long) => take_long(engine, state, pending),
         Ok(Next::End) => Ok(()),
         Err(Failed) => Err(RunFault::Read),
     }
+}
+
+/// Takes the next line of the log, and then each line whose end the block has.
+fn take_lines<H: EntryHandler, R: Source>(
+    engine: &Engine<'_, H>,
+    state: &mut H::State,
+    blocks: &mut Blocks,
+    reader: &mut R,
+    lines: &mut LineReader,
+    pending: &mut Pending,
+) -> Result<(), RunFault>
+    requires ready { H.is_ready engine.now.handler.now state.old }
+    requires written { (pending.old.text.items ≡ []) × (pending.old.report.items ≡ []) }
+    requires open { blocks.old.has_ended ≡ false }
+    ensures taken { (s₀ : H.Known) (before now : Devices) → BetweenLines (H.fold engine.now.handler.now) engine.now.packing
+        s₀ (H.known state.old) blocks.old pending.old.text.items pending.old.report.items before
+        (read_on now (R.remaining reader.old) (R.calls reader.old) (R.failed_calls reader.old))
+        → TakesLines (H.fold engine.now.handler.now) engine.now.packing s₀ (H.known state.new) blocks.new
+        pending.new.text.items pending.new.report.items before now (R.remaining reader.new) (R.calls reader.new)
+        (R.failed_calls reader.new) result }
+    ensures proceeds { OnOk result (Proceeds (H.fold engine.now.handler.now) (H.known state.old) (H.known state.new)
+        blocks.new.has_ended) }
+    ensures ready { OnOk result (H.is_ready engine.now.handler.now state.new) }
+{
+    take_next(engine, state, blocks, reader, lines, pending)?;
+    let held = blocks.held();
+    let mut at = 0;
+    while let Some(size) = line_end(&held[at..]) {
+        let line = without_return(&held[at..at + size]);
+        take_line(engine, state, line, lines, pending)?;
+        at += size + 1;
+    }
+    blocks.skip(at);
+    Ok(())
 }
 
 /// The run of a handler over a log, from a given state: the promise of every run.
@@ -225,10 +274,8 @@ pub(crate) fn run_entries<H: EntryHandler, R: Source, W: Sink, E: Sink>(
     blocks.restart();
     pending.clear();
     'lines: while !blocks.has_ended() {
-        if !blocks.has_line() {
-            pending.write(writer, reporter)?;
-        }
-        match take_next(&engine, state, blocks, reader, lines, pending) {
+        pending.write(writer, reporter)?;
+        match take_lines(&engine, state, blocks, reader, lines, pending) {
             Ok(()) => {}
             Err(fault) => match fault {
                 RunFault::Memory => return Err(fault),

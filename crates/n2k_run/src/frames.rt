@@ -1,14 +1,12 @@
 //! The run of `frames`: each whole message of a log as the lines of its frames.
-ghost use Rattle.std.specs.Prelude.{◌≡◌, ◌≤◌, length, IfOk, IfSome, OnErr, OnOk};
+ghost use Rattle.std.specs.Prelude.{◌≡◌, List, ℕ, Err, IfErr, IfOk, IfSome, OnOk};
 ghost use Rattle.std.specs.Io.KnownBytes.{Appends};
-ghost use Rattle.n2k_wire.specs.Candump.{frame_payload};
-ghost use Rattle.n2k_wire.specs.Texts as texts;
 ghost use Rattle.n2k_table.specs.Table.{kind};
 ghost use Rattle.n2k_join.specs.Pieces.{first_sequences};
 ghost use Rattle.n2k_join.specs.Splitter.{sequences};
 ghost use Rattle.n2k_run.specs.FramesOut.{IsInterface, interface_of, frames_counts, frames_out, frames_output, frames_reports, frame_counts_of};
 ghost use Rattle.n2k_run.specs.Runs.{Runs, seen};
-ghost use Rattle.n2k_run.specs.Inner.Sending.{SentLine, SentMessage, frame_line};
+ghost use Rattle.n2k_run.specs.Inner.Sending.{BeginsLines, SentLine, SentMessage, frame_line};
 
 use crate::device::{Sink, Source};
 use crate::engine::{EntryHandler, RunRoom, run_entries};
@@ -16,7 +14,7 @@ use crate::fault::RunFault;
 use crate::texts::bad_text;
 use n2k_join::{Counts, MOST_LINES, SplitFault, Splitter, laws};
 use n2k_table::{LineBuffer, Table};
-use n2k_wire::{BadCause, CandumpLines, Entry, Id, Packet, Packing, WireFault, plain_text};
+use n2k_wire::{BadCause, CandumpLines, Entry, Id, LineHead, Packet, Packing, WireFault};
 use std::alloc::{AllocError, Global};
 
 /// The outcome of a line.
@@ -30,21 +28,23 @@ enum Outcome {
     Bad(BadCause),
 }
 
-/// Appends the line of a frame: a plain line, or candump's at an interface.
-fn append_line(
-    alloc: Global,
+/// Turns a head into the start of a message's lines: plain lines, or candump's at an interface.
+fn set_head(
     lines: &mut Option<CandumpLines>,
-    frame: &Packet,
-    text: &mut Vec<u8>,
+    message: &Packet,
+    head: &mut LineHead,
 ) -> Result<(), WireFault>
-    requires { length frame.now.payload ≤ frame_payload }
-    ensures text { texts.Appends (frame_line lines.old frame.now) result text.old.items text.new.items }
-    ensures unchanged { OnErr result (text.new.items ≡ text.old.items) }
+    ensures head { OnOk result (BeginsLines lines.old message.now head.new) }
+    ensures fault { IfErr result (λ fault. (payload : List ℕ)
+        → frame_line lines.old (record message.now { payload = payload }) ≡ Err fault) }
     ensures interface { lines.new ≡ lines.old }
 {
     match lines {
-        Some(lines) => lines.append(alloc, frame, text),
-        None => plain_text(alloc, frame, text).map_err(|_| WireFault::Memory),
+        Some(lines) => lines.set_head(message, head),
+        None => {
+            head.set_plain(message);
+            Ok(())
+        }
     }
 }
 
@@ -54,6 +54,8 @@ struct Sender<'a> {
     splitter: Splitter,
     /// The lines at the interface, if one is given.
     lines: Option<CandumpLines<'a>>,
+    /// The start of the lines of a message.
+    head: LineHead,
     /// Room for a frame.
     frame: Packet,
 }
@@ -91,6 +93,7 @@ impl<'a> FrameLines<'a> {
                 Some(name) => Some(CandumpLines::new(name)),
                 None => None,
             },
+            head: LineHead::EMPTY,
             frame: Packet::new(b"-", id, b"").unwrap(),
         }
     }
@@ -114,17 +117,16 @@ impl<'a> FrameLines<'a> {
             Err(SplitFault::TooLong) => return Ok(Outcome::Bad(BadCause::Size)),
             Err(SplitFault::Memory) => return Err(AllocError),
         };
-        let before = text.len();
+        if let Err(fault) = set_head(&mut sender.lines, message, &mut sender.head) {
+            return match fault {
+                WireFault::NoStamp => Ok(Outcome::Bad(BadCause::Time)),
+                WireFault::NoId => Ok(Outcome::Bad(BadCause::Address)),
+                WireFault::Memory => Err(AllocError),
+            };
+        }
         for number in 0..frames.count() {
             let frame = frames.frame(number, &mut sender.frame);
-            if let Err(fault) = append_line(alloc, &mut sender.lines, frame, text) {
-                text.truncate(before);
-                return match fault {
-                    WireFault::NoStamp => Ok(Outcome::Bad(BadCause::Time)),
-                    WireFault::NoId => Ok(Outcome::Bad(BadCause::Address)),
-                    WireFault::Memory => Err(AllocError),
-                };
-            }
+            sender.head.append(alloc, frame.data(), text)?;
         }
         Ok(Outcome::Written)
     }

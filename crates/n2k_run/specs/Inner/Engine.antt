@@ -1,5 +1,5 @@
 -- The engine of the runs between two lines, and its steps.
-use Rattle.std.specs.Prelude.{◌≡◌, ◌⊎◌, ◌<◌, ◌+◌, ℕ, true, false, if◌then◌else◌, List, [], ◌++◌, length, Option, Result}
+use Rattle.std.specs.Prelude.{◌≡◌, ◌⊎◌, ◌<◌, ◌≤◌, ◌+◌, ℕ, Bool, true, false, if◌then◌else◌, List, [], ◌++◌, length, Option, Result}
 use Rattle.std.specs.Prelude.{Ok, Err}
 use Rattle.std.specs.Io.{IsEmptyOrEndsWith}
 use Rattle.std.specs.Io.KnownBytes.{Appends, Consumes, IsAtEnd}
@@ -129,3 +129,38 @@ pub record BetweenLines {S : Type 0} (m : Fold S) (packing : Packing) (s₀ s : 
   -- each call but the one that found the end gave bytes
   pub reads : ReadsBytes (if held.has_ended then 1 else 0) before.left now.left before.calls now.calls
   pub none_failed : NoneFailed before now
+
+-- more lines are counted, or the log has ended
+abbrev pub Proceeds : {S : Type 0} → Fold S → S → S → Bool → Type 0
+Proceeds m s s' has_ended =
+    ((m.lines s < most_lines) × (m.lines s < m.lines s')) ⊎ ((has_ended ≡ true) × (m.lines s ≤ m.lines s'))
+
+-- the devices of a run, with the source at another place
+abbrev pub read_on : Devices → Option (List ℕ) → ℕ → ℕ → Devices
+read_on now left calls failed = record now { left = left; calls = calls; failed_reads = failed }
+
+-- a fault at the next line, which came to an engine between two lines
+pub record StopsAtLine {S T : Type 0} (m : Fold S) (packing : Packing) (s₀ s' : S) (text' report' : List ℕ)
+    (before now : Devices) (left' : Option (List ℕ)) (calls' failed' : ℕ) (result : Result T RunFault) : Type 0 where
+  pub s : S
+  pub held : BlocksView
+  pub held' : BlocksView
+  pub text : List ℕ
+  pub report : List ℕ
+  pub left : Option (List ℕ)
+  pub calls : ℕ
+  pub failed : ℕ
+  pub stands : BetweenLines m packing s₀ s held text report before (read_on now left calls failed)
+  pub on : held.has_ended ≡ false
+  pub next : TakesNext m packing s s' held held' left left' text text' report report' result
+  pub device : ReadsNext held' failed failed' result
+  pub called : CallsAre calls calls' held.reads held'.reads
+  pub reads : ReadsBytes 1 left left' calls calls'
+
+-- the step over the next lines, from between two lines
+abbrev pub TakesLines : {S T : Type 0} → Fold S → Packing → S → S → BlocksView → List ℕ → List ℕ → Devices → Devices
+    → Option (List ℕ) → ℕ → ℕ → Result T RunFault → Type 0
+TakesLines m packing s₀ s' held' text' report' before now left' calls' failed' (Ok y) =
+    BetweenLines m packing s₀ s' held' text' report' before (read_on now left' calls' failed')
+TakesLines {T = T} m packing s₀ s' held' text' report' before now left' calls' failed' (Err fault) =
+    StopsAtLine {T = T} m packing s₀ s' text' report' before now left' calls' failed' (Err fault)

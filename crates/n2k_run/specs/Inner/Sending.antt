@@ -5,6 +5,7 @@ use Rattle.n2k_wire.specs.declared.entry.BadCause.{BadCause}
 use Rattle.n2k_wire.specs.declared.entry.Entry.{Entry}
 use Rattle.n2k_wire.specs.declared.entry.Entry.TheVariants as lines
 use Rattle.n2k_wire.specs.declared.fault.WireFault.{WireFault}
+use Rattle.n2k_wire.specs.Heads.{line_after}
 use Rattle.n2k_wire.specs.Packet.{PacketParts}
 use Rattle.n2k_wire.specs.Texts.{candump_text, plain_text}
 use Rattle.n2k_table.specs.declared.definition.Kind.{Kind}
@@ -33,6 +34,11 @@ pub record AreFrameCounts (c : Counts) : Type 0 where
 abbrev pub frame_line : Option (List ℕ) → PacketParts → Result (List ℕ) WireFault
 frame_line None frame = Ok (plain_text frame)
 frame_line (Some interface) frame = candump_text interface frame
+
+-- a head begins the lines of a message's frames, which differ in their data alone
+abbrev pub BeginsLines : Option (List ℕ) → PacketParts → List ℕ → Type 0
+BeginsLines interface m head =
+    (payload : List ℕ) → frame_line interface (record m { payload = payload }) ≡ Ok (line_after head payload)
 
 -- the outcome of a message, by why it isn't written
 abbrev pub outcome_by : Option BadCause → Outcome

@@ -1,23 +1,13 @@
 use Rattle.std.proofs.Common.{sym, ◌∙◌}
 use Rattle.std.proofs.lemmas.Result.{err_from_is_err_and}
 use Rattle.n2k_run.specs.Runs.{Devices, seen}
-use Rattle.n2k_run.specs.Inner.Engine.{BetweenLines}
-use Rattle.n2k_run.proofs.Running.{begins, writes, takes, none_read, sink_end, memory_end, last_end, still_made, fault_end, lead_of, calls_here, calls_next}
+use Rattle.n2k_run.proofs.HeldLines.{nearer}
+use Rattle.n2k_run.proofs.Running.{begins, writes, none_read, sink_end, memory_end, last_end, still_made, fault_end, lead_of, calls_here, calls_next}
 use Rattle.n2k_run.proofs.engine.run_entries.Given.{Over}
 use Rattle.n2k_run.proofs.engine.run_entries.Goals as goal
-use Rattle.n2k_run.proofs.engine.run_entries.Goals.{After-take_next, then-not-has_line+in_ok-write, else-not-has_line}
 
 abbrev devices : (g : Over) → g.row.R.Denot → g.row.W.Denot → g.row.E.Denot → Devices
 devices g = seen g.R.Source g.W.Sink g.E.Sink
-
--- the next line is taken here
-stood : (g : Over) (c : After-take_next g) → BetweenLines (g.H.EntryHandler.fold c.args.handler.now) c.args.packing (g.H.EntryHandler.known c.args.state.now) (g.H.EntryHandler.known c.lines.state) c.lines.blocks c.if-not-has_line.pending.text.items c.if-not-has_line.pending.report.items (devices g c.args.reader.now c.args.writer.now c.args.reporter.now) (devices g c.lines.reader c.if-not-has_line.writer c.if-not-has_line.reporter)
-stood g c = elim c.if-not-has_line.branch [
-  | then-not-has_line+in_ok-write w ↦
-      let e = w.in_ok-write.ensures in
-      rw (w.writer-is, w.reporter-is, w.pending-is) (writes _ _ _ _ _ _ _ _ _ _ _ _ _ _ _ c.lines.invariant.stands e.written e.device e.none_pending)
-  | else-not-has_line w ↦ rw (w.writer-is, w.reporter-is, w.pending-is) c.lines.invariant.stands
-]
 
 pub lines-init : goal.lines-init
 lines-init g c = record { stands = begins _ _ _ _ _ _ _ c.restart.ensures c.clear.ensures.text c.clear.ensures.report; ready = c.requires }
@@ -31,33 +21,43 @@ returns-in_err-write-clause-runs g c =
 
 pub lines-preserved : goal.lines-preserved
 lines-preserved g c =
+    let w = c.in_ok-write.ensures in
     let e = c.in-Ok.ensures in
-    let here = stood g (goal.at.lines-preserved g c).After-take_next in
-    record { stands = takes _ _ _ _ _ _ _ _ _ _ _ _ _ _ _ _ here (sym c.has_ended.ensures ∙ c.lines-test.true) e.taken e.device e.called e.reads; ready = e.ready }
+    let here = writes _ _ _ _ _ _ _ _ _ _ _ _ _ _ _ c.lines.invariant.stands w.written w.device w.none_pending in
+    record { stands = e.taken _ _ (devices g c.lines.reader c.write.new.writer c.write.new.reporter) here; ready = e.ready }
+
+pub lines-smaller : goal.lines-smaller
+lines-smaller g c = nearer (g.H.EntryHandler.fold c.args.handler.now) _ _ c.lines.blocks.has_ended _ (sym c.has_ended.ensures ∙ c.lines-test.true) c.in-Ok.ensures.proceeds
 
 pub returns-in-Memory-clause-runs : goal.returns-in-Memory-clause-runs
 returns-in-Memory-clause-runs g c =
-    let here = stood g (goal.at.returns-in-Memory-clause-runs g c).After-take_next in
-    rw c.in-Memory.is (memory_end _ _ _ _ _ _ _ _ _ _ _ _ _ here (sym c.has_ended.ensures ∙ c.lines-test.true) c.in-Err.ensures.reads (rw c.in-Memory.is at c.in-Err.ensures.device))
+    let w = c.in_ok-write.ensures in
+    let here = writes _ _ _ _ _ _ _ _ _ _ _ _ _ _ _ c.lines.invariant.stands w.written w.device w.none_pending in
+    let stop = c.in-Err.ensures.taken _ _ (devices g c.lines.reader c.write.new.writer c.write.new.reporter) here in
+    rw c.in-Memory.is (memory_end _ _ _ _ _ _ _ _ _ _ _ _ _ stop.stands stop.on stop.reads (rw c.in-Memory.is at stop.device))
 
 pub returns-in_err-write-in_default : goal.returns-in_err-write-in_default
 returns-in_err-write-in_default g c =
     let p = err_from_is_err_and c.from_residual-in_err-write-in_default.result c.from_residual-in_err-write-in_default.ensures.1 in
-    let here = stood g (goal.at.returns-in_err-write-in_default g c).After-take_next in
+    let v = c.in_ok-write.ensures in
+    let here = writes _ _ _ _ _ _ _ _ _ _ _ _ _ _ _ c.lines.invariant.stands v.written v.device v.none_pending in
+    let stop = c.in-Err.ensures.taken _ _ (devices g c.lines.reader c.write.new.writer c.write.new.reporter) here in
     let w = c.in_err-write-in_default.ensures in
-    let sound = none_read (g.H.EntryHandler.fold c.args.handler.now) c.args.packing _ _ _ _ _ _ _ _ _ _ _ _ _ _ _ _ c.in-Err.fault _ c.in-Err.ensures.taken c.in_default.not-Memory c.in-Err.ensures.device w.written in
-    let made = still_made _ _ _ _ _ _ _ _ _ _ _ _ _ _ (g.R.Source.calls c.take_next.new.reader) (g.R.Source.failed_calls c.take_next.new.reader) c.in-Err.fault here c.in-Err.ensures.taken c.in_default.not-Memory _ here.made in
+    let sound = none_read (g.H.EntryHandler.fold c.args.handler.now) c.args.packing _ _ _ _ _ _ _ _ _ _ _ _ _ _ _ _ c.in-Err.fault _ stop.next c.in_default.not-Memory stop.device w.written in
+    let made = still_made _ _ _ _ _ _ _ _ _ _ _ _ _ _ (g.R.Source.calls c.take_lines.new.reader) (g.R.Source.failed_calls c.take_lines.new.reader) c.in-Err.fault stop.stands stop.next c.in_default.not-Memory _ stop.stands.made in
     record {
-      runs = rw (p.1, p.2) (sink_end _ _ _ _ _ _ _ _ _ (devices g c.take_next.new.reader c.if-not-has_line.writer c.if-not-has_line.reporter) (devices g c.take_next.new.reader c.write-in_default.new.writer c.write-in_default.new.reporter) _ made (lead_of _ _ _ _ _ _ _ _ _ here) (sound ∙ here.none_failed.reads) here.none_failed.writes here.none_failed.reports w.written w.device (calls_next _ _ _ _ _ _ _ _ _ _ _ here (sym c.has_ended.ensures ∙ c.lines-test.true) c.in-Err.ensures.reads));
+      runs = rw (p.1, p.2) (sink_end _ _ _ _ _ _ _ _ _ (devices g c.take_lines.new.reader c.write.new.writer c.write.new.reporter) (devices g c.take_lines.new.reader c.write-in_default.new.writer c.write-in_default.new.reporter) _ made (lead_of _ _ _ _ _ _ _ _ _ stop.stands) (sound ∙ stop.stands.none_failed.reads) stop.stands.none_failed.writes stop.stands.none_failed.reports w.written w.device (calls_next _ _ _ _ _ _ _ _ _ _ _ stop.stands stop.on stop.reads));
       ready = rw p.1 tt;
     }
 
 pub returns-in_default : goal.returns-in_default
 returns-in_default g c =
-    let here = stood g (goal.at.returns-in_default g c).After-take_next in
-    let e = c.in-Err.ensures in
+    let v = c.in_ok-write.ensures in
+    let here = writes _ _ _ _ _ _ _ _ _ _ _ _ _ _ _ c.lines.invariant.stands v.written v.device v.none_pending in
+    let stop = c.in-Err.ensures.taken _ _ (devices g c.lines.reader c.write.new.writer c.write.new.reporter) here in
+    let w = c.in_ok-write-in_default.ensures in
     record {
-      runs = fault_end _ _ _ _ _ _ _ _ _ _ _ _ _ _ _ _ _ _ _ _ c.in-Err.fault here (sym c.has_ended.ensures ∙ c.lines-test.true) e.taken c.in_default.not-Memory e.device e.called e.reads c.in_ok-write-in_default.ensures.written c.in_ok-write-in_default.ensures.device;
+      runs = fault_end _ _ _ _ _ _ _ _ _ _ _ _ _ _ _ _ _ _ _ _ c.in-Err.fault stop.stands stop.on stop.next c.in_default.not-Memory stop.device stop.called stop.reads w.written w.device;
       ready = tt;
     }
 

@@ -1,10 +1,9 @@
-use Rattle.std.proofs.Common.{◌≡◌, ◌-◌, ◌+◌, ◌≤◌, [], List, ℕ, length, Option, Some, None, refl, sym, ap, ◌∙◌, subst, arith, add-zero, append-nil}
+use Rattle.std.proofs.Common.{◌≡◌, ◌-◌, ◌+◌, ◌≤◌, [], List, ℕ, length, Option, Some, None, refl, sym, ap, ◌∙◌, arith, add-zero, append-nil}
 use Rattle.std.specs.Io.KnownBytes.{Consumes, Keeps}
 use Rattle.std.specs.List.{slice_range}
 use Rattle.std.proofs.lemmas.Result.{err_from_is_err_and}
 use borrow.Rule.Slice.PartMut.{put_mid}
 use Rattle.n2k_run.specs.Blocks.{BlocksView}
-use Rattle.n2k_run.specs.Inner.Block.{FindsEnd}
 use Rattle.n2k_run.proofs.Ranges.{length-range, range_grown}
 use Rattle.n2k_run.proofs.blocks.Blocks.read_some.Goals as goal
 
@@ -17,22 +16,6 @@ none_taken (Some bytes) (Some rest) keeps = sym keeps
 -- if no byte came, the kept bytes are unchanged
 same_kept : (b ys : List ℕ) (s e k n : ℕ) → s ≤ e → e + k ≡ length b → length ys ≡ k → n ≡ 0 → slice_range (put_mid e k b ys) s (e + n) ≡ slice_range b s e
 same_kept b ys s e k n in_order whole size none = rw none (range_grown b ys s e k 0 in_order whole size (omega arith) ∙ append-nil (slice_range b s e))
-
--- the kept bytes are as they were, and so is the place of the first line feed in them
-pub invariant_of-self : goal.invariant_of-self
-invariant_of-self g c =
-    let i = c.self.inside in
-    let size : length c.read.new.buffer ≡ 4096 - i.end = c.read.auto.buffer ∙ length-range i.block i.end 4096 (omega arith) (omega arith) in
-    let same = same_kept i.block c.read.new.buffer i.start i.end (4096 - i.end) 0 c.self.invariant.kept_ends (omega arith) size refl in
-    let reads = ap (λ (h : BlocksView). h.reads) c.self.view_is in
-    record {
-      line_ends = c.self.invariant.line_ends;
-      line_within = c.self.invariant.line_within;
-      kept_ends = c.self.invariant.kept_ends;
-      kept_within = c.self.invariant.kept_within;
-      finds = subst (λ kept. FindsEnd kept i.feed) (sym (rw add-zero at same)) c.self.invariant.finds;
-      few_reads = omega (arith, reads, c.requires.few);
-    }
 
 pub returns-in_err-count-clause-gains : goal.returns-in_err-count-clause-gains
 returns-in_err-count-clause-gains g c =

@@ -1,38 +1,28 @@
-use Rattle.std.proofs.Common.{◌≡◌, length, refl, ap, ◌∙◌, Some, option_map, rules}
+use Rattle.std.proofs.Common.{◌≡◌, ◌++◌, refl, ap, ◌∙◌, Some, option_map, arith}
 use Rattle.n2k_wire.specs.declared.entry.BadCause.TheVariants.{Time, Address}
+use Rattle.n2k_wire.specs.Heads.{line_after}
 use Rattle.n2k_table.specs.Table.{kind}
 use Rattle.n2k_join.specs.Splitter.{sequences}
 use Rattle.n2k_run.specs.declared.frames.Outcome.TheVariants.{Bad}
 use Rattle.n2k_run.specs.FramesOut.{fault_cause, interface_of}
-use Rattle.n2k_run.proofs.SentFrames.{frame_of, cut_back, line_appended, no_line, not_sent, one_more, split_of}
+use Rattle.n2k_run.proofs.SentFrames.{frame_of, line_of, no_line, not_sent, one_more, seen, sent, split_of}
 use Rattle.n2k_run.proofs.frames.FrameLines.send.Goals as goal
-
-pub append_line-requires : goal.append_line-requires
-append_line-requires c = (frame_of _ c.args.message.now _ c.in-Ok.frames c.loop-number.number c.frame-frame.result.now c.in-Ok.ensures.frames (split_of _ _ c.in-Ok.ensures.refused) c.frame-frame.ensures).short
 
 pub returns-in-NoStamp-clause-sent : goal.returns-in-NoStamp-clause-sent
 returns-in-NoStamp-clause-sent c =
     let i = interface_of c.args.self.now.interface in
     let m = c.args.message.now in
-    let split = split_of _ _ c.in-Ok.ensures.refused in
-    let frame = frame_of _ m _ c.in-Ok.frames c.loop-number.number c.frame-frame.result.now c.in-Ok.ensures.frames split c.frame-frame.ensures in
-    let len : c.len-before.result ≡ length c.args.text.now.items = search rules in
-    let cut : c.truncate.new.self.items ≡ c.args.text.now.items = cut_back c.args.text.now.items _ c.loop-number.text.items _ _ _ c.loop-number.invariant.text c.in-Err.ensures.unchanged len c.truncate.ensures.items in
     let outcome : Some (Bad Time) ≡ option_map Bad (fault_cause c.in-Err.fault) = rw c.in-NoStamp.is refl in
-    rw cut (not_sent (kind c.args.self.now.table.now) i m _ _ c.in-Err.fault (Bad Time) c.args.text.now.items split (ap sequences c.loop-number.invariant.splitter ∙ c.in-Ok.ensures.raised)
-    (no_line i m c.frame-frame.result.now c.in-Err.fault (Bad Time) _ _ frame outcome (rw c.loop-number.invariant.lines at c.in-Err.ensures.text)) outcome)
+    not_sent (kind c.args.self.now.table.now) i m _ _ c.in-Err.fault (Bad Time) c.args.text.now.items (split_of _ _ c.in-Ok.ensures.refused) c.in-Ok.ensures.raised
+    (no_line i m c.in-Err.fault (Bad Time) outcome (λ payload. rw c.requires at (c.in-Err.ensures.fault payload))) outcome
 
 pub returns-in-NoId-clause-sent : goal.returns-in-NoId-clause-sent
 returns-in-NoId-clause-sent c =
     let i = interface_of c.args.self.now.interface in
     let m = c.args.message.now in
-    let split = split_of _ _ c.in-Ok.ensures.refused in
-    let frame = frame_of _ m _ c.in-Ok.frames c.loop-number.number c.frame-frame.result.now c.in-Ok.ensures.frames split c.frame-frame.ensures in
-    let len : c.len-before.result ≡ length c.args.text.now.items = search rules in
-    let cut : c.truncate.new.self.items ≡ c.args.text.now.items = cut_back c.args.text.now.items _ c.loop-number.text.items _ _ _ c.loop-number.invariant.text c.in-Err.ensures.unchanged len c.truncate.ensures.items in
     let outcome : Some (Bad Address) ≡ option_map Bad (fault_cause c.in-Err.fault) = rw c.in-NoId.is refl in
-    rw cut (not_sent (kind c.args.self.now.table.now) i m _ _ c.in-Err.fault (Bad Address) c.args.text.now.items split (ap sequences c.loop-number.invariant.splitter ∙ c.in-Ok.ensures.raised)
-    (no_line i m c.frame-frame.result.now c.in-Err.fault (Bad Address) _ _ frame outcome (rw c.loop-number.invariant.lines at c.in-Err.ensures.text)) outcome)
+    not_sent (kind c.args.self.now.table.now) i m _ _ c.in-Err.fault (Bad Address) c.args.text.now.items (split_of _ _ c.in-Ok.ensures.refused) c.in-Ok.ensures.raised
+    (no_line i m c.in-Err.fault (Bad Address) outcome (λ payload. rw c.requires at (c.in-Err.ensures.fault payload))) outcome
 
 pub loop-number-preserved : goal.loop-number-preserved
 loop-number-preserved c =
@@ -40,11 +30,19 @@ loop-number-preserved c =
     let m = c.args.message.now in
     let p = c.frame-frame.result.now in
     let before = c.loop-number.invariant in
-    let frame = frame_of _ m _ c.in-Ok.frames c.loop-number.number p c.in-Ok.ensures.frames (split_of _ _ c.in-Ok.ensures.refused) c.frame-frame.ensures in
-    let appended = line_appended i m p _ _ frame (rw before.lines at c.in_default.ensures.text) in
+    let frame = frame_of _ m _ c.in-Ok.frames c.loop-number.number p c.in-Ok.ensures.frames c.frame-frame.ensures in
+    let line = ap (line_after c.loop-number.sender.head) c.data.ensures.value ∙ line_of i m p c.loop-number.sender.head frame before.head in
     record {
-      lines = c.in_default.ensures.interface ∙ before.lines;
+      lines = before.lines;
       splitter = before.splitter;
-      text = one_more i c.in-Ok.frames c.loop-number.number p c.args.text.now.items _ _ c.frame-frame.ensures before.text appended.text_is;
-      seen = λ some. appended.seen;
+      head = before.head;
+      text = one_more i c.in-Ok.frames c.loop-number.number p c.args.text.now.items _ _ c.frame-frame.ensures before.text (c.in_ok-append.ensures.ok ∙ ap (λ t. c.loop-number.text.items ++ t) line);
     }
+
+pub returns-clause-sent : goal.returns-clause-sent
+returns-clause-sent c =
+    let i = interface_of c.args.self.now.interface in
+    let m = c.args.message.now in
+    sent (kind c.args.self.now.table.now) i m _ _ c.in-Ok.frames c.loop-number.number c.args.text.now.items _ c.in-Ok.ensures.frames (split_of _ _ c.in-Ok.ensures.refused)
+    (ap sequences c.loop-number.invariant.splitter ∙ c.in-Ok.ensures.raised) (seen i m c.loop-number.sender.head c.loop-number.invariant.head)
+    (omega (arith, c.loop-number-test.false, c.count-number-end.ensures.value)) c.loop-number.invariant.text
