@@ -9,7 +9,7 @@ makes COUNT random messages of the definitions in TABLE, or those of COUNT rando
 plain lines from these, and `decode --whole` has to print the same lines again. Refusals of `encode` are counted by
 code: with the shipped table there may be none; in a random table fields may share bits, and no data show two values of
 one bit (B18). A report without a field's name is a failure, and so is a refused value (B17), except of flags with a name
-twice, and of data that match nothing in a table with a definition called Unmatched. The last line ends with `N failures` (Python 3.11 or newer).
+twice. The last line ends with `N failures` (Python 3.11 or newer).
 """
 import collections
 import json
@@ -136,10 +136,7 @@ class Judge:
         plain_lines, reports = self.run("encode", "--table", table, given=shown)
         bad = {int(n) - 1: code for n, code in re.findall(r"^line (\d+) bad (B\d+) ", reports, re.M)}
         self.failures += len(re.findall(r"^line \d+ bad B1[678] \w+( \"\")?$", reports, re.M))
-        with open(table, encoding="utf-8") as file:
-            has_unmatched = '"Unmatched"' in file.read()
-        values = [json.loads(shown[n]) for n, code in bad.items() if code == "B17"]
-        self.failures += sum(not (has_twice(one) or has_unmatched and one["description"] == "Unmatched") for one in values)
+        self.failures += sum(code == "B17" and not has_twice(json.loads(shown[n])) for n, code in bad.items())
         self.refused.update(bad.values())
         kept = [line for n, line in enumerate(shown) if n not in bad]
         again = self.run("decode", "--whole", "--table", table, given=plain_lines)[0] if plain_lines else []

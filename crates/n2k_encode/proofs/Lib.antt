@@ -1,5 +1,6 @@
 pub mod Again
 pub mod Befores
+pub mod Bytes
 pub mod Firsts
 pub mod Laid
 pub mod Named

@@ -1,11 +1,11 @@
 -- The whole part of a number times a power of ten, as the code finds it: no greater than a limit.
-use Rattle.std.proofs.Common.{◌≡◌, ℕ, suc, ◌+◌, ◌-◌, ◌*◌, ◌^◌, ◌<◌, ◌≤◌, ◌⊎◌, min, nat_eq, ltb, not, Bool, List, length, take, drop, take_all, get_or, Some, None, inl, inr, arith, lit<, lit≤, refl, sym, ap, ◌∙◌, mul-le-mul_left, mul-le-mul_right, pow-suc}
-use Rattle.std.specs.Str.Parse.{digits_value}
+use Rattle.std.proofs.Common.{◌≡◌, ℕ, suc, ◌+◌, ◌-◌, ◌*◌, ◌%◌, ◌^◌, ◌<◌, ◌≤◌, ◌⊎◌, min, nat_eq, ltb, not, Bool, List, length, take, drop, take_all, get_or, Some, None, inl, inr, arith, lit<, lit≤, refl, sym, ap, ◌∙◌, mul-le-mul_left, mul-le-mul_right, pow-suc}
+use Rattle.std.specs.Str.Parse.{AllDigits, digits_value}
 use Rattle.std.specs.Char.{digit_value}
 use Rattle.std.proofs.lemmas.Bool.{cases_lt}
 use Rattle.std.proofs.lemmas.List.{drop_all}
 use Rattle.core.proofs.dec2flt.ExactLemmas.{ten_to_pos}
-use Rattle.core.proofs.dec2flt.Rows.{rest_some, rest_zero}
+use Rattle.core.proofs.dec2flt.Rows.{rest_some, rest_zero, short_fits}
 use Rattle.fast_float.specs.Text.{Parts}
 use Rattle.n2k_encode.specs.Numeral.{whole_part, has_fraction, scaled}
 use native.Mathlib.Nat.{pow-le-pow_right, zero-mul, mul_left_comm}
@@ -70,6 +70,13 @@ kept_rest ds p kept e =
       | inl inside ↦ ap (λ n. drop n ds) (let same : kept ≡ p = omega (arith, e) in same)
       | inr past ↦ drop_all kept ds (omega (arith, e)) ∙ sym (drop_all p ds past)
     ]
+
+-- the number that all digits make, if 64 bits can hold it
+pub all_kept : (ds : List ℕ) (count : ℕ) → AllDigits 10 ds → length ds ≤ count → length ds ≤ 19 → digits_value 10 ds % 2 ^ 64 ≡ min (digits_value 10 (take count ds)) (2 ^ 100)
+all_kept ds count digits whole few =
+    let all : take count ds ≡ ds = take_all count ds whole in
+    let fits : digits_value 10 ds < 2 ^ 64 = short_fits ds digits few in
+    rw all (omega (arith, fits))
 
 -- The point as the code has it: exactly, or far past the end of any text, whose digits before the point are so many.
 abbrev pub IsPoint : ℕ → ℕ → ℕ → Type 0

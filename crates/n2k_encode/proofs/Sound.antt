@@ -1,5 +1,5 @@
 -- Data that the definition gives read back.
-use Rattle.std.proofs.Common.{if◌then◌else◌, codes, length, option_map, nat_le, ◌≡◌, ℕ, zero, suc, ◌+◌, Bool, true, false, not, ◌&&◌, List, [], ◌∷◌, map, take, Option, Some, None, ◌⊎◌, Result, Ok, Err, is_some, is_none, refl, ap, sym, ◌∙◌, subst, arith, inl, inr}
+use Rattle.std.proofs.Common.{if◌then◌else◌, codes, length, nat_le, ◌≡◌, ℕ, zero, suc, ◌+◌, Bool, true, false, not, ◌&&◌, List, [], ◌∷◌, map, take, Option, Some, None, ◌⊎◌, Result, Ok, Err, is_some, is_none, refl, ap, sym, ◌∙◌, subst, arith, inl, inr}
 use Rattle.std.specs.Prelude.{IfOk}
 use Rattle.std.specs.List.{filter, find, list_all, slice_get, enumerate_from}
 use Rattle.std.proofs.lemmas.Bool.{cases_Bool}
@@ -19,9 +19,9 @@ use Rattle.n2k_encode.specs.declared.reading.Reading.{Reading}
 use Rattle.n2k_encode.specs.Encoded.{IsEncoded, IsEncodedLine, IsObjectOf, reads_as, shows_either}
 use Rattle.n2k_encode.specs.Draft.{draft_for, most_data}
 use Rattle.n2k_encode.specs.Given.{first_unknown, given, wrong_names}
-use Rattle.n2k_encode.specs.Payload.{culprit, cut, cut_draft, data_by, data_in, encoded, first_data, given_data, is_chosen, is_data, is_meant, is_unmatched, matched, or_bytes, or_else, payload_for, sized, unless, unmatched}
+use Rattle.n2k_encode.specs.Payload.{culprit, cut, cut_draft, data_by, data_in, encoded, first_data, given_data, is_chosen, is_data, is_meant, is_unmatched, matched, means_bytes, bytes_first, or_else, payload_for, sized, unless, unmatched}
 use Rattle.n2k_encode.specs.Reading.{shows_all}
-use Rattle.n2k_encode.specs.Refusal.{CauseParts, address, field, is_description, none_shows, size, unknown}
+use Rattle.n2k_encode.specs.Refusal.{CauseParts, address, none_shows, size, unknown}
 use Rattle.n2k_encode.specs.Request.{RequestParts, request, no_request}
 use Rattle.n2k_encode.specs.Says.{has_pairs}
 use Rattle.n2k_encode.specs.Steps.{first_of, is_some_with, Gives}
@@ -200,27 +200,21 @@ tested true true c d bs payload e = (grind (arith, e), refl)
 tested true false c d bs payload e = absurd cc
 tested false b c d bs payload e = absurd cc
 
-through_data : (o : Option CauseParts) (m : Result (List ℕ) CauseParts) (few free : List ℕ → Bool) (c d : CauseParts) (payload : List ℕ)
+through_data : (m : Result (List ℕ) CauseParts) (few free : List ℕ → Bool) (c d : CauseParts) (payload : List ℕ)
     → (do
-      known ← unless o
       bs ← m
       held ← holds_or c (few bs)
       other ← holds_or d (free bs)
       Ok bs) ≡ Ok payload
-    → (o ≡ None) × (m ≡ Ok payload) × (free payload ≡ true)
-through_data None (Ok bs) few free c d payload e =
+    → (m ≡ Ok payload) × (free payload ≡ true)
+through_data (Ok bs) few free c d payload e =
     let is = tested (few bs) (free bs) c d bs payload e in
-    (refl, ap Ok is.0, subst (λ (x : List ℕ). free x ≡ true) is.0 is.1)
-through_data None (Err f) few free c d payload e = absurd cc
-through_data (Some f) m few free c d payload e = absurd cc
+    (ap Ok is.0, subst (λ (x : List ℕ). free x ≡ true) is.0 is.1)
+through_data (Err f) few free c d payload e = absurd cc
 
 sized_is : (o : Option (List ℕ)) (payload : List ℕ) → sized o ≡ Ok payload → o ≡ Some payload
 sized_is None payload e = absurd cc
 sized_is (Some bs) payload e = grind (arith, e)
-
-no_name : (o : Option (List ℕ)) → option_map field o ≡ None → o ≡ None
-no_name None e = refl
-no_name (Some name) e = absurd cc
 
 text_is : (o : Option (List ℕ)) (payload : List ℕ) → option_and_then hex_bytes o ≡ Some payload → is_some_with (has_pairs payload) o ≡ true
 text_is None payload e = absurd cc
@@ -234,30 +228,29 @@ none_is : {A : Type 0} → (o : Option A) → is_none o ≡ true → o ≡ None
 none_is None e = refl
 none_is (Some x) e = absurd cc
 
-unmatched_reads : (t : TableParts) (kind : Kind) (nearest : Bool) (r : RequestParts) (payload : List ℕ) → is_unmatched r.description ≡ true
+unmatched_reads : (t : TableParts) (kind : Kind) (nearest : Bool) (r : RequestParts) (payload : List ℕ) → means_bytes r ≡ true
     → unmatched t kind r ≡ Ok payload → reads_as nearest (choice t r.id.pgn payload) r payload ≡ true
 unfolding unmatched
-unmatched_reads t kind nearest r payload asked e =
-    let is = through_data (option_map field (first_unknown is_data r.fields)) (sized (given_data r.fields)) (λ bs. nat_le (length bs) (most_data kind)) (λ bs. is_none (choice t r.id.pgn bs)) size (none_shows (codes "Data")) payload e in
-    let names : first_unknown is_data r.fields ≡ None = no_name (first_unknown is_data r.fields) is.0 in
-    let bytes = data_is (given (codes "Data") r.fields) payload (sized_is (given_data r.fields) payload is.1) in
-    let free : choice t r.id.pgn payload ≡ None = none_is (choice t r.id.pgn payload) is.2 in
-    rw free (rw (asked, names, bytes) refl)
+unmatched_reads t kind nearest r payload meant e =
+    let is = through_data (sized (given_data r.fields)) (λ bs. nat_le (length bs) (most_data kind)) (λ bs. is_none (choice t r.id.pgn bs)) size (none_shows (codes "Data")) payload e in
+    let asked = is_unmatched r.description in
+    let alone = is_none (first_unknown is_data r.fields) in
+    let tests = both asked alone (both (asked && alone) (is_some (given (codes "Data") r.fields)) meant).0 in
+    let bytes = data_is (given (codes "Data") r.fields) payload (sized_is (given_data r.fields) payload is.0) in
+    let free : choice t r.id.pgn payload ≡ None = none_is (choice t r.id.pgn payload) is.1 in
+    rw free (rw (tests.0, tests.1, bytes) refl)
 
--- data that a definition gave, or bytes
-or_bytes_is : (asked : Bool) (a b : Result (List ℕ) CauseParts) (x : List ℕ) → or_bytes asked a b ≡ Ok x → (a ≡ Ok x) ⊎ ((asked ≡ true) × (b ≡ Ok x))
-or_bytes_is asked (Ok y) b x e = inl e
-or_bytes_is asked (Err c) b x e = elim (cases_Bool (is_description c && asked)) [
-  | inl bytes ↦ inr ((both _ _ bytes).1, rw bytes at e)
-  | inr other ↦
-      let none : Err c ≡ Ok x = rw other at e in
-      absurd cc
-]
+-- bytes, or data that a definition gave
+bytes_first_is : (meant : Bool) (a b : Result (List ℕ) CauseParts) (x : List ℕ) → bytes_first meant a b ≡ Ok x → ((meant ≡ true) × (a ≡ Ok x)) ⊎ (b ≡ Ok x)
+bytes_first_is false a b x e = inr e
+bytes_first_is true (Ok y) b x e = inl (refl, e)
+bytes_first_is true (Err c) (Ok y) x e = inr e
+bytes_first_is true (Err c) (Err d) x e = absurd cc
 
 payload_reads : (t : TableParts) (kind : Kind) (nearest : Bool) (r : RequestParts) (payload : List ℕ) → payload_for t kind nearest r ≡ Ok payload → reads_as nearest (choice t r.id.pgn payload) r payload ≡ true
-payload_reads t kind nearest r payload e = elim (or_bytes_is (is_unmatched r.description) _ _ payload e) [
-  | inl by ↦ matched_reads t r.id.pgn kind nearest r payload by
-  | inr bytes ↦ unmatched_reads t kind nearest r payload bytes.0 bytes.1
+payload_reads t kind nearest r payload e = elim (bytes_first_is (means_bytes r) _ _ payload e) [
+  | inl bytes ↦ unmatched_reads t kind nearest r payload bytes.0 bytes.1
+  | inr by ↦ matched_reads t r.id.pgn kind nearest r payload by
 ]
 
 -- what an encoded message went through

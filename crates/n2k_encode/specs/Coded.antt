@@ -1,6 +1,7 @@
 -- The codes of fields for a line, and the order in which they are written: docs/PROFILE.md, "The data".
 use Rattle.std.specs.Prelude.{Bool, true, false, not, ◌||◌, List, [], ◌∷◌, ℕ, Option, Some, None, Result, Ok, Err, option_map}
 use Rattle.json.specs.Json.{Json, Items, no_items, item}
+use Rattle.n2k_wire.specs.Steps.{or_cause}
 use Rattle.n2k_table.specs.Field.{FieldParts}
 use Rattle.n2k_encode.specs.declared.coded.Layer.{Layer}
 use Rattle.n2k_encode.specs.declared.coded.Layer.TheVariants.{Reserved, Asked, Given}
@@ -41,22 +42,17 @@ abbrev pub coded : Style → FieldParts → Option Json → Option CodedParts
 coded s f (Some j) = option_map (λ code. record { field = f; layer = Given; code = code }) (code_for s f j f.meaning)
 coded s f None = Some (coded_absent f f.match_value)
 
--- the code of a field before the codes of others, or the refusal of its value
-abbrev pub coded_first : List ℕ → Option CodedParts → Result (List CodedParts) CauseParts → Result (List CodedParts) CauseParts
-coded_first name None others = Err (value name)
-coded_first name (Some c) others = before_all (c ∷ []) others
+-- a result before others, or the first refusal
+abbrev pub result_before : {X : Type 0} → Result X CauseParts → Result (List X) CauseParts → Result (List X) CauseParts
+result_before (Ok x) others = before_all (x ∷ []) others
+result_before (Err cause) others = Err cause
 
 -- the codes of all fields, or the refusal of the first value that its field cannot show
 abbrev pub coded_all : Style → Json → List FieldParts → Result (List CodedParts) CauseParts
 coded_all s j [] = Ok []
-coded_all s j (f ∷ fs) = coded_first f.name (coded s f (given f.name j)) (coded_all s j fs)
-
-abbrev pub coded_set : Result (List CodedParts) CauseParts → Result (List (List CodedParts)) CauseParts
-    → Result (List (List CodedParts)) CauseParts
-coded_set (Ok cs) others = before_all (cs ∷ []) others
-coded_set (Err cause) others = Err cause
+coded_all s j (f ∷ fs) = result_before (or_cause (value f.name) (coded s f (given f.name j))) (coded_all s j fs)
 
 -- the codes of all given sets, or the first refusal
 abbrev pub coded_sets : Style → List FieldParts → Items → Result (List (List CodedParts)) CauseParts
 coded_sets s fs no_items = Ok []
-coded_sets s fs (item j js) = coded_set (coded_all s j fs) (coded_sets s fs js)
+coded_sets s fs (item j js) = result_before (coded_all s j fs) (coded_sets s fs js)

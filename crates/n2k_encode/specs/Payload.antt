@@ -1,6 +1,6 @@
 -- The message that an object requests, or the first cause of its refusal: docs/PROFILE.md, "The definition" and "Reports".
 use Rattle.std.specs.Prelude.{ℕ, nat_le, Bool, true, false, not, ◌&&◌, codes, List, [], ◌∷◌, length, map, take, filter}
-use Rattle.std.specs.Prelude.{Option, Some, None, Result, Ok, Err, is_none, is_some, option_map, unwrap_or, slice_get, if◌then◌else◌}
+use Rattle.std.specs.Prelude.{Option, Some, None, Result, Ok, Err, is_none, is_some, unwrap_or, slice_get, if◌then◌else◌}
 use Rattle.std.specs.List.{enumerate_from, list_all}
 use Rattle.std.specs.Option.{option_and_then}
 use Rattle.std.specs.Str.{bytes_eq}
@@ -18,7 +18,7 @@ use Rattle.n2k_encode.specs.declared.reading.Reading.{Reading}
 use Rattle.n2k_encode.specs.Draft.{draft_for, most_data}
 use Rattle.n2k_encode.specs.Given.{given, first_unknown, wrong_names}
 use Rattle.n2k_encode.specs.Reading.{first_wrong, shows_all}
-use Rattle.n2k_encode.specs.Refusal.{CauseParts, unknown, address, description, field, value, size, none_shows, is_description}
+use Rattle.n2k_encode.specs.Refusal.{CauseParts, unknown, address, description, value, size, none_shows}
 use Rattle.n2k_encode.specs.Request.{RequestParts, request, no_request}
 use Rattle.n2k_encode.specs.Steps.{first_of, is_some_with}
 use Rattle.n2k_encode.specs.Texts.{hex_bytes, most_bytes}
@@ -124,22 +124,26 @@ abbrev pub sized : Option (List ℕ) → Result (List ℕ) CauseParts
 sized None = Err (value (codes "Data"))
 sized (Some bs) = if nat_le (length bs) most_bytes then Ok bs else Err size
 
+-- The line requests bytes: its description is `Unmatched`, and its only field is `Data`.
+abbrev pub means_bytes : RequestParts → Bool
+means_bytes r =
+    is_unmatched r.description && is_none (first_unknown is_data r.fields) && is_some (given (codes "Data") r.fields)
+
+-- the requested bytes, if no definition matches them
 unfoldable pub unmatched : TableParts → Kind → RequestParts → Result (List ℕ) CauseParts
 unmatched t kind r = do
-  known ← unless (option_map field (first_unknown is_data r.fields))
   payload ← sized (given_data r.fields)
   few ← holds_or size (nat_le (length payload) (most_data kind))
   free ← holds_or (none_shows (codes "Data")) (is_none (choice t r.id.pgn payload))
   Ok payload
 
--- A line whose description is `Unmatched` requests bytes, unless a definition has this description.
-abbrev pub or_bytes : Bool → Result (List ℕ) CauseParts → Result (List ℕ) CauseParts → Result (List ℕ) CauseParts
-or_bytes asked (Ok payload) other = Ok payload
-or_bytes asked (Err cause) other = if is_description cause && asked then other else Err cause
+-- Bytes are tried before definitions, which may have the description `Unmatched` too.
+abbrev pub bytes_first : Bool → Result (List ℕ) CauseParts → Result (List ℕ) CauseParts → Result (List ℕ) CauseParts
+bytes_first meant by_bytes by_definitions = if meant then first_data None (by_bytes ∷ by_definitions ∷ []) else by_definitions
 
 abbrev pub payload_for : TableParts → Kind → Bool → RequestParts → Result (List ℕ) CauseParts
 payload_for t kind nearest r =
-    or_bytes (is_unmatched r.description) (matched (filter (is_of r.id.pgn) t.definitions) kind nearest r) (unmatched t kind r)
+    bytes_first (means_bytes r) (unmatched t kind r) (matched (filter (is_of r.id.pgn) t.definitions) kind nearest r)
 
 -- the message that an object requests, or the first cause that applies
 unfoldable pub encoded : TableParts → Bool → Json → Result PacketParts CauseParts

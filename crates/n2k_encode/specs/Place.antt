@@ -21,6 +21,11 @@ abbrev pub put_bits : List ℕ → ℕ → ℕ → ℕ → List ℕ
 put_bits payload a zero r = payload
 put_bits payload a (suc j) r = set_bit (put_bits payload a j r) (a + j) (has_bit r j)
 
+-- a byte with n bits from bit i on set to the lowest bits of a raw value
+abbrev pub with_bits : ℕ → ℕ → ℕ → ℕ → ℕ
+with_bits byte i zero r = byte
+with_bits byte i (suc j) r = with_bit (with_bits byte i j r) (i + j) (has_bit r j)
+
 -- data with bytes from byte a on, those that the data have
 abbrev pub put_bytes : List ℕ → ℕ → List ℕ → List ℕ
 put_bytes payload a [] = payload

@@ -67,10 +67,6 @@ is_size (value name) = false
 is_size size = true
 is_size (none_shows name) = false
 
-abbrev pub is_description : CauseParts → Bool
-is_description description = true
-is_description _ = false
-
 -- this is true of the cause, unless memory was refused
 abbrev pub IfRefused : EncodeError → (CauseParts → Type 0) → Type 0
 IfRefused Memory holds = ⊤

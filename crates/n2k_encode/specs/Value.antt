@@ -179,6 +179,14 @@ bits_for f (Some raw) = option_map bits (if_asked f.match_value raw)
 abbrev pub bytes_for : Option (List ℕ) → Option CodeParts
 bytes_for found = option_map bytes found
 
+-- the code by which a field of bytes with this meaning shows a value, if it can show the value
+abbrev pub byte_code_for : Style → FieldParts → Json → Meaning → Option CodeParts
+byte_code_for s f j means.text = bytes_for (option_and_then (text_bytes (f.bits / 8)) (as_str j))
+byte_code_for s f j means.bytes = bytes_for (option_and_then (plain_bytes (f.bits / 8) f.short) (as_str j))
+byte_code_for s f j means.digits = bytes_for (option_and_then (digit_bytes (f.bits / 8)) (as_str j))
+byte_code_for s f j (means.string form) = bytes_for (option_and_then (string_bytes s.shortest form) (as_str j))
+byte_code_for s f j _ = None
+
 -- the code by which a field with this meaning shows a value, if it can show the value
 abbrev pub code_for : Style → FieldParts → Json → Meaning → Option CodeParts
 code_for s f j (means.number signed resolution) =
@@ -187,10 +195,7 @@ code_for s f j (means.shifted offset resolution) =
     bits_for f (option_and_then (shifted_raw s.nearest f.bits offset resolution) (as_number j))
 code_for s f j (means.named entries) = bits_for f (lookup_raw entries f.bits f.match_value j)
 code_for s f j (means.flags entries) = bits_for f (flags_raw entries f.bits j)
-code_for s f j means.text = bytes_for (option_and_then (text_bytes (f.bits / 8)) (as_str j))
-code_for s f j means.bytes = bytes_for (option_and_then (plain_bytes (f.bits / 8) f.short) (as_str j))
-code_for s f j means.digits = bytes_for (option_and_then (digit_bytes (f.bits / 8)) (as_str j))
-code_for s f j (means.string form) = bytes_for (option_and_then (string_bytes s.shortest form) (as_str j))
+code_for s f j meaning = byte_code_for s f j meaning
 
 -- the empty string
 abbrev pub empty_string : Form → List ℕ

@@ -1,7 +1,9 @@
 //! The codes of fields for a line, and the order in which they are written.
-ghost use Rattle.std.specs.Prelude.{◌≡◌, option_map};
+ghost use Rattle.std.specs.Prelude.{◌≡◌, option_map, IfOk};
 ghost use Rattle.json.specs.Value.{value_view};
-ghost use Rattle.n2k_encode.specs.Coded.{coded, coded_all, is_given, is_reserved};
+ghost use Rattle.n2k_encode.specs.Coded.{coded, coded_absent, coded_all, is_given, is_reserved};
+ghost use Rattle.n2k_wire.specs.Steps.{or_cause};
+ghost use Rattle.n2k_encode.specs.Refusal.{value};
 ghost use Rattle.n2k_encode.specs.Steps.{Gives};
 
 use crate::given::given;
@@ -9,7 +11,7 @@ use crate::refusal::{EncodeError, Refusal};
 use crate::value::{Code, Style, code_of, not_available};
 use json::Value;
 use n2k_table::Field;
-use std::alloc::Global;
+use std::alloc::{AllocError, Global};
 use std::marker::Model;
 
 /// The order in which fields are written: "not available" first, then `match` values, then given values.
@@ -53,28 +55,44 @@ impl<'t> Coded<'t> {
     }
 }
 
-/// The code of a field for the value that the line gives, if the field can show this value.
-fn code_field<'t>(style: Style, field: &'t Field, value: Option<&Value<'_>>) -> Option<Coded<'t>>
-    ensures { result ≡ coded style field.now (option_map (λ v. value_view v.now) value.entry) }
+/// The code of a field that the line does not give: its `match` value, or "not available".
+fn code_absent<'t>(alloc: Global, field: &'t Field) -> Result<Coded<'t>, AllocError>
+    ensures { IfOk result (λ c. c ≡ coded_absent field.now field.now.match_value) }
 {
-    if let Some(value) = value {
-        return Some(Coded {
-            field,
-            layer: Layer::Given,
-            code: code_of(style, field, value)?,
-        });
-    }
     match field.match_value() {
-        Some(asked) => Some(Coded {
+        Some(asked) => Ok(Coded {
             field,
             layer: Layer::Asked,
             code: Code::Bits(asked),
         }),
-        None => Some(Coded {
+        None => Ok(Coded {
             field,
             layer: Layer::Reserved,
-            code: not_available(field),
+            code: not_available(alloc, field)?,
         }),
+    }
+}
+
+/// The code of a field for the value that the line gives, or the refusal of a value that the field cannot show.
+fn code_field<'t>(
+    alloc: Global,
+    style: Style,
+    field: &'t Field,
+    given: Option<&Value<'_>>,
+) -> Result<Coded<'t>, EncodeError<'t>>
+    ensures { Gives (λ c. c) result
+        (or_cause (value field.now.name) (coded style field.now (option_map (λ v. value_view v.now) given.entry))) }
+{
+    let Some(value) = given else {
+        return Ok(code_absent(alloc, field)?);
+    };
+    match code_of(alloc, style, field, value)? {
+        Some(code) => Ok(Coded {
+            field,
+            layer: Layer::Given,
+            code,
+        }),
+        None => Err(EncodeError::Refused(Refusal::Value(field.name()))),
     }
 }
 
@@ -88,13 +106,9 @@ pub(crate) fn coded_fields<'t>(
 ) -> Result<Vec<Coded<'t>>, EncodeError<'t>>
     ensures { Gives (λ all. all.items) result (coded_all style (value_view object.now) fields.now) }
 {
-    let Ok(mut all) = Vec::with_capacity(alloc, fields.len()) else {
-        return Err(EncodeError::Memory);
-    };
+    let mut all = Vec::with_capacity(alloc, fields.len())?;
     for field in fields {
-        let Some(coded) = code_field(style, field, given(object, field.name())) else {
-            return Err(EncodeError::Refused(Refusal::Value(field.name())));
-        };
+        let coded = code_field(alloc, style, field, given(object, field.name()))?;
         if all.push(coded).is_err() {
             return Err(EncodeError::Memory);
         }

@@ -8,9 +8,9 @@ ghost use Rattle.n2k_table.specs.declared.definition.Kind.{Kind};
 ghost use Rattle.n2k_table.specs.Table.{kind as kind_of, matches};
 ghost use Rattle.n2k_encode.specs.Encoded.{longest_request, IsEncodedLine, IsLineCause, IsNoObject, IsObjectOf};
 ghost use Rattle.n2k_encode.specs.Given.{given};
-ghost use Rattle.n2k_encode.specs.Payload.{culprit, cut, cut_draft, data_by, data_in, definitions_of, encoded, is_chosen, is_meant, is_unmatched};
+ghost use Rattle.n2k_encode.specs.Payload.{culprit, cut, cut_draft, data_by, data_in, definitions_of, encoded, is_chosen, is_meant, is_unmatched, means_bytes};
 ghost use Rattle.n2k_encode.specs.Payload.{given_data, matched, other_name, payload_for, sized, unmatched};
-ghost use Rattle.n2k_encode.specs.Refusal.{cause, description, is_description, not_json, IfRefused};
+ghost use Rattle.n2k_encode.specs.Refusal.{cause, description, not_json, IfRefused};
 ghost use Rattle.n2k_encode.specs.Steps.{first_of, is_some_with, Gives};
 ghost use Rattle.n2k_encode.specs.Views.{request_parts};
 
@@ -267,7 +267,26 @@ fn given_data<'a>(fields: &Value<'_>) -> Result<FieldBytes, EncodeError<'a>>
     }
 }
 
-/// The data of a message that no definition matches.
+/// Whether a line has the description of a message that no definition matches.
+fn is_unmatched(description: Option<&str>) -> bool
+    ensures { result ≡ is_unmatched (option_map (λ text. text.now) description.entry) }
+{
+    match description {
+        Some(text) => text == UNMATCHED,
+        None => false,
+    }
+}
+
+/// Whether a line requests bytes: it has this description and the only field `Data`.
+fn means_bytes(request: &Request<'_, '_>) -> bool
+    ensures { result ≡ means_bytes (request_parts request.now) }
+{
+    is_unmatched(request.description)
+        && unknown_beside(DATA, request.fields).is_none()
+        && given(request.fields, DATA).is_some()
+}
+
+/// The requested bytes, if no definition matches them.
 #[tactic(auto, unfolding(crate::specs::Payload::unmatched))]
 fn unmatched<'a>(
     known: &KnownPgn<'a>,
@@ -277,9 +296,6 @@ fn unmatched<'a>(
     requires { known.now.pgn ≡ request.now.id.pgn }
     ensures { Gives (λ payload. payload.items) result (unmatched known.now.table kind (request_parts request.now)) }
 {
-    if let Some(name) = unknown_beside(DATA, request.fields) {
-        return Err(EncodeError::Refused(Refusal::Field(name)));
-    }
     let bytes = given_data(request.fields)?;
     if bytes.len() > most_data(kind) {
         return Err(EncodeError::Refused(Refusal::Size));
@@ -292,23 +308,6 @@ fn unmatched<'a>(
         return Err(EncodeError::Refused(Refusal::Data(DATA)));
     }
     Ok(payload)
-}
-
-/// Whether no definition has the requested description.
-fn is_description(refusal: Refusal<'_>) -> bool
-    ensures { result ≡ is_description (cause refusal.entry) }
-{
-    matches!(refusal, Refusal::Description)
-}
-
-/// Whether a line has the description of a message that no definition matches.
-fn is_unmatched(description: Option<&str>) -> bool
-    ensures { result ≡ is_unmatched (option_map (λ text. text.now) description.entry) }
-{
-    match description {
-        Some(text) => text == UNMATCHED,
-        None => false,
-    }
 }
 
 /// The data that show exactly the given fields. If there are none: data that also show fields with `match`.
@@ -337,8 +336,7 @@ fn matched<'a>(
     }
 }
 
-/// The data of the requested message. A line whose description is `Unmatched` requests bytes, unless a definition has this
-/// description.
+/// The data of the requested message. If the line requests bytes, they are tried first.
 fn payload_for<'a>(
     alloc: Global,
     known: &KnownPgn<'a>,
@@ -350,13 +348,15 @@ fn payload_for<'a>(
         (payload_for known.now.table kind nearest (request_parts request.now)) }
 {
     let kind = known.kind();
-    match matched(alloc, known, kind, nearest, request) {
-        Ok(payload) => Ok(payload),
-        Err(EncodeError::Refused(refusal))
-            if is_description(refusal) && is_unmatched(request.description) => {
-            unmatched(known, kind, request)
-        }
-        Err(error) => Err(error),
+    if !means_bytes(request) {
+        return matched(alloc, known, kind, nearest, request);
+    }
+    match unmatched(known, kind, request) {
+        Err(EncodeError::Refused(first)) => match matched(alloc, known, kind, nearest, request) {
+            Err(EncodeError::Refused(_)) => Err(EncodeError::Refused(first)),
+            other => other,
+        },
+        other => other,
     }
 }
 

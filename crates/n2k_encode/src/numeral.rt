@@ -46,6 +46,18 @@ fn prefix_value(whole: &[u8], fraction: &[u8], count: usize) -> u128
     value
 }
 
+/// The number that the first digits of a numeral make, or `LIMIT` if it is greater. `Numeral` has the number of all digits.
+fn kept_value(numeral: &Numeral<'_>, count: usize) -> u128
+    requires { count ≤ length numeral.now.whole + length numeral.now.fraction }
+    ensures { result ≡ min (digits_value 10 (take count (numeral.now.whole ++ numeral.now.fraction))) (2 ^ 100) }
+{
+    let (whole, fraction) = (numeral.whole(), numeral.fraction());
+    if count == whole.len() + fraction.len() && count <= 19 {
+        return u128::from(numeral.wrapped_digits());
+    }
+    prefix_value(whole, fraction, count)
+}
+
 /// A number with some zeros more, or `LIMIT` if it is greater.
 fn with_zeros(number: u128, zeros: u64) -> u128
     requires { number ≤ 2 ^ 100 }
@@ -82,7 +94,7 @@ fn scaled_parts(numeral: &Numeral<'_>, shift: u16) -> Option<Magnitude>
     let point = point(numeral, shift);
     let kept = point.min(count as u128) as usize;
     let zeros = point.saturating_sub(count as u128).min(31) as u64;
-    let size = with_zeros(prefix_value(whole, fraction, kept), zeros);
+    let size = with_zeros(kept_value(numeral, kept), zeros);
     if size >= LIMIT {
         return None;
     }

@@ -1,7 +1,7 @@
 //! The places of the bits and bytes of fields.
-ghost use Rattle.std.specs.Prelude.{◌≡◌, ◌≤◌, length, IfSome};
+ghost use Rattle.std.specs.Prelude.{◌≡◌, ◌≤◌, ◌+◌, ◌%◌, length, IfSome};
 ghost use Rattle.n2k_table.specs.Bits.{has_bit};
-ghost use Rattle.n2k_encode.specs.Place.{end_of, put_bits, put_bytes, put_code, set_bit, start};
+ghost use Rattle.n2k_encode.specs.Place.{end_of, put_bits, put_bytes, put_code, start, with_bits};
 ghost use Rattle.n2k_encode.specs.Views.{code_parts};
 
 use crate::value::Code;
@@ -9,22 +9,6 @@ use n2k_table::Field;
 
 /// The greatest number of bytes in a message.
 pub(crate) const MOST_DATA: usize = 223;
-
-/// Sets a bit, unless it lies outside the data.
-fn set_bit(data: &mut [u8], at: usize, one: bool)
-    ensures { «data».new ≡ set_bit «data».old at one }
-{
-    if at / 8 >= data.len() {
-        return;
-    }
-    let byte = data[at / 8];
-    let mask = 1u8 << (at % 8) as u32;
-    data[at / 8] = if one {
-        byte | mask
-    } else {
-        byte & (0xff - mask)
-    };
-}
 
 /// Whether a bit of a raw value is 1.
 pub(crate) fn has_bit(raw: u64, bit: u32) -> bool
@@ -34,14 +18,43 @@ pub(crate) fn has_bit(raw: u64, bit: u32) -> bool
     (raw >> bit) % 2 == 1
 }
 
-/// Sets the `bits` bits that begin at bit `at` to a raw value.
+/// A byte whose `count` bits from bit `from` on are the lowest bits of a raw value.
+#[tactic(auto, using(crate::proofs::Bytes::byte_set))]
+fn with_bits(byte: u8, from: u32, count: u32, raw: u64) -> u8
+    requires some { 1 ≤ count }
+    requires inside { from + count ≤ 8 }
+    ensures { result ≡ with_bits byte from count raw }
+{
+    let mask = 0xffu8 >> (8 - count) << from;
+    let low = (raw % 256) as u8;
+    byte & !mask | (low << from) & mask
+}
+
+/// Sets the `count` bits of one byte that begin at bit `at` to the lowest bits of a raw value.
+#[tactic(auto, using(crate::proofs::Bytes::byte_rules))]
+fn put_in_byte(data: &mut [u8], at: usize, count: u32, raw: u64)
+    requires some { 1 ≤ count }
+    requires inside { at % 8 + count ≤ 8 }
+    ensures { «data».new ≡ put_bits «data».old at count raw }
+{
+    if at / 8 < data.len() {
+        data[at / 8] = with_bits(data[at / 8], (at % 8) as u32, count, raw);
+    }
+}
+
+/// Sets the `bits` bits that begin at bit `at` to a raw value, byte by byte.
+#[tactic(auto, using(crate::proofs::Bytes::put_more))]
 fn put_bits(data: &mut [u8], at: usize, bits: u32, raw: u64)
     requires room { bits ≤ 64 }
     requires place { at ≤ 100000 }
     ensures { «data».new ≡ put_bits «data».old at bits raw }
 {
-    for j in 0..bits {
-        set_bit(data, at + j as usize, has_bit(raw, j));
+    let mut done = 0;
+    while done < bits {
+        let place = at + done as usize;
+        let count = (8 - (place % 8) as u32).min(bits - done);
+        put_in_byte(data, place, count, raw >> done);
+        done += count;
     }
 }
 
@@ -87,8 +100,7 @@ pub(crate) fn put_code(field: &Field, code: &Code, data: &mut [u8])
 /// The end of a field with this code, in bytes, if the place of the field is known.
 pub(crate) fn end_of(field: &Field, code: &Code, data: &[u8]) -> Option<usize>
     requires { length «data».now ≤ 223 }
-    ensures value { result ≡ end_of field.now (code_parts code.now) «data».now }
-    ensures bound { IfSome result (λ end. end ≤ 10000) }
+    ensures { result ≡ end_of field.now (code_parts code.now) «data».now }
 {
     let start = start(field, data)?;
     let at = field.at() as usize;

@@ -1,6 +1,8 @@
 //! Why a line cannot be encoded.
 ghost use Rattle.std.specs.Prelude.{◌≡◌};
 
+use std::alloc::AllocError;
+
 /// Why a line cannot be encoded. Each cause has the number that reports print. A name is the name of a field, from the
 /// line or the table.
 #[derive(Clone, Copy, Debug, PartialEq, Eq)]
@@ -85,5 +87,16 @@ impl<'a> From<Refusal<'a>> for EncodeError<'a> {
 
     fn from(refusal: Refusal<'a>) -> EncodeError<'a> {
         EncodeError::Refused(refusal)
+    }
+}
+
+impl<'a> From<AllocError> for EncodeError<'a> {
+    ghost use Rattle.std.specs.Prelude.{◌≡◌};
+    ghost use Rattle.n2k_encode.specs.declared.refusal.EncodeError.TheVariants.{Memory};
+
+    ghost from_gives = { λ _ error. error ≡ Memory };
+
+    fn from(_refused: AllocError) -> EncodeError<'a> {
+        EncodeError::Memory
     }
 }

@@ -1,10 +1,10 @@
 //! The bits or bytes that show a value.
-ghost use Rattle.std.specs.Prelude.{◌≡◌, ◌≤◌, ◌≤ℤ◌, ◌-◌, ◌^◌, pos, neg_ℤ, true, option_map};
+ghost use Rattle.std.specs.Prelude.{◌≡◌, ◌≤◌, ◌≤ℤ◌, ◌-◌, ◌^◌, pos, neg_ℤ, true, option_map, IfOk};
 ghost use Rattle.json.specs.Find.{as_number, as_str};
 ghost use Rattle.json.specs.Value.{value_view, items_view};
 ghost use Rattle.n2k_table.specs.Bits.{greatest};
 ghost use Rattle.std.specs.Option.{option_and_then};
-ghost use Rattle.n2k_encode.specs.Value.{bytes as byte_code, all_ones, bits_for, bytes_for, code_for, digit_bytes, empty_string};
+ghost use Rattle.n2k_encode.specs.Value.{bytes as byte_code, all_ones, bits_for, byte_code_for, bytes_for, code_for, digit_bytes, empty_string};
 ghost use Rattle.n2k_encode.specs.Value.{first_string, flags_from, flags_raw, if_there, is_there, lookup_raw, named_value, names_asked, not_available, number_raw};
 ghost use Rattle.n2k_encode.specs.Value.{plain_bytes, raw_number, reserved, shifted_raw, shorter_of, shortest_string, string_bytes};
 ghost use Rattle.n2k_encode.specs.Value.{text_bytes, units_of, unnamed, whole_raw, wide_string, with_flag, with_sign};
@@ -19,6 +19,7 @@ use crate::texts::{
 };
 use json::Value;
 use n2k_table::{Coding, Field, Form, Lookup, Resolution};
+use std::alloc::{AllocError, Global};
 
 /// How values are encoded.
 #[derive(Clone, Copy)]
@@ -35,7 +36,7 @@ pub(crate) enum Code {
     /// The raw value of its bits.
     Bits(u64),
     /// Its bytes.
-    Bytes(FieldBytes),
+    Bytes(Vec<u8>),
 }
 
 /// How many of the greatest values of `bits` bits mean "not available".
@@ -407,74 +408,104 @@ fn bits_for(field: &Field, raw: Option<u64>) -> Option<Code>
 }
 
 /// The code of bytes.
-fn bytes_for(found: Option<FieldBytes>) -> Option<Code>
-    ensures { option_map code_parts result ≡ bytes_for (option_map (λ bytes. bytes.items) found) }
+fn byte_code(alloc: Global, bytes: &[u8]) -> Result<Code, AllocError>
+    ensures { IfOk result (λ code. code_parts code ≡ byte_code bytes.now) }
 {
-    Some(Code::Bytes(found?))
+    Ok(Code::Bytes(Vec::from_slice(alloc, bytes)?))
+}
+
+/// The code of found bytes.
+fn bytes_for(alloc: Global, found: Option<FieldBytes>) -> Result<Option<Code>, AllocError>
+    ensures { IfOk result (λ code. option_map code_parts code ≡ bytes_for (option_map (λ bytes. bytes.items) found)) }
+{
+    match found {
+        Some(bytes) => Ok(Some(byte_code(alloc, bytes.as_slice())?)),
+        None => Ok(None),
+    }
+}
+
+/// The code by which a field of bytes shows a value, if it can show the value. A function of its own, because its buffers
+/// are cleared.
+#[inline(never)]
+fn byte_code_of(
+    alloc: Global,
+    style: Style,
+    field: &Field,
+    value: &Value<'_>,
+) -> Result<Option<Code>, AllocError>
+    ensures { IfOk result (λ code. option_map code_parts code
+        ≡ byte_code_for style field.now (value_view value.now) field.now.meaning) }
+{
+    let width = field.bits() as usize / 8;
+    match field.coding() {
+        Coding::Text => bytes_for(alloc, text_bytes(width, value)),
+        Coding::Bytes => bytes_for(alloc, plain_bytes(width, field.is_short(), value)),
+        Coding::Digits => bytes_for(alloc, digit_bytes(width, value)),
+        Coding::String(form) => bytes_for(alloc, string_bytes(style.shortest, form, value)),
+        _ => Ok(None),
+    }
 }
 
 /// The code by which a field shows a value, if it can show the value.
-pub(crate) fn code_of(style: Style, field: &Field, value: &Value<'_>) -> Option<Code>
-    ensures { option_map code_parts result ≡ code_for style field.now (value_view value.now) field.now.meaning }
+pub(crate) fn code_of(
+    alloc: Global,
+    style: Style,
+    field: &Field,
+    value: &Value<'_>,
+) -> Result<Option<Code>, AllocError>
+    ensures { IfOk result (λ code. option_map code_parts code
+        ≡ code_for style field.now (value_view value.now) field.now.meaning) }
 {
     let bits = field.bits();
-    let width = bits as usize / 8;
     match field.coding() {
         Coding::Number(signed, resolution) => {
-            bits_for(
+            Ok(bits_for(
                 field,
                 number_raw(style.nearest, signed, bits, resolution, value),
-            )
+            ))
         }
         Coding::Shifted(offset, resolution) => {
-            bits_for(
+            Ok(bits_for(
                 field,
                 shifted_raw(style.nearest, bits, offset, resolution, value),
-            )
+            ))
         }
-        Coding::Lookup(lookup) => bits_for(field, lookup_raw(field, lookup, bits, value)),
-        Coding::Flags(lookup) => bits_for(field, flags_raw(lookup, bits, value)),
-        Coding::Text => bytes_for(text_bytes(width, value)),
-        Coding::Bytes => bytes_for(plain_bytes(width, field.is_short(), value)),
-        Coding::Digits => bytes_for(digit_bytes(width, value)),
-        Coding::String(form) => bytes_for(string_bytes(style.shortest, form, value)),
+        Coding::Lookup(lookup) => Ok(bits_for(field, lookup_raw(field, lookup, bits, value))),
+        Coding::Flags(lookup) => Ok(bits_for(field, flags_raw(lookup, bits, value))),
+        _ => byte_code_of(alloc, style, field, value),
     }
 }
 
-/// A code of `count` bytes FF.
-fn all_ones(count: u32) -> Code
+/// A code of `count` bytes FF. A function of its own, because its buffer is cleared.
+#[inline(never)]
+fn all_ones(alloc: Global, count: u32) -> Result<Code, AllocError>
     requires { count ≤ 255 }
-    ensures { code_parts result ≡ all_ones count }
+    ensures { IfOk result (λ code. code_parts code ≡ all_ones count) }
 {
-    Code::Bytes(ones(count as usize))
+    byte_code(alloc, ones(count as usize).as_slice())
 }
 
 /// The empty string.
-fn empty_string(form: Form) -> Code
-    ensures { code_parts result ≡ byte_code (empty_string form) }
+fn empty_string(form: Form) -> &'static [u8]
+    ensures { result.now ≡ empty_string form }
 {
-    let mut bytes = FieldBytes::new();
     match form {
-        Form::Lau => {
-            bytes.push(2);
-            bytes.push(1);
-        }
-        Form::Lz => bytes.push(0),
+        Form::Lau => &[2, 1],
+        Form::Lz => &[0],
     }
-    Code::Bytes(bytes)
 }
 
 /// The code that means "not available".
-pub(crate) fn not_available(field: &Field) -> Code
-    ensures { code_parts result ≡ not_available field.now.bits field.now.meaning }
+pub(crate) fn not_available(alloc: Global, field: &Field) -> Result<Code, AllocError>
+    ensures { IfOk result (λ code. code_parts code ≡ not_available field.now.bits field.now.meaning) }
 {
     let bits = field.bits();
     match field.coding() {
-        Coding::Number(signed, _) => Code::Bits(greatest(signed, bits)),
-        Coding::Shifted(_, _) | Coding::Lookup(_) | Coding::Flags(_) => Code::Bits(greatest(
-            false, bits,
-        )),
-        Coding::Text | Coding::Bytes | Coding::Digits => all_ones(bits / 8),
-        Coding::String(form) => empty_string(form),
+        Coding::Number(signed, _) => Ok(Code::Bits(greatest(signed, bits))),
+        Coding::Shifted(_, _) | Coding::Lookup(_) | Coding::Flags(_) => {
+            Ok(Code::Bits(greatest(false, bits)))
+        }
+        Coding::Text | Coding::Bytes | Coding::Digits => all_ones(alloc, bits / 8),
+        Coding::String(form) => byte_code(alloc, empty_string(form)),
     }
 }

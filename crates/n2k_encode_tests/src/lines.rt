@@ -134,7 +134,10 @@ repeat = { at = 0, bits = 8, fields = [
 number = 130831
 kind = \"fast\"
 description = \"Unmatched\"
-fields = [ { name = \"F\", kind = \"number\", at = 0, bits = 8 } ]
+fields = [
+  { name = \"F\", kind = \"number\", at = 0, bits = 8, match = 4 },
+  { name = \"Data\", kind = \"bytes\", at = 8, bits = 16 },
+]
 
 [[pgn]]
 number = 130832
@@ -148,7 +151,7 @@ repeat = { at = 0, bits = 24, fields = [
 ";
 
 // Each number is exactly one that its field can show.
-const ENCODED: [(&str, &[u8]); 37] = [
+const ENCODED: [(&str, &[u8]); 39] = [
     // The field A is inside the first set, and shares bits 12 to 15 of the message with C.
     (
         "{\"pgn\":130832,\"fields\":{\"A\":5,\"list\":[{\"B\":1,\"C\":16}]}}",
@@ -171,6 +174,15 @@ const ENCODED: [(&str, &[u8]); 37] = [
     (
         "{\"pgn\":130828,\"fields\":{\"L\":\"B\",\"M\":\"B\",\"F\":[\"B\",\"A\"]}}",
         &[0xfe, 0xf6],
+    ),
+    // Bytes are tried before the definition described as `Unmatched`.
+    (
+        "{\"pgn\":130831,\"description\":\"Unmatched\",\"fields\":{\"Data\":\"05 06\"}}",
+        &[0x05, 0x06],
+    ),
+    (
+        "{\"pgn\":130831,\"description\":\"Unmatched\",\"fields\":{\"Data\":\"04 06\"}}",
+        &[0x04, 0x04, 0x06],
     ),
     (
         "{\"pgn\":130831,\"description\":\"Unmatched\",\"fields\":{\"F\":4}}",
@@ -339,7 +351,7 @@ const NEAREST: [(&str, &[u8]); 6] = [
 ];
 
 // A refused line, and the number and the field of its refusal.
-const REFUSED: [(&str, u8, &str); 53] = [
+const REFUSED: [(&str, u8, &str); 54] = [
     (
         "{\"pgn\":130822,\"fields\":{\"SID\":255,\"list\":[1,{\"X\":1}]}}",
         16,
@@ -485,8 +497,13 @@ const REFUSED: [(&str, u8, &str); 53] = [
     ),
     (
         "{\"pgn\":130831,\"description\":\"Unmatched\",\"fields\":{\"Data\":\"04\"}}",
-        16,
+        18,
         "Data",
+    ),
+    (
+        "{\"pgn\":128267,\"description\":\"Unmatched\",\"fields\":{\"Depth\":3.4}}",
+        15,
+        "",
     ),
 ];
 

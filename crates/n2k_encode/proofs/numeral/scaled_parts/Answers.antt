@@ -1,4 +1,4 @@
-use Rattle.std.proofs.Common.{rules, ◌≡◌, ℕ, List, ◌+◌, ◌-◌, ◌*◌, ◌^◌, ◌<◌, ◌++◌, min, take, drop, length, length-append, not, nat_eq, nat_lt, arith, refl, sym, ap, subst}
+use Rattle.std.proofs.Common.{rules, ◌≡◌, ℕ, List, ◌+◌, ◌-◌, ◌*◌, ◌^◌, ◌<◌, ◌++◌, min, take, drop, length, length-append, not, nat_eq, nat_lt, arith, refl, sym, ap, ◌∙◌, subst}
 use Rattle.std.specs.Str.Parse.{digits_value}
 use Rattle.n2k_encode.specs.Numeral.{point, whole_part, has_fraction}
 use Rattle.n2k_encode.proofs.Scaling.{whole_found, rest_found, too_great, fits}
@@ -16,8 +16,10 @@ returns-then-size-ge-LIMIT c =
     let w : length ws ≡ length p.whole = ap length c.whole-whole.ensures.value in
     let f : length fs ≡ length p.fraction = ap length c.fraction-fraction.ensures in
     let same : ws ++ fs ≡ p.whole ++ p.fraction = rw (c.whole-whole.ensures.value, c.fraction-fraction.ensures) refl in
-    let found = whole_found (ws ++ fs) (length p.whole) at c.point-point.result c.min-kept.result c.min-zeros.result c.prefix_value.result size
-    (omega (arith, long, few, w, f)) c.point-point.ensures (omega (arith, long)) (omega (arith, long)) c.prefix_value.ensures c.with_zeros-size.ensures in
+    let kept : c.kept_value.result ≡ min (digits_value 10 (take c.min-kept.result (ws ++ fs))) (2 ^ 100) =
+    c.kept_value.ensures ∙ ap (λ (ds : List ℕ). min (digits_value 10 (take c.min-kept.result ds)) (2 ^ 100)) (sym same) in
+    let found = whole_found (ws ++ fs) (length p.whole) at c.point-point.result c.min-kept.result c.min-zeros.result c.kept_value.result size
+    (omega (arith, long, few, w, f)) c.point-point.ensures (omega (arith, long)) (omega (arith, long)) kept c.with_zeros-size.ensures in
     let whole : size ≡ min (whole_part c.args.shift p) (2 ^ 100) = subst (λ (ds : List ℕ). size ≡ min (digits_value 10 (take at ds) * 10 ^ (at - length ds)) (2 ^ 100)) same found in
     sym (too_great c.args.shift p (omega (arith, whole)))
 
@@ -33,8 +35,10 @@ returns c =
     let w : length ws ≡ length p.whole = ap length c.whole-whole.ensures.value in
     let f : length fs ≡ length p.fraction = ap length c.fraction-fraction.ensures in
     let same : ws ++ fs ≡ p.whole ++ p.fraction = rw (c.whole-whole.ensures.value, c.fraction-fraction.ensures) refl in
-    let found = whole_found (ws ++ fs) (length p.whole) at c.point-point.result c.min-kept.result c.min-zeros.result c.prefix_value.result size
-    (omega (arith, long, few, w, f)) c.point-point.ensures (omega (arith, long)) (omega (arith, long)) c.prefix_value.ensures c.with_zeros-size.ensures in
+    let kept : c.kept_value.result ≡ min (digits_value 10 (take c.min-kept.result (ws ++ fs))) (2 ^ 100) =
+    c.kept_value.ensures ∙ ap (λ (ds : List ℕ). min (digits_value 10 (take c.min-kept.result ds)) (2 ^ 100)) (sym same) in
+    let found = whole_found (ws ++ fs) (length p.whole) at c.point-point.result c.min-kept.result c.min-zeros.result c.kept_value.result size
+    (omega (arith, long, few, w, f)) c.point-point.ensures (omega (arith, long)) (omega (arith, long)) kept c.with_zeros-size.ensures in
     let whole : size ≡ min (whole_part c.args.shift p) (2 ^ 100) = subst (λ (ds : List ℕ). size ≡ min (digits_value 10 (take at ds) * 10 ^ (at - length ds)) (2 ^ 100)) same found in
     let rest = rest_found (ws ++ fs) (length p.whole) at c.point-point.result c.min-kept.result c.skip_zeros.result
     (omega (arith, long, few, w, f)) c.point-point.ensures (omega (arith, long)) c.skip_zeros.ensures.within.0 c.skip_zeros.ensures.zeros (λ lt. c.skip_zeros.ensures.stops (omega (arith, long, lt))) in
