@@ -72,7 +72,7 @@ from typing import Any, BinaryIO, NamedTuple, Optional
 try:
     import n2kdec
     from n2kdec._frame import STAMP, text_of, types_of
-    from n2kdec._logs import PIECE, Boat, Chain, Log, LogError, boats_of, is_remote, messages_of, names_of, opened, store_of
+    from n2kdec._logs import PIECE, Boat, Chain, Log, LogError, boats_of, is_remote, messages_of, names_of, opened, read_table, store_of
     MISSING = ""
 except ImportError as _error:  # a worker gets this file even without the library, and reports that it is missing
     MISSING = str(_error)
@@ -616,7 +616,7 @@ def assumed_state(toml: bytes, log: Log, check: Callable[[], None]) -> bytes:
         while piece := text.read(PIECE):
             check()
             tail.append(piece)
-    with n2kdec.Decoder(toml, in_order=True) as decoder:
+    with n2kdec.Decoder(read_table(toml), in_order=True) as decoder:
         for piece in tail:
             decoder.feed(piece)
             decoder.take()
@@ -1060,13 +1060,11 @@ def table_of(options: argparse.Namespace) -> bytes:
         for line in told:
             say(line)
         toml = joined.stdout
-    chain = Chain(toml)
     try:
-        chain.begin()
+        # The forked processes share it.
+        read_table(toml)
     except n2kdec.ArgumentError as error:
         raise ValueError(f"{options.table}: {error}") from error
-    # The forked processes share it, so that they need not read the table.
-    chain.keep(None)
     return toml
 
 

@@ -79,13 +79,11 @@ impl<'a> Machine for System<'a> {
         }
     }
 
-    fn open(&mut self, name: &Word) -> io::Result<Self::File> {
-        let file = fs::open(self.rt, name.as_str())?;
-        Ok(Reader::File(StdSource::new(file)))
-    }
-
-    fn input(&mut self) -> io::Result<Self::File> {
-        Ok(Reader::Input(StdSource::new(self.rt.stdin())))
+    fn open(&mut self, name: &Option<Word>) -> io::Result<Self::File> {
+        match name {
+            Some(name) => Ok(Reader::File(StdSource::new(fs::open(self.rt, name.as_str())?))),
+            None => Ok(Reader::Input(StdSource::new(self.rt.stdin()))),
+        }
     }
 
     fn close(&mut self, file: Self::File) -> Option<Error> {

@@ -25,10 +25,9 @@ use Rattle.n2k_run.specs.declared.part.PartFault.TheVariants as part_faults
 use Rattle.n2k_run.proofs.Parting.{line_prefixes, told_ok, told_stopped}
 use Rattle.n2k_run.proofs.Running.{known_more}
 use Rattle.n2kdec.specs.CommandLine.Asked.{save_name}
-use Rattle.n2kdec.specs.Run.Commands.{ByTable, ClosesWhole, Decodes, Effect, Ends, EndsUnlessRefused, IsRefusal, IsSaved, IsStopped, IsUntouched, IsWrittenUnlessFailed, SaveAttempt, Performs, Place, PrintsRest, Replaces, StoreView, SumsUpPart, decode_to, entries_for, no_saving, place, shelf}
+use Rattle.n2kdec.specs.Run.Commands.{ByTable, ClosesRun, Decodes, Effect, Ends, EndsUnlessRefused, IsRefusal, IsSaved, IsStopped, IsUntouched, IsWrittenUnlessFailed, SaveAttempt, Performs, Place, PrintsRest, Replaces, StoreView, SumsUpPart, decode_to, entries_for, place, shelf, whole_effect}
 use Rattle.n2kdec.specs.Fault.{fault_of_run}
-use Rattle.n2kdec.specs.Inner.Closing.{Closes, ClosesCounted, ClosesPart, IsOfEnd}
-use Rattle.n2kdec.specs.Run.Difference.{Told}
+use Rattle.n2kdec.specs.Inner.Closing.{Closes, ClosesPart}
 use Rattle.n2kdec.specs.declared.command_line.asked.Subcommand.{Subcommand}
 use Rattle.n2kdec.specs.declared.command_line.asked.Subcommand.TheVariants.{Plain, Decode, Frames, Encode}
 use Rattle.n2kdec.specs.declared.fault.Fault.{Fault}
@@ -97,16 +96,13 @@ module _ (before after : Devices) (errors : Place) where
 
   -- the run of a whole log, which is then closed: no state is saved
   module _ (output : Output) (counts_of : List Entry → Counts) where
-    abbrev whole_effect : Effect
-    whole_effect = record { output = output; counts = counts_of; saving = no_saving; sums_up_a_part = false }
-
     ended_whole : (counts : Counts) (ended : Result (Unit {0}) RunFault) (r : Result Counts Fault) → Runs output (λ es. counts ≡ counts_of es) before mid ended
-        → ClosesWhole errors summed counts ended r → Ends whole_effect before after r
-    ended_whole counts (Ok x) r runs closes = ended_by_closing whole_effect (λ es. counts ≡ counts_of es) x [] counts runs (runs.ends.holds, refl) r (inl ((refl, refl), closes))
+        → ClosesRun false errors summed counts ended r → Ends (whole_effect output counts_of) before after r
+    ended_whole counts (Ok x) r runs closes = ended_by_closing (whole_effect output counts_of) (λ es. counts ≡ counts_of es) x [] counts runs (runs.ends.holds, refl) r (inl ((refl, refl), closes))
     ended_whole counts (Err fault) r runs closes = grind arith
 
   -- the run of a part, which is then closed
-  module _ (o : Output) (stands_at : List Entry → StateOf) (t : TableParts) (options : Options) (keeper kept : StoreView) where
+  module _ (o : Output) (stands_at : List Entry → StateOf) (t : TableParts) (options : Options) (handed : Option (List ℕ)) (keeper kept : StoreView) where
     abbrev c : Effect
     c = decode_to o stands_at keeper kept
 
@@ -122,45 +118,41 @@ module _ (before after : Devices) (errors : Place) where
     unless : (r : Result Counts Fault) → Ends c before after r → EndsUnlessRefused c before after r
     unless r done = grind arith
 
-    closed : (of : Told) (ended : Result Part PartFault) (r : Result Counts Fault) → IsOfKind ended → RefusedByMemory ended
-        → TellsRun o (λ es. HasPart t options ended (stands_at es)) before mid ended → ClosesPart of keeper kept errors summed ended r → EndsUnlessRefused c before after r
-    closed of (Ok part) r kind memory told closes =
+    closed : (ended : Result Part PartFault) (r : Result Counts Fault) → IsOfKind ended → RefusedByMemory ended
+        → TellsRun o (λ es. HasPart t options ended (stands_at es)) before mid ended → ClosesPart t.id options handed keeper kept errors summed ended r → EndsUnlessRefused c before after r
+    closed (Ok part) r kind memory told closes =
         unless r (ended_by_closing c _ tt part.state.items part.counts (told_ok o before mid _ part told) (grind arith) r closes)
-    closed of (Err (part_faults.Stopped run.Read part)) r kind memory told closes =
+    closed (Err (part_faults.Stopped run.Read part)) r kind memory told closes =
         grind (arith, stopped_by_run c _ closes.0 run.Read part.counts.lines (told_stopped o before mid _ run.Read part told), summary_of, saved_so)
-    closed of (Err (part_faults.Stopped run.TooManyLines part)) r kind memory told closes =
+    closed (Err (part_faults.Stopped run.TooManyLines part)) r kind memory told closes =
         grind (arith, stopped_by_run c _ None run.TooManyLines part.counts.lines (told_stopped o before mid _ run.TooManyLines part told), summary_of)
-    closed of (Err (part_faults.Stopped _ part)) r kind memory ran closes = grind arith
-    closed of (Err (part_faults.Run fault)) r kind memory told closes = grind arith
-    closed of (Err (part_faults.State fault)) r kind memory ran closes = grind arith
-    closed of (Err part_faults.Memory) r kind memory told closes = grind (arith, left_at_line c _ told.ran told.ended refl told.runs)
+    closed (Err (part_faults.Stopped _ part)) r kind memory ran closes = grind arith
+    closed (Err (part_faults.Run fault)) r kind memory told closes = grind arith
+    closed (Err (part_faults.State fault)) r kind memory ran closes = grind arith
+    closed (Err part_faults.Memory) r kind memory told closes = grind (arith, left_at_line c _ told.ran told.ended refl told.runs)
 
   -- by a table that is taken
   module _ (bytes : List ℕ) (o : Options) (handed : Option (List ℕ)) (keeper kept : StoreView) where
     abbrev t : TableParts
     t = table_of bytes
 
-    rest_of : (prefix : List ℕ) (of : Told) (ended : Result Part PartFault) (r : Result Counts Fault) → Continues t o prefix before mid ended → ClosesPart of keeper kept errors summed ended r
+    rest_of : (prefix : List ℕ) (ended : Result Part PartFault) (r : Result Counts Fault) → Continues t o prefix before mid ended → ClosesPart t.id o handed keeper kept errors summed ended r
         → IfOk r (λ counted. IfSome before.left (λ log. PrintsRest t o prefix log before after keeper kept counted))
-    rest_of prefix of ended r goes closes = grind (arith, known_more, Appends-trans)
+    rest_of prefix ended r goes closes = grind (arith, known_more, Appends-trans)
 
-    decoded : (of : Told) (ended : Result Part PartFault) (r : Result Counts Fault) → faults bytes ≡ [] → RunsFrom t o handed before mid ended → IsOfEnd t.id o handed ended of → ClosesPart of keeper kept errors summed ended r
+    decoded : (ended : Result Part PartFault) (r : Result Counts Fault) → faults bytes ≡ [] → RunsFrom t o handed before mid ended → ClosesPart t.id o handed keeper kept errors summed ended r
         → Decodes bytes o handed before after keeper kept r
-    decoded of ended r none runs of_end closes = record {
+    decoded ended r none runs closes = record {
       judged = grind arith;
-      steps = λ s is. grind (arith, closed (output_from (join_fold t o.empty) o.packing s) (after_all (join_fold t o.empty) s) t o keeper kept);
-      log = λ prefix is. grind (arith, closed (output_after t o prefix) (λ es. state t.id o.window (kind t) (prefix ++ es)) t o keeper kept);
-      headline = λ prefix is. rest_of prefix of ended r (runs.headline prefix is) closes;
+      steps = λ s is. grind (arith, closed (output_from (join_fold t o.empty) o.packing s) (after_all (join_fold t o.empty) s) t o handed keeper kept);
+      log = λ prefix is. grind (arith, closed (output_after t o prefix) (λ es. state t.id o.window (kind t) (prefix ++ es)) t o handed keeper kept);
+      headline = λ prefix is. rest_of prefix ended r (runs.headline prefix is) closes;
     }
 
 -- a run without a state ends as a part whose state is not kept
-closed_counted : (keeper : StoreView) (errors summed : Place) (part : Part) (counts : Counts) (ended : Result (Unit {0}) RunFault) (r : Result Counts Fault) → part.counts ≡ counts → keeper.name ≡ None → ClosesCounted errors summed counts ended r
-    → ClosesPart (Ok None) keeper keeper errors summed (with_part part ended) r
-closed_counted keeper errors summed part counts ended r same unnamed closes = grind arith
-
--- and no state was refused
-no_state_of : (id : List ℕ) (o : Options) (handed : Option (List ℕ)) (part : Part) (ended : Result (Unit {0}) RunFault) → IsOfEnd id o handed (with_part part ended) (Ok None)
-no_state_of id o handed part ended = grind arith
+closed_counted : (id : List ℕ) (o : Options) (handed : Option (List ℕ)) (keeper : StoreView) (errors summed : Place) (part : Part) (ended : Result (Unit {0}) RunFault) (r : Result Counts Fault) → keeper.name ≡ None
+    → ClosesRun true errors summed part.counts ended r → ClosesPart id o handed keeper keeper errors summed (with_part part ended) r
+closed_counted id o handed keeper errors summed part ended r unnamed closes = grind arith
 
 -- a command that is closed ends by no fault of its table
 by_table : (found : List TableFault) (before after : Devices) (r : Result Counts Fault) (P : Type 0) → found ≡ [] → IfErr r (λ fault. IsRefusal fault → ⊥) → P → ByTable found before after r P
@@ -173,7 +165,7 @@ module _ (task : Subcommand) (bytes : List ℕ) (handed : Option (List ℕ)) (be
   abbrev performs_with : Option (List SaveAttempt) → Option (List SaveAttempt) → Subcommand → Type 0
   performs_with had has k = Performs k bytes handed before after (shelf (save_name k) had) (shelf (save_name k) has) r
 
-  module _ (had : Option (List SaveAttempt)) (counts : Counts) (ended : Result (Unit {0}) RunFault) (closes : ClosesWhole errors (summed before after errors) counts ended r) where
+  module _ (had : Option (List SaveAttempt)) (counts : Counts) (ended : Result (Unit {0}) RunFault) (closes : ClosesRun false errors (summed before after errors) counts ended r) where
     module _ (is : task ≡ Plain) (runs : Runs plain_output (λ es. counts ≡ plain_counts_of es) before (mid before after errors) ended) where
       pub performs_plain : performs_with had had task
       performs_plain = subst (performs_with had had) (sym is) (refl, ended_whole before after errors plain_output plain_counts_of counts ended r runs closes)
@@ -193,26 +185,18 @@ module _ (task : Subcommand) (bytes : List ℕ) (handed : Option (List ℕ)) (be
             (ended_whole before after errors (frames_output (table_of bytes) interface) (frame_counts_of (kind (table_of bytes)) interface) counts ended r ran_frames closes),
       )
 
-  module _ (had has : Option (List SaveAttempt)) (o : Options) (save : Option Text) (of : Told) (ended : Result Part PartFault) (t : TableParts) (is : task ≡ Decode o save) (read : (faults bytes ≡ []) × (t ≡ table_of bytes))
-      (ran : RunsFrom t o handed before (mid before after errors) ended) (closes : ClosesPart of (shelf save had) (shelf save has) errors (summed before after errors) ended r) where
-    ran_part : RunsFrom (table_of bytes) o handed before (mid before after errors) ended
-    ran_part = subst (λ t. RunsFrom t o handed before (mid before after errors) ended) read.1 ran
-
-    pub performs_decode : IsOfEnd t.id o handed ended of → performs_with had has task
-    performs_decode of_end = subst (performs_with had has) (sym is) (decoded before after errors bytes o handed (shelf save had) (shelf save has) of ended r read.0 ran_part
-        (subst (λ t. IsOfEnd t.id o handed ended of) read.1 of_end) closes)
+  module _ (had has : Option (List SaveAttempt)) (o : Options) (save : Option Text) (t : TableParts) (is : task ≡ Decode o save) (read : (faults bytes ≡ []) × (t ≡ table_of bytes)) where
+    pub performs_decode : (ended : Result Part PartFault) → RunsFrom t o handed before (mid before after errors) ended → ClosesPart t.id o handed (shelf save had) (shelf save has) errors (summed before after errors) ended r → performs_with had has task
+    performs_decode ended ran closes = subst (performs_with had has) (sym is) (decoded before after errors bytes o handed (shelf save had) (shelf save has) ended r read.0
+        (subst (λ t. RunsFrom t o handed before (mid before after errors) ended) read.1 ran)
+        (subst (λ t. ClosesPart t.id o handed (shelf save had) (shelf save has) errors (summed before after errors) ended r) read.1 closes))
 
   -- without a state that is given or kept
-  module _ (had : Option (List SaveAttempt)) (o : Options) (save : Option Text) (counts : Counts) (ended : Result (Unit {0}) RunFault) (t : TableParts) (is : task ≡ Decode o save) (read : (faults bytes ≡ []) × (t ≡ table_of bytes))
-      (ran : (part : Part) × (part.counts ≡ counts) × RunsFrom t o None before (mid before after errors) (with_part part ended)) (closes : ClosesCounted errors (summed before after errors) counts ended r) (unsaved : save ≡ None) (new : handed ≡ None) where
-    ran_new : RunsFrom t o handed before (mid before after errors) (with_part ran.0 ended)
-    ran_new = subst (λ handed. RunsFrom t o handed before (mid before after errors) (with_part ran.0 ended)) (sym new) ran.2
-
-    closes_part : ClosesPart (Ok None) (shelf save had) (shelf save had) errors (summed before after errors) (with_part ran.0 ended) r
-    closes_part = rw unsaved (closed_counted (shelf None had) errors (summed before after errors) ran.0 counts ended r ran.1 refl closes)
-
-    pub performs_counted : performs_with had had task
-    performs_counted = performs_decode had had o save (Ok None) (with_part ran.0 ended) t is read ran_new closes_part (no_state_of t.id o handed ran.0 ended)
+  module _ (had : Option (List SaveAttempt)) (o : Options) (save : Option Text) (unsaved : save ≡ None) (t : TableParts) (is : task ≡ Decode o save) (read : (faults bytes ≡ []) × (t ≡ table_of bytes)) (new : handed ≡ None) where
+    pub performs_counted : (counts : Counts) (ended : Result (Unit {0}) RunFault) → (part : Part) × (part.counts ≡ counts) × RunsFrom t o None before (mid before after errors) (with_part part ended) → ClosesRun true errors (summed before after errors) counts ended r
+        → performs_with had had task
+    performs_counted counts ended (part, same, ran) closes = performs_decode had had o None t (subst (λ save. task ≡ Decode o save) unsaved is) read (with_part part ended) (subst (λ handed. RunsFrom t o handed before (mid before after errors) (with_part part ended)) (sym new) ran)
+        (closed_counted t.id o handed (shelf None had) errors (summed before after errors) part ended r refl (subst (λ n. ClosesRun true errors (summed before after errors) n ended r) (sym same) closes))
 
 -- the table is refused
 pub refused : (task : Subcommand) (bytes : List ℕ) (handed : Option (List ℕ)) (at : Devices) (had : Option (List SaveAttempt)) (fault : TableFault) → (fault ≢ table_faults.Memory → Contains (faults bytes) fault) → task ≢ Plain

@@ -8,6 +8,7 @@ use Rattle.n2kdec.specs.System.Machine.{Calls, IsAdmittedSo, IsNotRead, IsPerfor
 use Rattle.n2k_join.specs.declared.counts.Counts.{Counts}
 use Rattle.n2k_run.specs.Device.{IsWhy}
 use Rattle.n2kdec.specs.Fault.{longest_file, unopened, unread}
+use Rattle.n2kdec.specs.Save.StateStore.{Admission}
 use Rattle.n2kdec.specs.System.Disk.{IsOfMemory}
 use Rattle.n2kdec.specs.declared.command_line.asked.Command.{Command}
 use Rattle.n2kdec.specs.declared.command_line.asked.Files.{Files}
@@ -32,15 +33,18 @@ opened_closed a b c name reads why known opened closed is = grind (arith, makes_
 
 -- a file that was opened and closed
 module _ (w : Environment) (named : Option Text) (name : Text) (is_name : named ≡ Some name) (read : InputFile) (a b c : Calls) (reads failed : ℕ) (why : Option Error) (is_why : IsWhy failed why)
-    (opened : Makes (Opened (Some name) None ∷ []) a b) (closed : Makes (Closed reads why ∷ []) b c) where
+    (opened : Makes (Opened named None ∷ []) a b) (closed : Makes (Closed reads why ∷ []) b c) where
   abbrev pub Comes : (T : Type 0) → Result T Fault → Type 0
   Comes T result = (made : List FileCall) × Makes made a c × ReadsFile w named read result made
 
   so : (T : Type 0) (result : Result T Fault) → (made : List FileCall) × Makes made a c × ReadsFile w (Some name) read result made → Comes T result
   so T result comes = subst (λ n. (made : List FileCall) × Makes made a c × ReadsFile w n read result made) (sym is_name) comes
 
+  own : Makes (Opened (Some name) None ∷ []) a b
+  own = subst (λ n. Makes (Opened n None ∷ []) a b) is_name opened
+
   taken : failed ≡ 0 → Makes (Opened (Some name) None ∷ Closed reads None ∷ []) a c
-  taken none = opened_closed a b c (Some name) reads why None opened closed (is_why.0 none)
+  taken none = opened_closed a b c (Some name) reads why None own closed (is_why.0 none)
 
   pub was_read : (T : Type 0) (bytes : T) → failed ≡ 0 → IfSome (w.file name) (λ bytes. length bytes ≤ longest_file) → Comes T (Ok bytes)
   was_read T bytes none few = so T (Ok bytes) (_, taken none, (few, (reads, refl)))
@@ -50,7 +54,7 @@ module _ (w : Environment) (named : Option Text) (name : Text) (is_name : named 
 
   pub was_unread : (T : Type 0) (fault : Fault) → fault ≡ unread read why → 0 < failed → Comes T (Err fault)
   was_unread T fault is some =
-      grind (arith, so T (Err fault) (Opened (Some name) None ∷ Closed reads why ∷ [], opened_closed a b c (Some name) reads why why opened closed refl, grind arith))
+      grind (arith, so T (Err fault) (Opened (Some name) None ∷ Closed reads why ∷ [], opened_closed a b c (Some name) reads why why own closed refl, grind arith))
 
   pub was_refused_memory : (T : Type 0) → failed ≡ 0 → Comes T (Err (Memory (Some read)))
   was_refused_memory T none = so T (Err (Memory (Some read))) (_, taken none, inr (inr (inr (refl, (reads, refl)))))
@@ -75,6 +79,11 @@ table_is items read none held empty is = grind arith
 pub performed : (w : Environment) (command : Command) (before after : OutputsView) (result : Result Counts Fault) → IsPerformed w command before after result
     → RunsCommand w command before after result
 performed w command before after result done = grind arith
+
+-- the state of one is admitted if it is not refused
+pub admitted : (admits : Admission) (command : Command) (answer : Result (Unit {0}) SaveError) → IsAdmittedSo admits command answer → ((why : SaveError) → answer ≡ Err why → ⊥) → IsAdmittedSo admits command (Ok tt)
+admitted admits command (Ok done) is not = is
+admitted admits command (Err why) is not = absurd (not why refl)
 
 -- one whose state is not admitted
 pub not_admitted : (w : Environment) (command : Command) (o : OutputsView) (why : SaveError) → IsSome (save_name command.task) → IsAdmittedSo o.admits command (Err why)

@@ -1,5 +1,5 @@
 -- Which calls a function makes of a folder, one after the other.
-use Rattle.std.proofs.Common.{arith, ◌≡◌, ◌≢◌, ℕ, true, false, List, [], ◌∷◌, ◌++◌, Option, None, Some, option_map, Result, Ok, Err, IsErrAnd, inl, inr, refl, subst, sym, ap, ◌∙◌}
+use Rattle.std.proofs.Common.{arith, ◌≡◌, ◌≢◌, ◌⊎◌, ℕ, true, false, List, [], ◌∷◌, ◌++◌, Option, None, Some, option_map, Result, Ok, Err, IsErrAnd, inl, inr, refl, subst, sym, ap, ◌∙◌}
 use Rattle.std.specs.declared.fs.OpenOptions.{OpenOptions}
 use Rattle.std.specs.declared.io.Error.{Error}
 use Rattle.clap.specs.Words.{Text}
@@ -106,16 +106,6 @@ module _ {d : Destination} {a b : Acts} where
       does = inr (tried.made, over.does.0, over.made, tried.does, over.does.1, over.does.2, refl, λ first before. leaves_written first before d text result tried.made over.does.0 over.made tried.does over.does.1 over.does.2);
     }
 
-    -- by what is there
-    pub kept_alone : (kind : Kind) (result : Result (Unit {0}) Error) → kind ≡ Alone → Makes d a b (IsKept d text) result → Makes d a b (IsKeptAs kind d text) result
-    kept_alone kind result is makes = subst (λ k. Makes d a b (IsKeptAs k d text) result) (sym is) makes
-
-    pub kept_shared : (kind : Kind) (result : Result (Unit {0}) Error) → kind ≡ Shared → Makes d a b (IsKept d text) result → Makes d a b (IsKeptAs kind d text) result
-    kept_shared kind result is makes = subst (λ k. Makes d a b (IsKeptAs k d text) result) (sym is) makes
-
-    pub kept_special : (kind : Kind) (result : Result (Unit {0}) Error) → kind ≡ Special → Makes d a b (IsAppended text) result → Makes d a b (IsKeptAs kind d text) result
-    kept_special kind result is makes = subst (λ k. Makes d a b (IsKeptAs k d text) result) (sym is) makes
-
 -- nothing is done
 module _ {d : Destination} (a : Acts) where
   pub not_moded : (mode : Option ℕ) (value : Unit {0}) → mode ≡ None → Makes d a a (SetsMode mode) (Ok value)
@@ -125,7 +115,7 @@ module _ {d : Destination} (a : Acts) where
   not_named kind other = grind arith
 
 -- for each of these functions
-pub ruleset steps = (one, opened, removed, renamed, folder_synced, made_at_once, moded, not_moded, named, not_named, over, not_over, kept_alone, kept_shared, kept_special)
+pub ruleset steps = (one, opened, removed, renamed, folder_synced, made_at_once, moded, not_moded, named, not_named, over, not_over)
 
 -- ---- where a name leads
 
@@ -133,7 +123,11 @@ module _ (answers : Option Answers) (old new : Acts) (name : Text) (text : List 
   pub kept_nowhere : (error : Error) → IsFoundFor answers name (Err error) → IsErrAnd result (λ why. why ≡ error) → KeepsText answers old old name text result
   kept_nowhere error nowhere is = grind arith
 
-  pub kept_as : (d : Destination) → IsFoundFor answers name (Ok d) → Makes d old new (IsKeptAs d.kind d text) result → KeepsText answers old new name text result
-  kept_as d found keeps = inl (d, found, keeps)
+  -- by what is there
+  module _ (d : Destination) (found : IsFoundFor answers name (Ok d)) where
+    pub kept_regular : (d.kind ≡ Alone) ⊎ (d.kind ≡ Shared) → Makes d old new (IsKept d text) result → KeepsText answers old new name text result
+    kept_regular (inl is) makes = inl (d, found, subst (λ k. Makes d old new (IsKeptAs k d text) result) (sym is) makes)
+    kept_regular (inr is) makes = inl (d, found, subst (λ k. Makes d old new (IsKeptAs k d text) result) (sym is) makes)
 
-pub ruleset keeps = (kept_nowhere, kept_as)
+    pub kept_special : d.kind ≡ Special → Makes d old new (IsAppended text) result → KeepsText answers old new name text result
+    kept_special is makes = inl (d, found, subst (λ k. Makes d old new (IsKeptAs k d text) result) (sym is) makes)

@@ -2,11 +2,13 @@
 --     n2kdec plain [LOG]
 --     n2kdec decode --table F [--resume F] [--save F] [--window W] [--in-order] [--empty] [--whole] [LOG]
 --     n2kdec frames --table F [--candump IFACE] [LOG]
---     n2kdec encode --table F [--nearest] [LOG]
+--     n2kdec encode --table F [--nearest] [JSON]
 --     n2kdec --version
-use Rattle.std.specs.Prelude.{◌∷◌, ◌++◌, [], List, ℕ, true, Some, codes}
+use Rattle.std.specs.Prelude.{◌∷◌, [], List, ℕ, true, Some, codes}
 use Rattle.clap.specs.Words.{App, Rule, new_app, new_rule, with_rule, with_subcommand}
 use Rattle.clap.specs.declared.builder.action.ArgAction.TheVariants.{SetTrue}
+use Rattle.n2kdec.specs.declared.command_line.usage.Argument.{Argument}
+use Rattle.n2kdec.specs.declared.command_line.usage.Argument.TheVariants.{Input, Table, Value, Flag}
 
 -- a positional that may be missing
 abbrev pub log_rule : Rule
@@ -23,15 +25,12 @@ option_rule name = record (new_rule name) { long = Some name; value_names = 1 }
 abbrev pub table_rule : Rule
 table_rule = record (option_rule (codes "table")) { required = true }
 
--- what says of `decode` which files it has, what ends a group of frames, and how lines are read and printed
-abbrev pub file_rules : List Rule
-file_rules = table_rule ∷ option_rule (codes "resume") ∷ option_rule (codes "save") ∷ []
-
-abbrev pub window_rules : List Rule
-window_rules = option_rule (codes "window") ∷ flag_rule (codes "in-order") ∷ []
-
-abbrev pub flag_rules : List Rule
-flag_rules = flag_rule (codes "empty") ∷ flag_rule (codes "whole") ∷ []
+-- the rule of an argument of the program
+abbrev pub argument_rule : Argument → Rule
+argument_rule (Input value help) = log_rule
+argument_rule Table = table_rule
+argument_rule (Value name value help) = option_rule name.now
+argument_rule (Flag name help) = flag_rule name.now
 
 abbrev pub with_rules : App → List Rule → App
 with_rules app [] = app
@@ -41,8 +40,9 @@ abbrev pub plain_app : App
 plain_app = with_rule (new_app (codes "plain")) log_rule
 
 abbrev pub decode_app : App
-decode_app =
-    let rules = file_rules ++ window_rules ++ flag_rules ++ log_rule ∷ [] in with_rules (new_app (codes "decode")) rules
+decode_app = with_rules (new_app (codes "decode"))
+    (table_rule ∷ option_rule (codes "resume") ∷ option_rule (codes "save") ∷ option_rule (codes "window")
+    ∷ flag_rule (codes "in-order") ∷ flag_rule (codes "empty") ∷ flag_rule (codes "whole") ∷ log_rule ∷ [])
 
 abbrev pub frames_app : App
 frames_app = with_rules (new_app (codes "frames")) (table_rule ∷ option_rule (codes "candump") ∷ log_rule ∷ [])

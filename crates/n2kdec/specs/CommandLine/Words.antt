@@ -8,7 +8,6 @@ use Rattle.std.specs.Str.{bytes_eq}
 use Rattle.std.specs.Str.Parse.{digits_value}
 use Rattle.clap.specs.Words.{Row, Text, first_of, subcommand_of}
 use Rattle.n2k_join.specs.Window.{Window, shortest_window, longest_window}
-use Rattle.n2k_run.specs.declared.options.Options.{Options}
 use Rattle.n2k_wire.specs.Candump.{is_interface}
 use Rattle.n2k_wire.specs.declared.entry.Packing.{Packing}
 use Rattle.n2k_wire.specs.declared.entry.Packing.TheVariants as packed
@@ -51,10 +50,6 @@ window_of rows =
 abbrev pub packing_of : Bool → Packing
 packing_of whole = if whole then packed.Whole else packed.Frames
 
--- the options that the words `--empty`, `--whole`, `--window` and `--in-order` stand for
-abbrev pub options_of : Bool → Bool → Window → Options
-options_of empty whole window = record { packing = packing_of whole; empty = empty; window = window }
-
 -- a command over these files
 abbrev pub over : Option Text → Option Text → Option Text → Subcommand → Command
 over table state log task = record { files = record { table = table; state = state; log = log }; task = task }
@@ -70,9 +65,11 @@ plain_command rows = Ok (over None None (first_of (codes "log") rows) Plain)
 
 abbrev pub decode_by : Option Text → Option Window → List Row → Result Command Fault
 decode_by (Some table) (Some window) rows =
-    let options = options_of (flag_of (codes "empty") rows) (flag_of (codes "whole") rows) window in
-    Ok (over (Some table) (first_of (codes "resume") rows) (first_of (codes "log") rows)
-    (Decode options (first_of (codes "save") rows)))
+    Ok (over (Some table) (first_of (codes "resume") rows) (first_of (codes "log") rows) (Decode (record {
+      packing = packing_of (flag_of (codes "whole") rows);
+      empty = flag_of (codes "empty") rows;
+      window = window;
+    }) (first_of (codes "save") rows)))
 decode_by _ _ rows = Err Words
 
 abbrev pub frames_by : Option Text → Result (Option Text) Fault → List Row → Result Command Fault

@@ -2,7 +2,6 @@
 use Rattle.std.specs.Prelude.{◌≡◌, ◌⊎◌, ℕ, List, Option, None, Result, Ok, Err, Some}
 use Rattle.n2k_join.specs.declared.counts.Counts.{Counts}
 use Rattle.n2k_run.specs.Reports.{summary_text}
-use Rattle.n2k_run.specs.declared.fault.RunFault.{RunFault}
 use Rattle.n2k_run.specs.declared.fault.RunFault.TheVariants as run
 use Rattle.n2k_run.specs.declared.options.Options.{Options}
 use Rattle.n2k_run.specs.declared.part.Part.{Part}
@@ -24,35 +23,21 @@ Closes keeper kept errors summed text counts result =
     ⊎ ((why : SaveError) × (result ≡ Err (Save why)) × Replaces keeper kept text errors.text (Some why)
     × IsWrittenUnlessFailed errors summed (summary_text counts))
 
--- What follows a run that saves no state, and counted so much: as after a part, but nothing is kept.
-abbrev pub ClosesCounted : Place → Place → Counts → Result (Unit {0}) RunFault → Result Counts Fault → Type 0
-ClosesCounted errors summed counts (Ok ended) result = SumsUp errors summed counts result
-ClosesCounted errors summed counts (Err run.Read) result =
-    (result ≡ Err (Read counts.lines None None)) × IsWrittenUnlessFailed errors summed (summary_text counts)
-ClosesCounted errors summed counts (Err run.TooManyLines) result =
-    (result ≡ Err (fault_of_run run.TooManyLines counts.lines)) × IsWrittenUnlessFailed errors summed (summary_text counts)
-ClosesCounted errors summed counts (Err fault) result = (result ≡ Err (fault_of_run fault 0)) × (summed ≡ errors)
-
--- what a refused state is of, which no other end has
-abbrev pub IsOfEnd : List ℕ → Options → Option (List ℕ) → Result Part PartFault → Told → Type 0
-IsOfEnd id o handed (Err (part_faults.State fault)) of = Differs id o handed fault of
-IsOfEnd id o handed ended of = of ≡ Ok None
-
 -- What follows the run of a part. After a failed read its state is kept, or can't be, and its counts are summed up; at
 -- the limit of lines they are summed up alone; after another fault nothing follows.
-abbrev pub ClosesPart : Told → StoreView → StoreView → Place → Place → Result Part PartFault → Result Counts Fault → Type 0
-ClosesPart of keeper kept errors summed (Ok part) result =
+abbrev pub ClosesPart : List ℕ → Options → Option (List ℕ) → StoreView → StoreView → Place → Place → Result Part PartFault → Result Counts Fault → Type 0
+ClosesPart id o handed keeper kept errors summed (Ok part) result =
     Closes keeper kept errors summed part.state.items part.counts result
-ClosesPart of keeper kept errors summed (Err (part_faults.Stopped run.Read part)) result =
+ClosesPart id o handed keeper kept errors summed (Err (part_faults.Stopped run.Read part)) result =
     (unkept : Option SaveError) × (result ≡ Err (Read part.counts.lines None unkept))
     × Replaces keeper kept part.state.items errors.text unkept
     × IsWrittenUnlessFailed errors summed (summary_text part.counts)
-ClosesPart of keeper kept errors summed (Err (part_faults.Stopped fault part)) result =
+ClosesPart id o handed keeper kept errors summed (Err (part_faults.Stopped fault part)) result =
     (result ≡ Err (fault_of_run fault part.counts.lines)) × (kept ≡ keeper)
     × IsWrittenUnlessFailed errors summed (summary_text part.counts)
-ClosesPart of keeper kept errors summed (Err (part_faults.State fault)) result =
-    (result ≡ Err (State fault of)) × (kept ≡ keeper) × (summed ≡ errors)
-ClosesPart of keeper kept errors summed (Err (part_faults.Run fault)) result =
+ClosesPart id o handed keeper kept errors summed (Err (part_faults.State fault)) result =
+    (of : Told) × Differs id o handed fault of × (result ≡ Err (State fault of)) × (kept ≡ keeper) × (summed ≡ errors)
+ClosesPart id o handed keeper kept errors summed (Err (part_faults.Run fault)) result =
     (result ≡ Err (fault_of_run fault 0)) × (kept ≡ keeper) × (summed ≡ errors)
-ClosesPart of keeper kept errors summed (Err part_faults.Memory) result =
+ClosesPart id o handed keeper kept errors summed (Err part_faults.Memory) result =
     (result ≡ Err (Memory (Some reading.Log))) × (kept ≡ keeper) × (summed ≡ errors)

@@ -1,5 +1,5 @@
 -- What a command leaves on its devices when it comes to its end, and when a fault stops it.
-use Rattle.std.specs.Prelude.{◌≡◌, ◌≢◌, ◌⊎◌, ◌+◌, ◌++◌, ℕ, Bool, true, false, List, [], ◌∷◌, length, Option, Some}
+use Rattle.std.specs.Prelude.{◌≡◌, ◌≢◌, ◌⊎◌, ◌+◌, ◌++◌, ◌&&◌, ℕ, Bool, true, false, List, [], ◌∷◌, length, Option, Some}
 use Rattle.std.specs.Prelude.{None, IfOk, IfSome, IsSome, Result, Ok, Err, IsOk, MatchResult, Contains}
 use Rattle.std.specs.Io.KnownBytes.{Appends, Consumes, IsAtEnd}
 use Rattle.n2k_wire.specs.declared.entry.Entry.{Entry}
@@ -28,6 +28,7 @@ use Rattle.n2k_run.specs.Runs.{ReportsFirst, WriteFails, output_from}
 use Rattle.n2k_run.specs.Writing.{AppendsPrefix}
 use Rattle.n2k_run.specs.declared.options.Options.{Options}
 use Rattle.n2k_run.specs.declared.fault.RunFault.{RunFault}
+use Rattle.n2k_run.specs.declared.fault.RunFault.TheVariants as run
 use Rattle.n2k_encode_run.specs.Encodes.{Encodes}
 use Rattle.n2kdec.specs.Run.Difference.{Differs}
 use Rattle.n2kdec.specs.Fault.{fault_of_run}
@@ -97,10 +98,6 @@ pub record Saving : Type 0 where
   pub before : StoreView
   pub after : StoreView
 
--- of a command that has no state
-abbrev pub no_saving : Saving
-no_saving = record { state = λ es. []; before = shelf None None; after = shelf None None }
-
 -- this text alone is kept, under the name, while the errors hold so much, or can't be for this
 abbrev pub Replaces : StoreView → StoreView → List ℕ → Option (List ℕ) → Option SaveError → Type 0
 Replaces before after text held unkept = Keeps before.name before.kept after.kept text held unkept
@@ -122,14 +119,12 @@ pub record Effect : Type 0 where
   pub saving : Saving
   pub sums_up_a_part : Bool
 
-abbrev pub plain_effect : Effect
-plain_effect = record { output = plain_output; counts = plain_counts_of; saving = no_saving; sums_up_a_part = false }
-
-abbrev pub frames_effect : TableParts → Option (List ℕ) → Effect
-frames_effect t interface = record {
-  output = frames_output t interface;
-  counts = frame_counts_of (kind t) interface;
-  saving = no_saving;
+-- one that has no state
+abbrev pub whole_effect : Output → (List Entry → Counts) → Effect
+whole_effect output counts = record {
+  output = output;
+  counts = counts;
+  saving = record { state = λ es. []; before = shelf None None; after = shelf None None };
   sums_up_a_part = false;
 }
 
@@ -162,10 +157,6 @@ abbrev pub IsSaved : Effect → Devices → Option SaveError → List Entry → 
 IsSaved c before unkept es =
     ReplacesAfter c.saving.before c.saving.after (c.saving.state es) before.reported (c.output.reports es) unkept
 
--- the reports of entries, and then their summary
-abbrev pub summed_up : Effect → List Entry → List ℕ
-summed_up c es = c.output.reports es ++ summary_text (c.counts es)
-
 -- The command came to its end: bytes came until the log had no more. Their lines have numbers that are counted, the
 -- output has gained what is printed of them, the errors their reports and then their summary, these are their counts, no
 -- device failed, and the state after them is saved by calls of which none failed. Where the log's bytes are known, these
@@ -176,7 +167,8 @@ pub record IsDone (c : Effect) (before after : Devices) (counts : Counts) : Type
   pub at_end : IsAtEnd after.left
   pub numbered : AreNumbered c.output.counted (entries_for c came)
   pub text : Appends before.written after.written (c.output.texts (entries_for c came))
-  pub report : Appends before.reported after.reported (summed_up c (entries_for c came))
+  pub report : Appends before.reported after.reported
+      (c.output.reports (entries_for c came) ++ summary_text (c.counts (entries_for c came)))
   pub counted : counts ≡ c.counts (entries_for c came)
   pub none_failed : NoneFailed before after
   pub saved : IsSaved c before None (entries_for c came)
@@ -230,14 +222,6 @@ pub record IsFull (c : Effect) (before after : Devices) : Type 0 where
 abbrev pub BreaksOff : Effect → Devices → Devices → Type 0
 BreaksOff c before after = IsUntouched c.saving × IfSome before.left (HasPrefixes c.output before after)
 
--- the log is printed and reported and the state after it saved, and only its summary is cut off
-abbrev pub LacksSummary : Effect → Devices → Devices → Type 0
-LacksSummary c before after = HasTakenAll c before after IsCutOff (IsSaved c before None)
-
--- the log is printed and reported, and the state after it can't be saved for this
-abbrev pub LacksState : Effect → SaveError → Devices → Devices → Type 0
-LacksState c why before after = HasTakenAll c before after IsWrittenUnlessFailed (IsSaved c before (Some why))
-
 -- What each fault leaves. Read: the lines that came are taken. Lines: as many as are counted are. Save: the log is
 -- taken. In these three the summary, if one is written, is cut off only if the errors failed. After Write and
 -- Memory, which is that of the log, the run breaks off; after Report too, or all but the summary is done. So memory is
@@ -245,9 +229,9 @@ LacksState c why before after = HasTakenAll c before after IsWrittenUnlessFailed
 abbrev pub Leaves : Effect → Devices → Devices → Fault → Type 0
 Leaves c before after (Read lines why unkept) = HasRead c lines unkept before after
 Leaves c before after Lines = IsFull c before after
-Leaves c before after (Save why) = LacksState c why before after
+Leaves c before after (Save why) = HasTakenAll c before after IsWrittenUnlessFailed (IsSaved c before (Some why))
 Leaves c before after (Write why) = BreaksOff c before after
-Leaves c before after Report = BreaksOff c before after ⊎ LacksSummary c before after
+Leaves c before after Report = BreaksOff c before after ⊎ HasTakenAll c before after IsCutOff (IsSaved c before None)
 Leaves c before after (Memory read) = (read ≡ Some Log) × BreaksOff c before after
 Leaves c before after _ = ⊥
 
@@ -338,11 +322,18 @@ SumsUp before after counts result = MatchResult result
     (λ summed. IsWritten before after (summary_text counts) × (summed ≡ counts))
     (λ fault. (fault ≡ Report) × IsCutOff before after (summary_text counts))
 
--- after the run of a whole log: the summary follows, unless a fault ended the run
-abbrev pub ClosesWhole : Place → Place → Counts → Result (Unit {0}) RunFault → Result Counts Fault → Type 0
-ClosesWhole errors summed counts (Ok ended) result = SumsUp errors summed counts result
-ClosesWhole errors summed counts (Err fault) result =
-    (result ≡ Err (fault_of_run fault counts.lines)) × (summed ≡ errors)
+-- a run that this fault ended has taken whole lines
+abbrev pub is_at_line : RunFault → Bool
+is_at_line run.Read = true
+is_at_line run.TooManyLines = true
+is_at_line _ = false
+
+-- After the run of a log the summary follows; after a fault only if parts are summed up and whole lines were taken.
+abbrev pub ClosesRun : Bool → Place → Place → Counts → Result (Unit {0}) RunFault → Result Counts Fault → Type 0
+ClosesRun parts errors summed counts (Ok ended) result = SumsUp errors summed counts result
+ClosesRun parts errors summed counts (Err fault) result =
+    (result ≡ Err (fault_of_run fault counts.lines))
+    × SumsUpPart (parts && is_at_line fault) errors summed (summary_text counts)
 
 -- `errors` and `counts` are standard error and the counts after the run of `encode`; then the summary is written, or the
 -- fault is returned.
@@ -353,7 +344,7 @@ pub record EncodesLog (t : TableParts) (nearest : Bool) (before after : Devices)
   pub ended : Result (Unit {0}) RunFault
   pub runs : Encodes t nearest before (record after { reported = errors.text; failed_reports = errors.failed }) counts
       ended
-  pub closes : ClosesWhole errors (place after.reported after.failed_reports) counts ended result
+  pub closes : ClosesRun false errors (place after.reported after.failed_reports) counts ended result
 
 -- ---- by the command
 
@@ -380,11 +371,11 @@ pub record Decodes (bytes : List ℕ) (o : Options) (handed : Option (List ℕ))
 -- How a command ends, and what it saves. A command without a state leaves the saved one unchanged.
 abbrev pub Performs : Subcommand → List ℕ → Option (List ℕ) → Devices → Devices → StoreView → StoreView → Result Counts Fault → Type 0
 Performs Plain bytes handed before after keeper kept result =
-    (kept ≡ keeper) × Ends plain_effect before after result
+    (kept ≡ keeper) × Ends (whole_effect plain_output plain_counts_of) before after result
 Performs (Decode o save) bytes handed before after keeper kept result =
     Decodes bytes o handed before after keeper kept result
 Performs (Frames interface) bytes handed before after keeper kept result =
-    (kept ≡ keeper)
-    × ByTable (faults bytes) before after result (Ends (frames_effect (table_of bytes) interface) before after result)
+    let t = table_of bytes in (kept ≡ keeper) × ByTable (faults bytes) before after result
+    (Ends (whole_effect (frames_output t interface) (frame_counts_of (kind t) interface)) before after result)
 Performs (Encode nearest) bytes handed before after keeper kept result =
     (kept ≡ keeper) × ByTable (faults bytes) before after result (EncodesLog (table_of bytes) nearest before after result)

@@ -37,11 +37,9 @@ last_name path = option_and_then (λ name. if ends_with nat_eq path name then So
 
 -- The path of the new file beside that of this path: hidden, with the program's name, and the same for each run. If the
 -- path doesn't end with a name, there is none.
-abbrev pub hidden_name : Text → Text
-hidden_name name = codes "." ++ name ++ codes ".n2kdec-new"
-
 abbrev pub new_path : Text → Option Text
-new_path path = option_map (λ name. path_with_file_name path (hidden_name name)) (last_name path)
+new_path path =
+    option_map (λ name. path_with_file_name path (codes "." ++ name ++ codes ".n2kdec-new")) (last_name path)
 
 -- a folder of this path, after all links, is in `/proc`
 unfoldable pub is_of_proc : Text → Bool
@@ -114,42 +112,28 @@ placed a name kind = link_target (suc most_links) a name >>= λ path. Ok (placed
 unfoldable pub target_of : Answers → Text → Option Found → Result (Text × Kind) Why
 target_of a name was = kind_at was >>= placed a name
 
--- those bits of a mode that say who may read, write and run a file
-abbrev pub permissions : Found → ℕ
-permissions found = bit_and found.mode 0o777
-
--- A state under this name goes there; or it can't be found out where, by the error of the first call that failed, since
+-- A state under this name goes there, and of a mode those bits count that say who may read, write and run a file; or it can't be found out where, by the error of the first call that failed, since
 -- the name is that of a folder, or since it ends with no name of a file.
 unfoldable pub destination : Answers → Text → Result Destination Why
 destination a name = do
   was ← if_there (a.found name)
   to ← target_of a name was
   temp ← or_cause (OfKind InvalidFilename) (new_path to.0)
-  Ok (record { target = to.0; temp = temp; kind = to.1; mode = option_map permissions was })
+  Ok (record { target = to.0; temp = temp; kind = to.1; mode = option_map (λ found. bit_and found.mode 0o777) was })
 
 -- ---- two paths
 
--- both are one, whatever they are
-abbrev pub are_one : Found → Found → Bool
-are_one one other = one.device == other.device && one.number == other.number
-
--- both are one regular file
-abbrev pub are_one_file : Found → Found → Bool
-are_one_file one other = one.is_file && other.is_file && are_one one other
-
--- or one pipe, from which comes what is written to it
-abbrev pub are_one_input : Found → Found → Bool
-are_one_input one other = are_one_file one other || (one.is_pipe && other.is_pipe && are_one one other)
+-- both are one regular file, or one pipe if pipes count: what is written to it comes from it
+abbrev pub are_one : Bool → Found → Found → Bool
+are_one pipes one other =
+    ((one.is_file && other.is_file) || (pipes && one.is_pipe && other.is_pipe))
+    && one.device == other.device && one.number == other.number
 
 -- by what both lead to; if one of them can't be looked at, the paths themselves are compared
 abbrev pub are_same : (Found → Found → Bool) → Result Found Why → Result Found Why → Bool → Bool
 are_same are (Ok one) (Ok other) spelled = are one other
 are_same are _ _ spelled = spelled
 
--- whether both paths lead to one regular file
-unfoldable pub leads : Answers → Text → Text → Bool
-leads a own path = are_same are_one_file (a.found own) (a.found path) (bytes_eq own path)
-
--- or to one pipe
-unfoldable pub feeds : Answers → Text → Text → Bool
-feeds a own path = are_same are_one_input (a.found own) (a.found path) (bytes_eq own path)
+-- whether both paths lead to one regular file, or to one pipe if pipes count
+unfoldable pub leads : Bool → Answers → Text → Text → Bool
+leads pipes a own path = are_same (are_one pipes) (a.found own) (a.found path) (bytes_eq own path)

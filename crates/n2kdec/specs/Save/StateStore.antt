@@ -1,9 +1,10 @@
 -- Which states are kept, and why others are not.
 use Rattle.std.specs.Prelude.{◌≡◌, ◌⊎◌, ◌&&◌, ◌||◌, List, ℕ, Bool, true, false, Option, Some, None, IfSome, codes}
 use Rattle.std.specs.Prelude.{Result, Ok, Err}
+use Rattle.std.specs.Option.{unwrap_or}
 use Rattle.clap.specs.Words.{Text}
 use Rattle.n2k_wire.specs.Steps.{◌>>=◌}
-use Rattle.n2kdec.specs.Save.Destination.{destination, feeds, leads}
+use Rattle.n2kdec.specs.Save.Destination.{destination, leads}
 use Rattle.n2kdec.specs.System.Disk.{Acts, Answers, IsError, IsOfMemory, Why}
 use Rattle.n2kdec.specs.Save.Replacement.{KeepsText}
 use Rattle.n2kdec.specs.declared.command_line.asked.Files.{Files}
@@ -18,17 +19,13 @@ use Rattle.n2kdec.specs.declared.save.keeper.SaveError.TheVariants.{Harm, Unfoun
 -- the file and what this path leads to, if one is given, are one regular file or one pipe
 abbrev pub meets : Answers → Text → Option Text → Bool
 meets a own None = false
-meets a own (Some path) = feeds a own path
-
--- the path of the log: without one that of standard input
-abbrev pub read_log : Option Text → Text
-read_log None = codes "/dev/stdin"
-read_log (Some path) = path
+meets a own (Some path) = leads true a own path
 
 -- a file is the table, the log or standard error, to which the summary goes later
 abbrev pub meets_files : Answers → Text → Files → Bool
 meets_files a own files =
-    meets a own files.table || feeds a own (read_log files.log) || leads a own (codes "/dev/stderr")
+    meets a own files.table || leads true a own (unwrap_or files.log (codes "/dev/stdin"))
+    || leads false a own (codes "/dev/stderr")
 
 -- a text that is kept there takes the place of what the file has; to a special file it is appended
 abbrev pub replaces : Kind → Bool
@@ -37,11 +34,11 @@ replaces _ = true
 
 -- The name's own file is one of these; or standard output, if it is replaced.
 abbrev pub harms_target : Answers → Destination → Files → Bool
-harms_target a to files = meets_files a to.target files || (replaces to.kind && leads a to.target (codes "/dev/stdout"))
+harms_target a to files = meets_files a to.target files || (replaces to.kind && leads false a to.target (codes "/dev/stdout"))
 
 -- The new file is one of these; or the state to go on from, or standard output.
 abbrev pub harms_temp : Answers → Text → Files → Bool
-harms_temp a own files = meets_files a own files || meets a own files.state || leads a own (codes "/dev/stdout")
+harms_temp a own files = meets_files a own files || meets a own files.state || leads false a own (codes "/dev/stdout")
 
 -- whether a state of this name would harm what is read or printed to
 unfoldable pub harms : Answers → Text → Files → Result Bool Why

@@ -273,21 +273,21 @@ ReportsFault w words request fault (Ok said) before after =
     (text : List ℕ) × IsMessage w words request fault text × IsWrittenUnlessFailed before after text
 ReportsFault w words request fault (Err refused) before after = IsWrittenUnlessFailed before after (fault_line fault)
 
--- On a terminal the last text is that a log has another form, unless the place fails; off it nothing is said.
-abbrev pub HintsOn : Bool → Place → Place → Type 0
-HintsOn true before after = IsWrittenUnlessFailed before after hint
-HintsOn false before after = after ≡ before
+-- On a terminal this hint is the last text, unless the place fails; off it nothing is said.
+abbrev pub HintsOn : Bool → List ℕ → Place → Place → Type 0
+HintsOn true hint before after = IsWrittenUnlessFailed before after hint
+HintsOn false hint before after = after ≡ before
 
 -- and of no other log anything
-abbrev pub Hints : Environment → Bool → Place → Place → Type 0
-Hints w true before after = (is_terminal : Bool) × IsTerminal w is_terminal × HintsOn is_terminal before after
-Hints w false before after = after ≡ before
+abbrev pub Hints : Environment → Bool → List ℕ → Place → Place → Type 0
+Hints w true hint before after = (is_terminal : Bool) × IsTerminal w is_terminal × HintsOn is_terminal hint before after
+Hints w false hint before after = after ≡ before
 
 -- the status of a result, and what is said of it; memory may be refused for what is said of a fault alone
 abbrev pub Concludes : Environment → SystemWords → ParsedArgs → Result Counts Fault → OutputsView → OutputsView → ℕ
     → Result (Unit {0}) AllocError → Type 0
 Concludes w words request (Ok counts) before after status said =
-    (status ≡ exit_status counts) × (said ≡ Ok tt) × Hints w (has_other_form counts) before.errors after.errors
+    (status ≡ exit_status counts) × (said ≡ Ok tt) × Hints w (has_other_form counts) (hint request) before.errors after.errors
     × (after ≡ record before { errors = after.errors })
 Concludes w words request (Err fault) before after status said =
     (status ≡ status_of fault) × ReportsFault w words request fault said before.errors after.errors

@@ -1,6 +1,6 @@
 //! What is said of a fault on a terminal, in one line: the file or the stream that it is of, what is wrong, what to do.
 ghost use Rattle.std.specs.Prelude.{◌≡◌, ◌++◌, IfOk, OnOk, option_map};
-ghost use Rattle.n2kdec.specs.Fault.Sentence.{AreWords, IsLine, IsSentence, cause_text, error_of, line_of, lines_text, named};
+ghost use Rattle.n2kdec.specs.Fault.Sentence.{AreWords, IsLine, IsSentence, cause_text, error_of, lines_text, named};
 ghost use Rattle.n2kdec.specs.Fault.Sentence.{subject_of, table_of, tables_text, told_of, windows_text};
 
 use crate::command_line::asked::{Command, Subcommand};
@@ -169,16 +169,6 @@ fn named(subject: &str) -> &str
     if subject.is_empty() { "''" } else { subject }
 }
 
-/// A text as the line that is said of it: control characters are escaped, and an LF ends it.
-fn escaped_line(alloc: Global, text: &[u8]) -> Result<Vec<u8>, AllocError>
-    ensures { IfOk result (λ line. line.items ≡ line_of text.now) }
-{
-    let mut line = b"n2kdec: ".to_vec(alloc)?;
-    push_escaped(false, text, &mut line)?;
-    line.extend_from_slice(b"\n")?;
-    Ok(line)
-}
-
 /// What is said of a subject: what is wrong with it, what is known of that, and what to do.
 fn told_of(
     alloc: Global,
@@ -215,7 +205,10 @@ fn line_of<M: Machine>(
     };
     let words = words_of(alloc, machine, fault)?;
     let text = told_of(alloc, command, subject, words.as_str(), fault, advice)?;
-    escaped_line(alloc, &text)
+    let mut line = b"n2kdec: ".to_vec(alloc)?;
+    push_escaped(false, &text, &mut line)?;
+    line.extend_from_slice(b"\n")?;
+    Ok(line)
 }
 
 /// What is said of a fault of a command, or of none, in whole lines in which control characters are escaped. If the state

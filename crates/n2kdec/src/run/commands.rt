@@ -3,13 +3,13 @@ ghost use Rattle.std.specs.Prelude.{◌≡◌, IfErr, option_map};
 ghost use Rattle.std.specs.Result.{result_err};
 ghost use Rattle.n2k_run.specs.Runs.{seen};
 ghost use Rattle.n2kdec.specs.CommandLine.Asked.{save_name};
-ghost use Rattle.n2kdec.specs.Run.Commands.{ClosesWhole, IsRefusal, Performs, Replaces, SumsUp, place, shelf};
-ghost use Rattle.n2kdec.specs.Inner.Closing.{ClosesCounted, ClosesPart, IsOfEnd};
+ghost use Rattle.n2kdec.specs.Run.Commands.{ClosesRun, IsRefusal, Performs, Replaces, SumsUp, place, shelf};
+ghost use Rattle.n2kdec.specs.Inner.Closing.{ClosesPart};
 
 use crate::command_line::asked::{Subcommand, name_of};
 use crate::command_line::words::Word;
 use crate::fault::{Fault, InputFile, fault_of_run};
-use crate::run::difference::{StateMismatch, difference_of};
+use crate::run::difference::difference_of;
 use crate::save::keeper::{SaveError, StateStore};
 use crate::system::machine::OutputStreams;
 use n2k_encode_run::run_encode;
@@ -19,7 +19,7 @@ use n2k_run::{
     run_plain_counted, write_summary,
 };
 use n2k_table::Table;
-use std::alloc::{AllocError, Global};
+use std::alloc::Global;
 
 /// Writes the summary of what a run has counted, and returns that.
 fn sum_up<E: Sink>(counts: &Counts, errors: &mut E) -> Result<Counts, Fault>
@@ -46,50 +46,43 @@ fn keep<K: StateStore, E: Sink>(
     }
 }
 
-/// What follows the run of a whole log, which counted so much.
-fn close_whole<E: Sink>(
+/// What follows the run of a log, which counted so much: the summary. After a fault it follows only if parts are summed
+/// up and the run stopped at the end of a line.
+fn close<E: Sink>(
+    parts: bool,
     counts: &Counts,
     ended: Result<(), RunFault>,
     errors: &mut E,
 ) -> Result<Counts, Fault>
-    ensures closes { ClosesWhole (place (E.contents errors.old) (E.failed_calls errors.old))
+    ensures closes { ClosesRun parts (place (E.contents errors.old) (E.failed_calls errors.old))
         (place (E.contents errors.new) (E.failed_calls errors.new)) counts.now ended result }
     ensures begun { IfErr result (λ fault. IsRefusal fault → ⊥) }
 {
     match ended {
         Ok(()) => sum_up(counts, errors),
-        Err(fault) => Err(fault_of_run(fault, counts.lines)),
+        Err(fault) => {
+            if parts && matches!(fault, RunFault::Read | RunFault::TooManyLines) {
+                let _ = sum_up(counts, errors);
+            }
+            Err(fault_of_run(fault, counts.lines))
+        }
     }
 }
 
-/// What a refused state was saved under; none if another fault ended the part, or none did. An error if memory to find it
-/// out is refused.
-fn of_end(
+/// What follows the run of a part from a state, if one was given. After whole lines the state is kept, unless the limit of
+/// lines is reached, and then the part is summed up, also if the state can't be kept. Of two faults the first counts.
+fn close_part<K: StateStore, E: Sink>(
     alloc: Global,
     table: &Table,
     options: &Options,
     state: Option<&[u8]>,
-    ended: &Result<Part, PartFault>,
-) -> Result<Option<StateMismatch>, AllocError>
-    ensures { IsOfEnd table.now.id options.now (option_map (λ bytes. bytes.now) state.entry) ended.now result }
-{
-    match ended {
-        Err(PartFault::State(fault)) => difference_of(alloc, table, options, state, *fault),
-        _ => Ok(None),
-    }
-}
-
-/// What follows the run of a part; `of` is what its state is of, if that is refused. After whole lines the state is kept,
-/// unless the limit of lines is reached, and then the part is summed up, also if the state can't be kept. Of two faults
-/// the first counts.
-fn close_part<K: StateStore, E: Sink>(
     save: &Option<Word>,
     ended: Result<Part, PartFault>,
-    of: Result<Option<StateMismatch>, AllocError>,
     keeper: &mut K,
     errors: &mut E,
 ) -> Result<Counts, Fault>
-    ensures closes { ClosesPart of (shelf save.now (K.kept keeper.old)) (shelf save.now (K.kept keeper.new))
+    ensures closes { ClosesPart table.now.id options.now (option_map (λ bytes. bytes.now) state.entry)
+        (shelf save.now (K.kept keeper.old)) (shelf save.now (K.kept keeper.new))
         (place (E.contents errors.old) (E.failed_calls errors.old))
         (place (E.contents errors.new) (E.failed_calls errors.new)) ended result }
     ensures untouched { IfErr result (λ fault. IsRefusal fault → (keeper.new ≡ keeper.old) × (errors.new ≡ errors.old)) }
@@ -110,33 +103,11 @@ fn close_part<K: StateStore, E: Sink>(
             let _ = sum_up(&part.counts, errors);
             Err(fault_of_run(fault, part.counts.lines))
         }
-        Err(PartFault::State(fault)) => Err(Fault::State(fault, of)),
+        Err(PartFault::State(fault)) => {
+            Err(Fault::State(fault, difference_of(alloc, table, options, state, fault)))
+        }
         Err(PartFault::Run(fault)) => Err(fault_of_run(fault, 0)),
         Err(PartFault::Memory) => Err(Fault::Memory(Some(InputFile::Log))),
-    }
-}
-
-/// What follows a run from the first line of a log whose state is not to be kept: as after a part, but without a state.
-fn close_counted<E: Sink>(
-    counts: &Counts,
-    ended: Result<(), RunFault>,
-    errors: &mut E,
-) -> Result<Counts, Fault>
-    ensures closes { ClosesCounted (place (E.contents errors.old) (E.failed_calls errors.old))
-        (place (E.contents errors.new) (E.failed_calls errors.new)) counts.now ended result }
-    ensures begun { IfErr result (λ fault. IsRefusal fault → ⊥) }
-{
-    match ended {
-        Ok(()) => sum_up(counts, errors),
-        Err(RunFault::Read) => {
-            let _ = sum_up(counts, errors);
-            Err(Fault::Read(counts.lines, None, None))
-        }
-        Err(RunFault::TooManyLines) => {
-            let _ = sum_up(counts, errors);
-            Err(fault_of_run(RunFault::TooManyLines, counts.lines))
-        }
-        Err(fault) => Err(fault_of_run(fault, 0)),
     }
 }
 
@@ -173,17 +144,17 @@ pub fn run_command<R: Source, W: Sink, E: Sink, K: StateStore>(
     match task {
         Subcommand::Plain => {
             let ended = run_plain_counted(alloc, &mut counts, log, output, errors);
-            close_whole(&counts, ended, errors)
+            close(false, &counts, ended, errors)
         }
         Subcommand::Decode { options, save } => match Table::read(alloc, table) {
             Ok(table) if save.is_none() && state.is_none() => {
                 let ended = run_counted(alloc, &table, *options, &mut counts, log, output, errors);
-                close_counted(&counts, ended, errors)
+                close(true, &counts, ended, errors)
             }
             Ok(table) => {
+                let keeper = &mut outlets.keeper;
                 let ended = run_part(alloc, &table, state, *options, log, output, errors);
-                let of = of_end(alloc, &table, options, state, &ended);
-                close_part(save, ended, of, &mut outlets.keeper, errors)
+                close_part(alloc, &table, options, state, save, ended, keeper, errors)
             }
             Err(fault) => Err(Fault::Table(fault)),
         },
@@ -199,14 +170,14 @@ pub fn run_command<R: Source, W: Sink, E: Sink, K: StateStore>(
                     output,
                     errors,
                 );
-                close_whole(&counts, ended, errors)
+                close(false, &counts, ended, errors)
             }
             Err(fault) => Err(Fault::Table(fault)),
         },
         Subcommand::Encode { nearest } => match Table::read(alloc, table) {
             Ok(table) => {
                 let ended = run_encode(alloc, &table, *nearest, &mut counts, log, output, errors);
-                close_whole(&counts, ended, errors)
+                close(false, &counts, ended, errors)
             }
             Err(fault) => Err(Fault::Table(fault)),
         },

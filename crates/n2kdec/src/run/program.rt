@@ -1,13 +1,12 @@
 //! From the words that were typed to the status that the program ends with, over any machine.
-ghost use Rattle.std.specs.Prelude.{◌≡◌, List, IfOk, IfSome, IsErr, IsSome, Ok, Some, map, option_map, string_bytes};
+ghost use Rattle.std.specs.Prelude.{◌≡◌, List, IfOk, IsErr, IsSome, Ok, Some, map, option_map, string_bytes};
 ghost use Rattle.std.specs.Process.{exit_status as status_of_code};
-ghost use Rattle.n2kdec.specs.Run.Hint.{has_other_form};
+ghost use Rattle.n2kdec.specs.Run.Hint.{has_other_form, hint};
 ghost use Rattle.clap.specs.Walk.{texts};
 ghost use Rattle.n2kdec.specs.CommandLine.Asked.{save_name};
 ghost use Rattle.n2kdec.specs.Run.Commands.{place};
-ghost use Rattle.n2kdec.specs.System.Machine.{AsksFor, DoesAsked, Hints, IsAdmittedSo, IsOfFile, Makes};
-ghost use Rattle.n2kdec.specs.System.Machine.{Opens, ReadsFile, RunsCommand, RunsTyped, Shows};
-ghost use Rattle.n2kdec.specs.System.Machine.{bytes_named, explained, outside, too_large as too_large_of};
+ghost use Rattle.n2kdec.specs.System.Machine.{AsksFor, DoesAsked, Hints, IsAdmittedSo, IsOfFile, Makes, ReadsFile};
+ghost use Rattle.n2kdec.specs.System.Machine.{RunsCommand, RunsTyped, Shows, explained, outside, too_large as too_large_of};
 ghost use Rattle.n2kdec.specs.declared.system.machine.FileCall.{FileCall};
 
 use crate::command_line::asked::{Command, ParsedArgs, Subcommand};
@@ -69,10 +68,10 @@ fn read_file<M: Machine>(
     ensures calls { (made : List FileCall) × Makes made (M.calls machine.old) (M.calls machine.new)
         × ReadsFile (M.world machine.old) name.now reading result made }
 {
-    let Some(path) = name else {
+    let Some(_path) = name else {
         return Ok(None);
     };
-    let mut file = match machine.open(path) {
+    let mut file = match machine.open(name) {
         Ok(file) => file,
         Err(error) => return Err(unopened(reading, error)),
     };
@@ -83,20 +82,6 @@ fn read_file<M: Machine>(
         Err(BytesFault::TooLong) => Err(too_large),
         Err(BytesFault::Read) => Err(unread(reading, why)),
         Err(BytesFault::Memory) => Err(Fault::Memory(Some(reading))),
-    }
-}
-
-/// Opens the log of this name, or standard input if none is named.
-fn open_log<M: Machine>(machine: &mut M, name: &Option<Word>) -> io::Result<M::File>
-    ensures same { M.world machine.new ≡ M.world machine.old }
-    ensures bytes { IfOk result (λ file. M.File.remaining file ≡ bytes_named (M.world machine.old) name.now) }
-    ensures none_called { IfOk result (λ file. M.File.calls file ≡ 0) }
-    ensures none_failed { IfOk result (λ file. M.File.failed_calls file ≡ 0) }
-    ensures calls { Opens name.now (M.calls machine.old) (M.calls machine.new) result }
-{
-    match name {
-        Some(path) => machine.open(path),
-        None => machine.input(),
     }
 }
 
@@ -116,20 +101,37 @@ fn explained(
     }
 }
 
-/// Reads the files of a command, in the order of their faults: the table's and the state's, each whole, and then the
-/// log's, over which it is run.
+/// Asks whether the state may be saved under the name that the command gives, if it gives one.
+fn admit<K: StateStore>(command: &Command, keeper: &K) -> Result<(), SaveError>
+    ensures answer { IsAdmittedSo K.admits command.now result }
+    ensures named { IsErr result → IsSome (save_name command.now.task) }
+{
+    match &command.task {
+        Subcommand::Decode {
+            save: Some(name),
+            ..
+        } => keeper.admit(name.as_str(), &command.files),
+        _ => Ok(()),
+    }
+}
+
+/// Runs a command, if its state is admitted. Its files are read in the order of their faults: the table's and the state's,
+/// each whole, and then the log's, over which it is run.
+#[tactic(auto, using(crate::proofs::run::MachineLemmas::not_admitted))]
 fn run_on_files<M: Machine, K: StateStore>(
     alloc: Global,
     machine: &mut M,
     command: &Command,
     outlets: &mut OutputStreams<M::Output, M::Errors, K>,
 ) -> Result<Counts, Fault>
-    requires { IsAdmittedSo K.admits command.now (Ok tt) }
     ensures same { M.world machine.new ≡ M.world machine.old }
     ensures runs { RunsCommand (M.world machine.old) command.now
         (outside M.Output.Sink M.Errors.Sink K.StateStore (M.calls machine.old) outlets.old)
         (outside M.Output.Sink M.Errors.Sink K.StateStore (M.calls machine.new) outlets.new) result }
 {
+    if let Err(why) = admit(command, &outlets.keeper) {
+        return Err(Fault::Save(why));
+    }
     let files = &command.files;
     let table = read_file(
         alloc,
@@ -145,7 +147,7 @@ fn run_on_files<M: Machine, K: StateStore>(
         InputFile::State,
         Fault::StateSize,
     )?;
-    let mut log = match open_log(machine, &files.log) {
+    let mut log = match machine.open(&files.log) {
         Ok(log) => log,
         Err(error) => return Err(unopened(InputFile::Log, error)),
     };
@@ -154,39 +156,6 @@ fn run_on_files<M: Machine, K: StateStore>(
     let answer = run_command(alloc, &command.task, &table, state, &mut log, outlets);
     let why = machine.close(log);
     explained(answer, why, machine.failure(&outlets.output))
-}
-
-/// Asks whether the state may be saved under the name that the command gives, if it gives one.
-fn admit<K: StateStore>(command: &Command, keeper: &K) -> Result<(), SaveError>
-    ensures answer { IsAdmittedSo K.admits command.now result }
-    ensures named { IsErr result → IsSome (save_name command.now.task) }
-{
-    match &command.task {
-        Subcommand::Decode {
-            save: Some(name),
-            ..
-        } => keeper.admit(name.as_str(), &command.files),
-        _ => Ok(()),
-    }
-}
-
-/// Runs a command, if its state is admitted.
-#[tactic(auto, using(crate::proofs::run::MachineLemmas::not_admitted))]
-fn run_admitted<M: Machine, K: StateStore>(
-    alloc: Global,
-    machine: &mut M,
-    command: &Command,
-    outlets: &mut OutputStreams<M::Output, M::Errors, K>,
-) -> Result<Counts, Fault>
-    ensures same { M.world machine.new ≡ M.world machine.old }
-    ensures runs { RunsCommand (M.world machine.old) command.now
-        (outside M.Output.Sink M.Errors.Sink K.StateStore (M.calls machine.old) outlets.old)
-        (outside M.Output.Sink M.Errors.Sink K.StateStore (M.calls machine.new) outlets.new) result }
-{
-    match admit(command, &outlets.keeper) {
-        Ok(()) => run_on_files(alloc, machine, command, outlets),
-        Err(why) => Err(Fault::Save(why)),
-    }
 }
 
 /// Prints the text of the help or of the version.
@@ -214,20 +183,20 @@ fn do_request<M: Machine, K: StateStore>(
 {
     match request {
         ParsedArgs::Help(text) => show(machine, text, &mut outlets.output),
-        ParsedArgs::Command(command) => run_admitted(alloc, machine, command, outlets),
+        ParsedArgs::Command(command) => run_on_files(alloc, machine, command, outlets),
         ParsedArgs::Refused(fault, _) => Err(*fault),
     }
 }
 
-/// Says on a terminal what to do with a log of another form, after a command has read all of it.
-fn say_hint<M: Machine, E: Sink>(machine: &M, counts: &Counts, errors: &mut E)
-    ensures { Hints (M.world machine.now) (has_other_form counts.now)
+/// Says on a terminal what to do with a log of another form, after the command of a request has read all of it.
+fn say_hint<M: Machine, E: Sink>(machine: &M, request: &ParsedArgs, counts: &Counts, errors: &mut E)
+    ensures { Hints (M.world machine.now) (has_other_form counts.now) (hint request.now)
         (place (E.contents errors.old) (E.failed_calls errors.old))
         (place (E.contents errors.new) (E.failed_calls errors.new)) }
 {
     if has_other_form(counts) {
         if machine.is_terminal() {
-            write_text(hint(), errors);
+            write_text(hint(request), errors);
         }
     }
 }
@@ -247,7 +216,7 @@ pub fn run<M: Machine, K: StateStore>(
     let request = typed_request(alloc, machine);
     match do_request(alloc, machine, &request, outlets) {
         Ok(counts) => {
-            say_hint(machine, &counts, &mut outlets.errors);
+            say_hint(machine, &request, &counts, &mut outlets.errors);
             (ExitCode::from(exit_status(&counts)), Ok(()))
         }
         Err(fault) => {

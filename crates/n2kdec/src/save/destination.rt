@@ -1,11 +1,9 @@
 //! Where a state goes: the file to which a name leads, what that is, and the new file beside it.
-ghost use Rattle.std.specs.Prelude.{◌≡◌, suc, IfSome, IfOk, string_bytes};
+ghost use Rattle.std.specs.Prelude.{◌≡◌, IfSome, IfOk};
 ghost use Rattle.std.specs.declared.io.ErrorKind.TheVariants.{InvalidFilename as Nameless};
 ghost use Rattle.n2k_wire.specs.Steps.{or_cause};
-ghost use Rattle.n2kdec.specs.Save.Destination.{are_one, are_one_file, are_one_input, link_target, destination, feeds, folder_of};
-ghost use Rattle.n2kdec.specs.Save.Destination.{is_missing, is_no_link, kind_at};
-ghost use Rattle.n2kdec.specs.Save.Destination.{is_of_proc, is_open_file, leads, linked, linked_path, new_path};
-ghost use Rattle.n2kdec.specs.Save.Destination.{if_there, target_of};
+ghost use Rattle.n2kdec.specs.Save.Destination.{are_one, destination, folder_of, if_there, is_missing, is_no_link, is_open_file};
+ghost use Rattle.n2kdec.specs.Save.Destination.{kind_at, leads, link_target, linked, linked_path, new_path, target_of};
 ghost use Rattle.n2kdec.specs.System.Disk.{IsAnswer, IsAnswerUnlessMemory, OfKind};
 
 use crate::command_line::words::Word;
@@ -91,22 +89,15 @@ fn is_no_link(why: ErrorKind) -> bool
     matches!(why, ErrorKind::InvalidInput | ErrorKind::NotFound)
 }
 
-/// Whether a folder of this path, after all links, is in `/proc`.
-#[tactic(auto, unfolding(crate::specs::Save::Destination::is_of_proc))]
-fn is_of_proc(folder: &str) -> bool
-    ensures { result ≡ is_of_proc folder.now }
-{
-    folder == "/proc" || folder.as_bytes().starts_with(b"/proc/")
-}
-
 /// Whether a path names an open file: its folder is one of `/proc`, as the folder of `/dev/fd/3` is. An error if the folder
 /// is missing.
-#[tactic(auto, unfolding(crate::specs::Save::Destination::is_open_file))]
+#[tactic(auto, unfolding(crate::specs::Save::Destination::is_open_file, crate::specs::Save::Destination::is_of_proc))]
 fn is_open_file<D: Disk>(disk: &D, path: &str) -> io::Result<bool>
     ensures { IfSome (D.answers disk.now) (λ a. IsAnswerUnlessMemory (λ is_open. is_open) (is_open_file a path.now) result) }
 {
     let folder = disk.canonicalize(folder_of(path))?;
-    Ok(is_of_proc(folder.as_str()))
+    let folder = folder.as_str();
+    Ok(folder == "/proc" || folder.as_bytes().starts_with(b"/proc/"))
 }
 
 /// The path to which the link at this path leads; none if it is not a link.
@@ -204,45 +195,23 @@ pub fn find<D: Disk>(alloc: Global, disk: &D, name: &str) -> io::Result<Destinat
     })
 }
 
-/// Whether both have one device and number, and so are one file of any kind.
-fn are_one(one: &Found, other: &Found) -> bool
-    ensures { result ≡ are_one one.now other.now }
+/// Whether both are one regular file, or one pipe if pipes count: what is written to it is read from it.
+fn are_one(pipes: bool, one: &Found, other: &Found) -> bool
+    ensures { result ≡ are_one pipes one.now other.now }
 {
-    one.device == other.device && one.number == other.number
+    (one.is_file && other.is_file || pipes && one.is_pipe && other.is_pipe)
+        && one.device == other.device
+        && one.number == other.number
 }
 
-/// Whether both are one regular file.
-fn are_one_file(one: &Found, other: &Found) -> bool
-    ensures { result ≡ are_one_file one.now other.now }
-{
-    one.is_file && other.is_file && are_one(one, other)
-}
-
-/// Whether both are one regular file or one pipe, so that what is written to the one is read from the other.
-fn are_one_input(one: &Found, other: &Found) -> bool
-    ensures { result ≡ are_one_input one.now other.now }
-{
-    are_one_file(one, other) || one.is_pipe && other.is_pipe && are_one(one, other)
-}
-
-/// Whether both paths lead to one regular file or one pipe. If one of them can't be looked at, the paths are compared.
-#[tactic(auto, unfolding(crate::specs::Save::Destination::feeds))]
-pub fn feeds<D: Disk>(disk: &D, own: &str, path: &str) -> bool
-    ensures { IfSome (D.answers disk.now) (λ a. result ≡ feeds a own.now path.now) }
-{
-    match (disk.metadata(own), disk.metadata(path)) {
-        (Ok(one), Ok(other)) => are_one_input(&one, &other),
-        _ => path == own,
-    }
-}
-
-/// Whether both paths lead to one regular file. If one of them can't be looked at, the paths are compared.
+/// Whether both paths lead to one regular file, or to one pipe if pipes count. If one of them can't be looked at, the paths
+/// are compared.
 #[tactic(auto, unfolding(crate::specs::Save::Destination::leads))]
-pub fn leads<D: Disk>(disk: &D, own: &str, path: &str) -> bool
-    ensures { IfSome (D.answers disk.now) (λ a. result ≡ leads a own.now path.now) }
+pub fn leads<D: Disk>(disk: &D, pipes: bool, own: &str, path: &str) -> bool
+    ensures { IfSome (D.answers disk.now) (λ a. result ≡ leads pipes a own.now path.now) }
 {
     match (disk.metadata(own), disk.metadata(path)) {
-        (Ok(one), Ok(other)) => are_one_file(&one, &other),
+        (Ok(one), Ok(other)) => are_one(pipes, &one, &other),
         _ => own == path,
     }
 }

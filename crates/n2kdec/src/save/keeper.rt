@@ -4,13 +4,13 @@ ghost use Rattle.std.specs.Result.{result_err};
 ghost use Rattle.clap.specs.Words.{Text};
 ghost use Rattle.n2kdec.specs.Run.Commands.{SaveAttempt, Keeps};
 ghost use Rattle.n2kdec.specs.System.Disk.{IsAnswerUnlessMemory};
-ghost use Rattle.n2kdec.specs.Save.StateStore.{Admits, KeepsState, harms, harms_target, harms_temp, meets, meets_files, read_log};
+ghost use Rattle.n2kdec.specs.Save.StateStore.{Admits, KeepsState, harms, harms_target, harms_temp, meets, meets_files};
 ghost use Rattle.n2kdec.specs.declared.command_line.asked.Files.{Files};
 ghost use Rattle.n2kdec.specs.declared.save.keeper.SaveError.{SaveError};
 
 use crate::command_line::asked::Files;
 use crate::command_line::words::Word;
-use crate::save::destination::{Destination, Kind, feeds, find, leads};
+use crate::save::destination::{Destination, Kind, find, leads};
 use crate::save::replacement::keep_text;
 use crate::system::disk::Disk;
 use n2k_run::Sink;
@@ -67,18 +67,8 @@ fn meets<D: Disk>(disk: &D, own: &str, path: &Option<Word>) -> bool
     ensures { IfSome (D.answers disk.now) (λ a. result ≡ meets a own.now path.now) }
 {
     match path {
-        Some(path) => feeds(disk, own, path.as_str()),
+        Some(path) => leads(disk, true, own, path.as_str()),
         None => false,
-    }
-}
-
-/// The path of the log, or of standard input if none is named.
-fn read_log(log: &Option<Word>) -> &str
-    ensures { result.now ≡ read_log log.now }
-{
-    match log {
-        Some(log) => log.as_str(),
-        None => STANDARD_INPUT,
     }
 }
 
@@ -86,9 +76,13 @@ fn read_log(log: &Option<Word>) -> &str
 fn meets_files<D: Disk>(disk: &D, own: &str, files: &Files) -> bool
     ensures { IfSome (D.answers disk.now) (λ a. result ≡ meets_files a own.now files.now) }
 {
+    let log = match &files.log {
+        Some(log) => log.as_str(),
+        None => STANDARD_INPUT,
+    };
     meets(disk, own, &files.table)
-        || feeds(disk, own, read_log(&files.log))
-        || leads(disk, own, STANDARD_ERROR)
+        || leads(disk, true, own, log)
+        || leads(disk, false, own, STANDARD_ERROR)
 }
 
 /// Whether the file of a name is one of these; or standard output, if the state isn't appended to it.
@@ -99,7 +93,7 @@ fn harms_target<D: Disk>(disk: &D, to: &Destination, files: &Files) -> bool
     meets_files(disk, own, files)
         || match to.kind {
             Kind::Special => false,
-            Kind::Alone | Kind::Shared => leads(disk, own, STANDARD_OUTPUT),
+            Kind::Alone | Kind::Shared => leads(disk, false, own, STANDARD_OUTPUT),
         }
 }
 
@@ -109,7 +103,7 @@ fn harms_temp<D: Disk>(disk: &D, own: &str, files: &Files) -> bool
 {
     meets_files(disk, own, files)
         || meets(disk, own, &files.state)
-        || leads(disk, own, STANDARD_OUTPUT)
+        || leads(disk, false, own, STANDARD_OUTPUT)
 }
 
 /// Whether a state of this name would harm what is read or printed to.

@@ -1,11 +1,11 @@
 //! How a text comes to a name: it is written beside the old one and takes its name, or it is written over it.
-#![tactic(auto, using(crate::proofs::save::Making::steps, crate::proofs::save::Making::keeps))]
+#![tactic(auto, using(crate::proofs::save::Making::steps, crate::proofs::save::Making::kept_nowhere))]
 
 ghost use Rattle.std.specs.Prelude.{◌≡◌, option_map};
-ghost use Rattle.n2kdec.specs.System.Disk.{closed, failure, kind_of, noted, open_at, remove, rename, sync_folder, write};
-ghost use Rattle.n2kdec.specs.Save.Folder.{Target, Temp, is_refusal, is_taken, appends};
-ghost use Rattle.n2kdec.specs.Save.Replacement.{Closes, IsAppended, IsFilled, IsKept, IsKeptAs, IsMade, SetsMode, IsNamed, IsOne};
-ghost use Rattle.n2kdec.specs.Save.Replacement.{Overwrites, RenamesIntoPlace, WritesContent, IsWritten, KeepsText, Makes, empty, failed, judged, make};
+ghost use Rattle.n2kdec.specs.System.Disk.{failure, kind_of, remove, rename, sync_folder, write};
+ghost use Rattle.n2kdec.specs.Save.Folder.{Target, Temp, is_refusal, is_taken};
+ghost use Rattle.n2kdec.specs.Save.Replacement.{Closes, IsAppended, IsKept, IsMade, IsOne, KeepsText, Makes, Overwrites};
+ghost use Rattle.n2kdec.specs.Save.Replacement.{RenamesIntoPlace, SetsMode, WritesContent, empty, failed, judged, make};
 
 use crate::save::destination::{Destination, Kind, find, folder_of};
 use crate::system::disk::Disk;
@@ -198,20 +198,13 @@ fn append<D: Disk>(disk: &mut D, to: &Destination, text: &[u8]) -> io::Result<()
     written
 }
 
-/// Saves a text at its destination: a special file, or a path of an open file, gets it appended.
-fn keep_at<D: Disk>(disk: &mut D, to: &Destination, text: &[u8]) -> io::Result<()>
-    ensures { Makes to.now (D.acts disk.old) (D.acts disk.new) (IsKeptAs to.now.kind to.now text.now) result }
-{
-    match to.kind {
-        Kind::Alone | Kind::Shared => replace(disk, to, text),
-        Kind::Special => append(disk, to, text),
-    }
-}
-
-/// Keeps a text in the file to which a name leads.
+/// Keeps a text in the file to which a name leads: a special file, or a path of an open file, gets it appended.
 pub fn keep_text<D: Disk>(alloc: Global, disk: &mut D, name: &str, text: &[u8]) -> io::Result<()>
     ensures { KeepsText (D.answers disk.old) (D.acts disk.old) (D.acts disk.new) name.now text.now result }
 {
     let to = find(alloc, disk, name)?;
-    keep_at(disk, &to, text)
+    match to.kind {
+        Kind::Alone | Kind::Shared => replace(disk, &to, text),
+        Kind::Special => append(disk, &to, text),
+    }
 }

@@ -1,5 +1,5 @@
 //! What the program meets: the words that were typed, files, and the standard streams.
-ghost use Rattle.std.specs.Prelude.{◌≡◌, ◌⊎◌, ◌∷◌, [], None, Some, IfErr, IfOk, IfSome, IsErrOf, map, string_bytes};
+ghost use Rattle.std.specs.Prelude.{◌≡◌, ◌⊎◌, ◌∷◌, [], None, IfErr, IfOk, IfSome, IsErrOf, map, string_bytes};
 ghost use Rattle.n2k_run.specs.Device.{IsWhy};
 ghost use Rattle.n2kdec.specs.Fault.Sentence.{SystemWords};
 ghost use Rattle.n2kdec.specs.System.Machine.{Calls, IsTerminal, Makes, Opens, Environment, bytes_named};
@@ -59,21 +59,13 @@ pub trait Machine {
         ensures fault { IfErr result (λ fault. (fault ≡ Fault.Words) ⊎ (fault ≡ Fault.Memory None)) }
         ensures texts { IsErrOf result Fault.Words → (world self.now).typed ≡ None };
 
-    /// Opens the file of this name.
-    fn open(&mut self, name: &Word) -> io::Result<Self::File>
+    /// Opens the file of this name, or standard input, which is refused only if memory is refused.
+    fn open(&mut self, name: &Option<Word>) -> io::Result<Self::File>
         ensures same { world self.new ≡ world self.old }
-        ensures bytes { IfOk result (λ file. Self.File.remaining file ≡ bytes_named (world self.old) (Some name.now)) }
+        ensures bytes { IfOk result (λ file. Self.File.remaining file ≡ bytes_named (world self.old) name.now) }
         ensures none_called { IfOk result (λ file. Self.File.calls file ≡ 0) }
         ensures none_failed { IfOk result (λ file. Self.File.failed_calls file ≡ 0) }
-        ensures calls { Opens (Some name.now) (calls self.old) (calls self.new) result };
-
-    /// Standard input, which is refused only if memory is refused.
-    fn input(&mut self) -> io::Result<Self::File>
-        ensures same { world self.new ≡ world self.old }
-        ensures bytes { IfOk result (λ file. Self.File.remaining file ≡ bytes_named (world self.old) None) }
-        ensures none_called { IfOk result (λ file. Self.File.calls file ≡ 0) }
-        ensures none_failed { IfOk result (λ file. Self.File.failed_calls file ≡ 0) }
-        ensures calls { Opens None (calls self.old) (calls self.new) result };
+        ensures calls { Opens name.now (calls self.old) (calls self.new) result };
 
     /// Closes a file, and returns the error of its last read that failed.
     fn close(&mut self, file: Self::File) -> Option<Error>

@@ -215,7 +215,11 @@ impl<'a> Machine for MemoryMachine<'a> {
         Ok(copies(alloc, self.words)?)
     }
 
-    fn open(&mut self, name: &Word) -> io::Result<Self::File> {
+    fn open(&mut self, name: &Option<Word>) -> io::Result<Self::File> {
+        let Some(name) = name else {
+            note(&mut self.calls, FileCall::Opened(None, None));
+            return Ok(Telling::new(MemorySource::new(self.input.as_bytes(), CHUNK, self.fails_at)));
+        };
         match text_under(self.files, name.as_str()) {
             Some(text) => {
                 note_opened(self.alloc, &mut self.calls, name, None);
@@ -227,11 +231,6 @@ impl<'a> Machine for MemoryMachine<'a> {
                 Err(error)
             }
         }
-    }
-
-    fn input(&mut self) -> io::Result<Self::File> {
-        note(&mut self.calls, FileCall::Opened(None, None));
-        Ok(Telling::new(MemorySource::new(self.input.as_bytes(), CHUNK, self.fails_at)))
     }
 
     fn close(&mut self, file: Self::File) -> Option<Error> {

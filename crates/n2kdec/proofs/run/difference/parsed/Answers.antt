@@ -1,27 +1,18 @@
-use Rattle.std.proofs.Common.{◌≡◌, ◌∙◌, ℕ, Bool, true, false, if◌then◌else◌, List, Some, None, IsUtf8, ap, refl, sym}
-use Rattle.std.proofs.lemmas.Str.{IsUtf8-from_is_utf8, is_utf8-from_IsUtf8}
-use Rattle.std.specs.Str.{is_utf8}
+use Rattle.std.proofs.Common.{arith, ◌≡◌, Option, Some, None, Ok, Err}
 use Rattle.serde_json.specs.Data.{Data}
-use Rattle.serde_json.specs.Read.{read}
-use Rattle.n2k_join.proofs.ValidStates.{untrue}
-use Rattle.n2k_join.specs.Resumed.{parsed}
+use Rattle.n2k_wire.specs.Steps.{or_cause}
+use Rattle.n2k_join.specs.declared.fault.StateFault.TheVariants.{NotJson}
+use Rattle.n2k_join.proofs.ValidStates.{parsed_none, parsed_some, untrue}
 use Rattle.n2kdec.proofs.run.difference.parsed.Goals as goal
 
-module _ (bytes : List ℕ) where
-  -- what a text in UTF-8 reads as is its value
-  parsed_as : (d : Data) → IsUtf8 bytes → read bytes ≡ Some d → parsed bytes ≡ Some d
-  parsed_as d text is = ap (λ (b : Bool). if b then read bytes else None) (is_utf8-from_IsUtf8 bytes text) ∙ is
+value : (read : Option Data) (d : Data) → or_cause NotJson read ≡ Ok d → Some d ≡ read
+value read d is = grind arith
 
-  -- and a text that reads as nothing, or not as such a text, has none
-  at : (b : Bool) → is_utf8 bytes ≡ b → (IsUtf8 bytes → read bytes ≡ None) → (if b then read bytes else None) ≡ None
-  at true is none = none (IsUtf8-from_is_utf8 bytes is)
-  at false is none = refl
-
-  parsed_none : (IsUtf8 bytes → read bytes ≡ None) → parsed bytes ≡ None
-  parsed_none none = at (is_utf8 bytes) refl none
+no_value : (read : Option Data) → or_cause NotJson read ≡ Err NotJson → None ≡ read
+no_value read is = grind arith
 
 pub returns-in-Ok : goal.returns-in-Ok
-returns-in-Ok c = sym (parsed_as c.args.state.now _ c.in-Ok.ensures.ok.0 c.in-Ok.ensures.ok.1)
+returns-in-Ok c = value _ _ (parsed_some c.args.state.now _ c.in-Ok.ensures.ok.0 c.in-Ok.ensures.ok.1)
 
 pub returns-in-Err-2 : goal.returns-in-Err-2
-returns-in-Err-2 c = sym (parsed_none c.args.state.now (c.in-Err.ensures.err (λ memory. untrue c.is_memory.result c.if-is_memory.false (c.is_memory.ensures.1 memory))))
+returns-in-Err-2 c = no_value _ (parsed_none c.args.state.now (c.in-Err.ensures.err (λ memory. untrue c.is_memory.result c.if-is_memory.false (c.is_memory.ensures.1 memory))))

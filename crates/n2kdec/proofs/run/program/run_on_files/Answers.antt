@@ -2,13 +2,13 @@ use Rattle.std.proofs.Common.{rules, ◌≡◌, ◌∙◌, [], Err, option_map, 
 use Rattle.n2k_run.specs.Device.{IsWhy}
 use Rattle.n2kdec.specs.System.Machine.{IsOfFile, IsRead, IsUnread, LogAfter, bytes_named, explained, outside}
 use Rattle.n2kdec.specs.declared.fault.InputFile.TheVariants as reading
-use Rattle.n2kdec.proofs.run.MachineLemmas.{all_calls, log_unread, performed, performed_over, state_unread, table_is, table_unread}
+use Rattle.n2kdec.proofs.run.MachineLemmas.{admitted, all_calls, log_unread, performed, performed_over, state_unread, table_is, table_unread}
 use Rattle.n2kdec.proofs.run.program.run_on_files.Goals as goal
 
 pub returns-in_err-table-clause-runs : goal.returns-in_err-table-clause-runs
 returns-in_err-table-clause-runs g c =
     table_unread (g.M.Machine.world c.args.machine.now) c.args.command.now (outside g.M.Output.Sink g.M.Errors.Sink g.K.StateStore (g.M.Machine.calls c.args.machine.now) c.args.outlets.now)
-    (g.M.Machine.calls c.read_file.new.machine) c.in_err-table.field-0.0 c.from_residual.result c.from_residual.ensures.1 c.requires c.in_err-table.ensures.calls
+    (g.M.Machine.calls c.read_file.new.machine) c.in_err-table.field-0.0 c.from_residual.result c.from_residual.ensures.1 (admitted g.K.StateStore.admits c.args.command.now c.admit.result c.admit.ensures.answer c.in_default.not-Err) c.in_err-table.ensures.calls
 
 pub returns-in_err-state-clause-runs : goal.returns-in_err-state-clause-runs
 returns-in_err-state-clause-runs g c =
@@ -16,17 +16,17 @@ returns-in_err-state-clause-runs g c =
     let fault = c.in_err-state.field-0.0 in
     let state = c.in_err-state.ensures.calls in
     state_unread (g.M.Machine.world c.args.machine.now) c.args.command.now (outside g.M.Output.Sink g.M.Errors.Sink g.K.StateStore (g.M.Machine.calls c.args.machine.now) c.args.outlets.now)
-    (g.M.Machine.calls c.read_file-2.new.machine) fault c.from_residual-in_err-state.result c.from_residual-in_err-state.ensures.1 (g.M.Machine.calls c.read_file.new.machine) c.requires c.in_ok-table.ensures.calls
+    (g.M.Machine.calls c.read_file-2.new.machine) fault c.from_residual-in_err-state.result c.from_residual-in_err-state.ensures.1 (g.M.Machine.calls c.read_file.new.machine) (admitted g.K.StateStore.admits c.args.command.now c.admit.result c.admit.ensures.answer c.in_default.not-Err) c.in_ok-table.ensures.calls
     (state.0, state.1, subst (λ v. IsUnread v files.state reading.State fault state.0) c.in_ok-table.ensures.same state.2)
 
-pub returns-in-Err-clause-runs : goal.returns-in-Err-clause-runs
-returns-in-Err-clause-runs g c =
+pub returns-in-Err-open-clause-runs : goal.returns-in-Err-open-clause-runs
+returns-in-Err-open-clause-runs g c =
     let files = c.args.command.now.files in
     let state = c.in_ok-state.ensures.calls in
     log_unread (g.M.Machine.world c.args.machine.now) c.args.command.now (outside g.M.Output.Sink g.M.Errors.Sink g.K.StateStore (g.M.Machine.calls c.args.machine.now) c.args.outlets.now)
-    (g.M.Machine.calls c.open_log.new.machine) c.unopened.result (Err c.unopened.result) refl (g.M.Machine.calls c.read_file.new.machine) (g.M.Machine.calls c.read_file-2.new.machine) c.requires
+    (g.M.Machine.calls c.open.new.self) c.unopened.result (Err c.unopened.result) refl (g.M.Machine.calls c.read_file.new.machine) (g.M.Machine.calls c.read_file-2.new.machine) (admitted g.K.StateStore.admits c.args.command.now c.admit.result c.admit.ensures.answer c.in_default.not-Err)
     c.in_ok-table.ensures.calls (state.0, state.1, subst (λ v. IsRead v files.state state.0) c.in_ok-table.ensures.same state.2)
-    c.in-Err.error c.in-Err.ensures.calls c.unopened.ensures
+    c.in-Err-open.error c.in-Err-open.ensures.calls c.unopened.ensures
 
 pub returns-clause-runs : goal.returns-clause-runs
 returns-clause-runs g c =
@@ -45,7 +45,7 @@ returns-clause-runs g c =
     let is_state : option_map (λ bytes. bytes.now) c.map-state.result ≡ state_read = search rules in
     let stands : LogAfter = record { left = g.M.File.Source.remaining log; calls = g.M.File.Source.calls log; failed = g.M.File.Source.failed_calls log } in
     performed w c.args.command.now before after c.explained.result (record {
-      admitted = c.requires;
+      admitted = admitted g.K.StateStore.admits c.args.command.now c.admit.result c.admit.ensures.answer c.in_default.not-Err;
       table = table_read;
       is_table = table.bytes;
       of_table = table.calls.0;
