@@ -14,6 +14,7 @@ extern const uint8_t own_table[] __attribute__((visibility("hidden"))), own_tabl
 _Static_assert(offsetof(struct n2k_settings, encode) == 7 && sizeof(struct n2k_settings) == 32, "settings have their layout");
 
 int32_t proved_n2k_open(const uint8_t *, size_t, bool, const uint8_t *, size_t, const struct n2k_settings *, struct n2k_decoder *);
+int32_t proved_n2k_open_sharing(struct n2k_decoder *, bool, const uint8_t *, size_t, const struct n2k_settings *, struct n2k_decoder *);
 int32_t proved_n2k_feed(struct n2k_decoder *, const uint8_t *, size_t);
 int32_t proved_n2k_frame(struct n2k_decoder *, uint32_t, const uint8_t *, size_t, uint64_t, uint32_t);
 int32_t proved_n2k_next(struct n2k_decoder *, uint8_t *, size_t, size_t *);
@@ -33,6 +34,11 @@ int32_t n2k_open(const uint8_t *table, size_t table_size, bool resumes, const ui
     if (table == NULL) table = n2k_table(&table_size);
     return proved_n2k_open(table, table_size, resumes, bytes_of(state, state_size), state_size, settings,
                            decoder);
+}
+
+int32_t n2k_open_sharing(struct n2k_decoder *other, bool resumes, const uint8_t *state, size_t state_size,
+                         const struct n2k_settings *settings, struct n2k_decoder *decoder) {
+    return proved_n2k_open_sharing(other, resumes, bytes_of(state, state_size), state_size, settings, decoder);
 }
 
 int32_t n2k_feed(struct n2k_decoder *decoder, const uint8_t *bytes, size_t size) {

@@ -28,7 +28,8 @@
    - A `struct n2k_decoder` is zeros before its first n2k_open. Only these calls read or write it and what it points to.
      Do not copy it: a decoder that was copied and closed would be freed twice.
    - Any thread may call, but make one call at a time on a decoder. If several threads use it, order their calls by a mutex,
-     or by starting and joining threads. Other decoders are independent.
+     or by starting and joining threads. Other decoders are independent, even if they share a table;
+     n2k_open_sharing is a call on both of its decoders.
    - No pointer is null, unless its size is 0 or its call says so, and each points to as many bytes as its size says. What
      a call may write (a decoder, a room, a size, counts) overlaps nothing else that the call gets.
    - Make no call from a signal handler, and no call in a child that a process with threads has forked.
@@ -97,6 +98,13 @@ enum n2k_status {
    refused, a decoder that was open is still open. */
 int32_t n2k_open(const uint8_t *table, size_t table_size, bool resumes, const uint8_t *state, size_t state_size,
                  const struct n2k_settings *settings, struct n2k_decoder *decoder);
+
+/* Opens a decoder, or an encoder, with the table of `other`, which is open: like n2k_open with the bytes of that table, but
+   the table is not read again and takes no more memory. The memory of the table is freed when the last decoder with
+   this table is closed; either may be closed first. Nothing else is shared. After the call `other` is as before; during the
+   call no other thread may use it. If `other` is not open, the call returns N2K_CLOSED. */
+int32_t n2k_open_sharing(struct n2k_decoder *other, bool resumes, const uint8_t *state, size_t state_size,
+                         const struct n2k_settings *settings, struct n2k_decoder *decoder);
 
 /* Feeds more of the log, or of an encoder's lines of JSON. After N2K_MEMORY and N2K_TOO_MUCH the decoder is closed, and what
    waited in it is lost. An unfinished line is kept whole until its line feed comes, however long it is: input without line

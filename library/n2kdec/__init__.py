@@ -33,8 +33,8 @@ from collections.abc import Callable, Iterable, Iterator
 from decimal import Decimal
 from typing import Any, BinaryIO, NamedTuple, Optional, Protocol, TypedDict, Union
 
-__all__ = ["ArgumentError", "CanFrame", "Counts", "Decoder", "EncodeError", "Encoder", "Error", "FieldValue", "Message", "decode", "encode",
-           "frame", "frames"]
+__all__ = ["ArgumentError", "CanFrame", "Counts", "Decoder", "EncodeError", "Encoder", "Error", "FieldValue", "Message", "Table", "decode",
+           "encode", "frame", "frames"]
 __version__ = "1.1.0"
 
 #: A number, a name or text, the names of flags, the sets of a message that repeats, or None if the field is absent
@@ -72,7 +72,8 @@ Bytes = Union[bytes, bytearray, memoryview]
 Data = Union[Bytes, CanFrame]
 Name = Union[str, "os.PathLike[str]"]
 Source = Union[BinaryIO, Iterable[Data], Bytes, Name]
-Table = Union[bytes, Name]
+TableFile = Union[bytes, Name]
+AnyTable = Union["Table", bytes, Name]
 
 # Statuses of n2kdec.h.
 _DONE, _ROOM, _WINDOW, _ENDED, _FRAME, _TABLE = 0, 1, 3, 7, 9, 100
@@ -151,6 +152,7 @@ def _load() -> ctypes.CDLL:
     moves = [handle, text, size, ctypes.POINTER(size)]
     calls: dict[str, list[Any]] = {
         "n2k_open": [text, size, ctypes.c_bool, text, size, ctypes.POINTER(_Settings), handle],
+        "n2k_open_sharing": [handle, ctypes.c_bool, text, size, ctypes.POINTER(_Settings), handle],
         "n2k_feed": [handle, text, size],
         "n2k_frame": [handle, ctypes.c_uint32, text, size, ctypes.c_uint64, ctypes.c_uint32],
         "n2k_end": [handle],
@@ -360,6 +362,53 @@ class _Turn:
         self._thread.clear()
 
 
+# Held while a table opens a decoder, and during a fork: a child has no thread that would release it. A signal's handler may
+# open a decoder while this thread opens one.
+_opening = threading.RLock()
+os.register_at_fork(before=_opening.acquire, after_in_parent=_opening.release, after_in_child=_opening.release)
+
+
+class Table:
+    """A table that is read once, for any number of decoders and encoders.
+
+        table = n2kdec.Table("n2k.toml")
+        for log in logs:
+            for message in n2kdec.decode(log, table=table):
+                ...
+
+    Any thread may use a table, several at once too. Decoders and encoders keep what they need of it: its memory is freed with
+    the last of them.
+    """
+
+    def __init__(self, table: Optional[TableFile] = None) -> None:
+        """Reads a table: a file name or the bytes of a table; the default is the table in the library.
+
+        Raises ArgumentError if the table is refused, Error if memory is refused, and OSError if the table's file can't be read
+        or the library is missing.
+        """
+        # An encoder that is fed nothing.
+        self._calls, self._handle = _loaded(), _Handle()
+        toml = None if table is None else table if isinstance(table, bytes) else pathlib.Path(table).read_bytes()
+        _check(self._calls.n2k_open(toml, len(toml or b""), False, b"", 0, _Settings(encode=1), self._handle))
+
+    def _open(self, state: Optional[bytes], settings: _Settings, handle: _Handle) -> int:
+        """Opens a decoder or an encoder; returns the status."""
+        with _opening:
+            status: int = self._calls.n2k_open_sharing(self._handle, state is not None, state, len(state or b""), settings, handle)
+            return status
+
+    def __reduce__(self) -> Any:
+        raise TypeError("a table can't be copied: read it again")
+
+    def __del__(self) -> None:
+        if hasattr(self, "_handle"):
+            self._calls.n2k_close(self._handle)
+
+
+def _table_of(table: Optional[AnyTable]) -> Table:
+    return table if isinstance(table, Table) else Table(table)
+
+
 class Decoder:
     """A decoder that you feed: for all bytes fed to it, it prints what `n2kdec decode` prints.
 
@@ -375,11 +424,11 @@ class Decoder:
     calling it then, at the end of that call. A closed decoder raises Error. A decoder can't be copied: `save` it.
     """
 
-    def __init__(self, table: Optional[Table] = None, *, state: Optional[Bytes] = None, window: int = 10_000, in_order: bool = False,
+    def __init__(self, table: Optional[AnyTable] = None, *, state: Optional[Bytes] = None, window: int = 10_000, in_order: bool = False,
                  empty: bool = False, whole: bool = False) -> None:
-        """Reads a table, and begins a log or continues from a state.
+        """Begins a log, or continues from a state.
 
-        `table` is a file name or the bytes of a table; the default is the table in the library. `state` is what `save`
+        `table` is a Table, or a file name or the bytes of a table, which is read; the default is the table in the library. `state` is what `save`
         returned or `n2kdec decode --save` wrote, with the same table, window and order. `window` is 32 to 1,000,000 lines;
         `window`, `in_order`, `empty` and `whole` are the options of `n2kdec decode`.
 
@@ -395,10 +444,9 @@ class Decoder:
         self._printed, self._reported = _Output(self._calls.n2k_take), _Output(self._calls.n2k_take_reports)
         # The statuses of ending the log.
         self._ends: collections.deque[int] = collections.deque()
-        toml = None if table is None else table if isinstance(table, bytes) else pathlib.Path(table).read_bytes()
-        saved = b"" if state is None else bytes(memoryview(state))
+        saved = None if state is None else bytes(memoryview(state))
         settings = _Settings(window if 0 <= window < 1 << 32 else 0, in_order, empty, whole)
-        status = self._calls.n2k_open(toml, len(toml or b""), state is not None, saved, len(saved), settings, self._handle)
+        status = _table_of(table)._open(saved, settings, self._handle)
         if status == _WINDOW:
             raise ArgumentError(f"a window has 32 to 1,000,000 lines, and not {window:,}", status)
         _check(status)
@@ -673,12 +721,12 @@ class Decoder:
             self.close()
 
 
-def decode(source: Source, *, table: Optional[Table] = None, state: Optional[Bytes] = None, window: int = 10_000, in_order: bool = False,
+def decode(source: Source, *, table: Optional[AnyTable] = None, state: Optional[Bytes] = None, window: int = 10_000, in_order: bool = False,
            empty: bool = False, whole: bool = False, decimals: bool = False,
            on_report: Optional[Callable[[str], object]] = None) -> Iterator[Message]:
     """Yields each message of a log as soon as its last line is read.
 
-    The arguments are those of Decoder and of its `decode`. The table is read and the log's file is opened at once, and
+    The arguments are those of Decoder and of its `decode`. A table is read and the log's file is opened at once, and
     their errors are raised by this call. To continue after a `break` or an interrupt, or for the counts or the state, make
     a Decoder.
     """
@@ -686,14 +734,14 @@ def decode(source: Source, *, table: Optional[Table] = None, state: Optional[Byt
     return decoder._begun(source, decimals, on_report, closes=True)
 
 
-def frame(logs: Union[Name, Iterable[Name]], pgn: int, fields: Optional[Iterable[str]] = None, *, table: Optional[Table] = None,
+def frame(logs: Union[Name, Iterable[Name]], pgn: int, fields: Optional[Iterable[str]] = None, *, table: Optional[TableFile] = None,
           divisions: bool = True, skip: bool = False) -> Any:
     """The messages of one PGN in the logs of boats, as a Dask data frame: a partition for each boat and day.
 
     `logs` are files, or folders of `n2k-logger --raw`, of this computer or of fsspec (`s3://bucket/boats/*`). The index is the
     time. The columns are `boat`, `src`, `description`, and the fields, of which None takes all: numbers, categories for
     lookups (a number without a name is its digits), texts for flags and everything else; sets that repeat are JSON in the column
-    `list`. `table` is that of `Decoder`.
+    `list`. `table` is a file name or the bytes of a table.
 
     Of one boat with days, the days are the frame's divisions, and a time that is not in its day raises ValueError while it is
     computed; `divisions=False` takes any times. A part that cannot be read raises an error that names it, or is left out with

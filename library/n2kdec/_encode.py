@@ -8,18 +8,17 @@ import itertools
 import json
 import math
 import os
-import pathlib
 from collections.abc import Callable, Mapping
 from decimal import Decimal
 from typing import Any, Optional, Union
 
 import n2kdec
-from n2kdec import Bytes, Table
+from n2kdec import AnyTable, Bytes, Table
 
 #: A message: a dict as `n2kdec.decode` gives it, or its text in JSON. Only `pgn` and `fields` are required.
 Input = Union[Mapping[str, object], str, Bytes]
 
-# How many encoders a table keeps for the next calls: each has read the table.
+# How many open encoders are kept for the next calls.
 _MOST_IDLE = 8
 _text = json.JSONEncoder().encode
 _WHITE_SPACE = b" \t\r\n"
@@ -80,11 +79,10 @@ def _line_of(message: Input) -> bytes:
 class _Coder:
     """An open encoder of the library, for one call at a time."""
 
-    def __init__(self, toml: Optional[bytes], nearest: bool) -> None:
+    def __init__(self, table: Table, nearest: bool) -> None:
         self._calls, self._handle = n2kdec._loaded(), n2kdec._Handle()
         self._room, self._size = ctypes.create_string_buffer(1 << 12), ctypes.c_size_t()
-        settings = n2kdec._Settings(encode=2 if nearest else 1)
-        n2kdec._check(self._calls.n2k_open(toml, len(toml or b""), False, b"", 0, settings, self._handle))
+        n2kdec._check(table._open(None, n2kdec._Settings(encode=2 if nearest else 1), self._handle))
 
     def results(self, line: bytes) -> tuple[str, str]:
         """The plain line that the library prints for a line, and its report; one of them is empty."""
@@ -109,19 +107,17 @@ class Encoder:
         for identifier, data in encoder.frames({"pgn": 128267, "src": 5, "fields": {"Depth": 3.4}}):
             bus.send(can.Message(arbitration_id=identifier, data=data))
 
-    Any thread may call an encoder, several at once too: the table is read again for each further call at the same time. An
-    encoder is closed when its last reference goes.
+    Any thread may call an encoder, several at once too. An encoder is closed when its last reference goes.
     """
 
-    def __init__(self, table: Optional[Table] = None, *, nearest: bool = False) -> None:
-        """Reads a table: a file name or the bytes of a table; the default is the table in the library.
+    def __init__(self, table: Optional[AnyTable] = None, *, nearest: bool = False) -> None:
+        """`table` is a Table, or a file name or the bytes of a table, which is read; the default is the table in the library.
 
         With `nearest` a number is rounded to the nearest one that its field can show; otherwise it is refused. Raises
         ArgumentError if the table is refused, Error if memory is refused, and OSError if the table's file can't be read or the
         library is missing.
         """
-        toml = None if table is None else table if isinstance(table, bytes) else pathlib.Path(table).read_bytes()
-        self._opened = functools.partial(_Coder, toml, nearest)
+        self._opened = functools.partial(_Coder, n2kdec._table_of(table), nearest)
         # A call takes one of these, and puts it back if nothing went wrong, so none has results of an interrupted call.
         self._idle = collections.deque([self._opened()], _MOST_IDLE)
         self._is_fast: dict[int, bool] = {}
@@ -182,19 +178,19 @@ class Encoder:
 
 
 @functools.lru_cache(4)
-def _kept(table: Optional[Table], nearest: bool, *_: Any) -> Encoder:
+def _kept(table: Optional[AnyTable], nearest: bool, *_: Any) -> Encoder:
     return Encoder(table, nearest=nearest)
 
 
-def _encoder_of(table: Optional[Table], nearest: bool) -> Encoder:
+def _encoder_of(table: Optional[AnyTable], nearest: bool) -> Encoder:
     """The encoder of a table, which is kept for the next calls; another one if the table's file was changed."""
-    if table is None or isinstance(table, bytes):
+    if table is None or isinstance(table, (bytes, Table)):
         return _kept(table, nearest)
     found = os.stat(table)
     return _kept(os.fspath(table), nearest, found.st_dev, found.st_ino, found.st_size, found.st_mtime_ns, found.st_ctime_ns)
 
 
-def encode(message: Input, table: Optional[Table] = None, *, nearest: bool = False) -> str:
+def encode(message: Input, table: Optional[AnyTable] = None, *, nearest: bool = False) -> str:
     """Returns the plain line of a message, without its line feed.
 
     `message` is that of `Encoder.encode`; `table` and `nearest` are those of Encoder. The last four tables stay in memory: a
@@ -203,7 +199,7 @@ def encode(message: Input, table: Optional[Table] = None, *, nearest: bool = Fal
     return _encoder_of(table, nearest).encode(message)
 
 
-def frames(message: Input, table: Optional[Table] = None, *, nearest: bool = False, sequence: int = 0) -> list[tuple[int, bytes]]:
+def frames(message: Input, table: Optional[AnyTable] = None, *, nearest: bool = False, sequence: int = 0) -> list[tuple[int, bytes]]:
     """Returns the CAN frames of a message: pairs of the 29 bits of an identifier and of up to 8 bytes of data.
 
         for identifier, data in n2kdec.frames({"pgn": 128267, "fields": {"Depth": 3.4}}):

@@ -13,7 +13,7 @@ from importlib import import_module
 from typing import Any, Optional
 
 import n2kdec
-from ._logs import Boat, Chain, Log, LogError, boats_of
+from ._logs import Boat, Chain, Log, LogError, boats_of, read_table
 
 # A stamp as pandas can have it: to the nanosecond, the years 1678 to 2261. canboat's older forms have no T or Z.
 STAMP = re.compile(r"(16(?:7[89]|[89]\d)|1[789]\d\d|2[01]\d\d|22(?:[0-5]\d|6[01]))-(\d\d)-(\d\d)[T Z-](\d\d:\d\d:\d\d(?:\.\d{1,9})?)\d*Z?")
@@ -145,7 +145,6 @@ def part_of(boat: str, boats: Sequence[str], log: Log, toml: bytes, pgn: int, ty
             if len(messages) > MOST_MESSAGES:
                 put()
         after = chain.save()
-        chain.keep(after)
     except LogError as error:
         if not skip:
             raise
@@ -166,7 +165,7 @@ def frame(logs: Any, pgn: int, fields: Optional[Sequence[str]], table: Any, divi
     """What `n2kdec.frame` says."""
     dask, dataframe, utils = map(import_module, ("dask", "dask.dataframe", "dask.dataframe.utils"))
     toml = n2kdec._own_table() if table is None else table if isinstance(table, bytes) else pathlib.Path(table).read_bytes()
-    n2kdec.Decoder(toml).close()
+    read_table(toml)
     types = types_of(toml, pgn, fields)
     descriptions = tuple(dict.fromkeys([*(it["description"] for it in definitions_of(toml, pgn)[0]), "Unmatched"]))
     boats = boats_of([os.fspath(logs)] if isinstance(logs, (str, os.PathLike)) else [os.fspath(it) for it in logs])

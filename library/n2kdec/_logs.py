@@ -7,12 +7,12 @@ change.
 from __future__ import annotations
 
 import errno
+import functools
 import glob
 import gzip
 import io
 import os
 import re
-import threading
 import zlib
 from collections.abc import Iterator, Sequence
 from importlib import import_module
@@ -243,11 +243,14 @@ def pieces(log: Log) -> Iterator[bytes]:
         raise LogError(said(error, log.file)) from error
 
 
-class Chain:
-    """The decoder of a boat, which goes from one part of its log to the next. The table is read once."""
+@functools.lru_cache(2)
+def read_table(toml: bytes) -> n2kdec.Table:
+    """A table, which is read once in a process."""
+    return n2kdec.Table(toml)
 
-    # Of this thread a table, a state and an open decoder that has both. A process that is forked has it too.
-    kept = threading.local()
+
+class Chain:
+    """The decoder of a boat, which goes from one part of its log to the next."""
 
     def __init__(self, toml: bytes) -> None:
         self.toml = toml
@@ -256,18 +259,7 @@ class Chain:
     def begin(self, state: Optional[bytes] = None) -> None:
         """Begins a log, or continues from a state."""
         self.end()
-        toml, its_state, decoder = getattr(self.kept, "it", (None, None, None))
-        if (toml, its_state) == (self.toml, state):
-            self.decoder, self.kept.it = decoder, (None, None, None)
-        else:
-            self.decoder = n2kdec.Decoder(self.toml, state=state, in_order=True)
-
-    def keep(self, state: Optional[bytes]) -> None:
-        """Ends, but the decoder, which has this state, is the next one of this thread that begins with it."""
-        before = getattr(self.kept, "it", (None, None, None))[2]
-        if before is not None:
-            before.close()
-        self.kept.it, self.decoder = (self.toml, state, self.decoder), None
+        self.decoder = n2kdec.Decoder(read_table(self.toml), state=state, in_order=True)
 
     def end(self) -> None:
         if self.decoder is not None:
@@ -311,7 +303,7 @@ def messages_of(boat: Boat, toml: bytes) -> Iterator[n2kdec.Message]:
     """The messages of a boat, as they come. LogError if a part cannot be read."""
     if boat.fault:
         raise LogError(boat.fault)
-    with n2kdec.Decoder(toml, in_order=True) as decoder:
+    with n2kdec.Decoder(read_table(toml), in_order=True) as decoder:
         for log in boat.logs:
             for piece in pieces(log):
                 decoder.feed(piece)

@@ -63,6 +63,9 @@ static void closed(void) {
     want(N2K_CLOSED, n2k_save(&d, room, 1, &size), "save of none");
     want(N2K_CLOSED, n2k_counts(&d, &counted), "counts of none");
     want(N2K_CLOSED, n2k_waiting(&d, &size), "waiting of none");
+    struct n2k_decoder other = {0};
+    want(N2K_CLOSED, n2k_open_sharing(&d, false, NULL, 0, &usual, &other), "open with the table of none");
+    stays_closed(&other);
     n2k_close(&d);
     n2k_close(NULL);
     stays_closed(&d);
@@ -206,6 +209,28 @@ static void refused_frames(struct n2k_decoder *d) {
     want(N2K_DONE, n2k_feed(d, (const uint8_t *)"\n", 1), "feed of its rest");
 }
 
+// A decoder shares the table of another one, as it is at any time: what n2k_open refuses is refused, and changes neither.
+static void refused_sharing(struct text table, struct n2k_decoder *other) {
+    struct n2k_settings settings = {.window = 31}, encoding = {.encode = 1}, unknown = {.window = 10000, .encode = 3};
+    struct n2k_decoder d = {0};
+    struct text state = {0}, of_other = {0};
+    want(N2K_WINDOW, n2k_open_sharing(other, false, NULL, 0, &settings, &d), "share with a window that is none");
+    want(N2K_RESERVED, n2k_open_sharing(other, false, NULL, 0, &unknown, &d), "share with a setting that it does not know");
+    want(N2K_ENCODER, n2k_open_sharing(other, true, (const uint8_t *)"{}", 2, &encoding, &d), "share with an encoder's state");
+    want(N2K_STATE + 1, n2k_open_sharing(other, true, (const uint8_t *)"{", 1, &usual, &d), "share with a state that is none");
+    stays_closed(&d);
+    take_in_small_rooms(other, n2k_save, &of_other);
+    want(N2K_DONE, n2k_open_sharing(other, true, of_other.bytes, of_other.size, &usual, &d), "share");
+    want(N2K_OPEN, n2k_open_sharing(other, false, NULL, 0, &usual, &d), "share to one that is open");
+    want(N2K_OPEN, n2k_open_sharing(&d, false, NULL, 0, &usual, other), "share to the other one");
+    take_in_small_rooms(&d, n2k_save, &state);
+    if (!same(state, of_other)) fail("another state", (long)state.size);
+    n2k_close(&d);
+    want(N2K_DONE, open_with(&d, table, &state, &usual), "open of a state of a shared table");
+    n2k_close(&d);
+    free(state.bytes), free(of_other.bytes);
+}
+
 // The table that the library contains, and a decoder of it.
 static void own_table(void) {
     struct n2k_decoder d = {0};
@@ -313,6 +338,7 @@ int main(int count, char **words) {
         closed();
         refused_windows(table);
         refused_states(table, &d);
+        refused_sharing(table, &d);
         take_in_small_rooms(&d, n2k_next, &printed);
         take_in_small_rooms(&d, n2k_take, &printed);
         take_in_small_rooms(&d, n2k_take_reports, &reported);

@@ -1,4 +1,4 @@
-// Feeds a log in random chunks and frames to a decoder, takes the queued text, all or one line, into rooms of random
+// Feeds a log in random chunks and frames to a decoder, whose table it reads or shares with another one, takes the queued text, all or one line, into rooms of random
 // size, saves, closes and resumes from the state after random lines, and compares the whole output and reports, the
 // counts and the last state with the program's.
 //
@@ -19,7 +19,7 @@ struct run {
     // How far the log is fed, where the line that is cut begins, and the number of lines after which the decoder is
     // saved.
     size_t at, start, lines, wanted, most;
-    long calls, opened, frames, hands;
+    long calls, opened, shared, frames, hands;
     pthread_t last;
 };
 
@@ -57,9 +57,35 @@ static void take(struct run *run, take_call *call, struct text *to) {
     free(bytes);
 }
 
+// The thread sanitizer does not see the library's atomic counts, and would report that the last owner frees the table.
+#ifdef __SANITIZE_THREAD__
+static const bool can_share = false;
+#else
+static const bool can_share = true;
+#endif
+
+// The decoder whose table others share, under a mutex. It is closed, and replaced, before most of them.
+static struct n2k_decoder lender;
+static pthread_mutex_t lending = PTHREAD_MUTEX_INITIALIZER;
+
+// Reads the table, or shares it.
 static void open_decoder(struct run *run, const struct text *state) {
-    int32_t status = n2k_open(table.bytes, table.size, state != NULL, state ? state->bytes : NULL,
-                              state ? state->size : 0, &settings, &run->decoder);
+    const uint8_t *bytes = state ? state->bytes : NULL;
+    size_t size = state ? state->size : 0;
+    int32_t status;
+    pthread_mutex_lock(&lending);
+    if (lender.live) {
+        status = n2k_open_sharing(&lender, state != NULL, bytes, size, &settings, &run->decoder);
+        run->shared++;
+        if (below(run, 4) == 0) n2k_close(&lender);
+    } else {
+        status = n2k_open(table.bytes, table.size, state != NULL, bytes, size, &settings, &run->decoder);
+    }
+    // The encoder of a decoder's table, or the other way round.
+    struct n2k_settings other = {.window = 32, .encode = settings.encode == 0};
+    if (status == N2K_DONE && !lender.live && can_share && below(run, 8) != 0)
+        status = n2k_open_sharing(&run->decoder, false, NULL, 0, &other, &lender);
+    pthread_mutex_unlock(&lending);
     if (status != N2K_DONE) fail("open", status);
     run->calls++, run->opened++;
 }
@@ -202,7 +228,7 @@ static pthread_mutex_t mutex = PTHREAD_MUTEX_INITIALIZER;
 static struct run **ring;
 static size_t ring_size, ring_first, ring_count;
 static unsigned long long seed;
-static long calls_wanted, calls, times, opened, frames, hands;
+static long calls_wanted, calls, times, opened, shared, frames, hands;
 
 static void put(struct run *run) {
     ring[(ring_first + ring_count++) % ring_size] = run;
@@ -233,7 +259,7 @@ static void *work(void *nothing) {
             put(run);
             continue;
         }
-        calls += run->calls, opened += run->opened, frames += run->frames, hands += run->hands, times++;
+        calls += run->calls, opened += run->opened, shared += run->shared, frames += run->frames, hands += run->hands, times++;
         free(run);
         if (calls < calls_wanted) put_new();
     }
@@ -256,7 +282,8 @@ int main(int count, char **words) {
         if (pthread_create(&others[i], NULL, work, NULL) != 0) fail("no thread", (long)i);
     work(NULL);
     for (size_t i = 1; i < threads; i++) pthread_join(others[i], NULL);
-    printf("%ld calls, %ld times the log, %ld decoders, %ld frames, %ld times to another thread\n", calls, times, opened, frames, hands);
+    n2k_close(&lender);
+    printf("%ld calls, %ld times the log, %ld decoders, %ld of a shared table, %ld frames, %ld times to another thread\n", calls, times, opened, shared, frames, hands);
     free(table.bytes), free(log_text.bytes), free(output.bytes), free(errors.bytes), free(end.bytes), free(ring), free(others);
     return 0;
 }

@@ -293,7 +293,7 @@ class Decoding(unittest.TestCase):
             with tempfile.TemporaryDirectory() as folder:
                 name = str(pathlib.Path(folder, "libn2kdec.so.1"))
                 code = f"int n2k_version(void) {{ return {version}; }}\n"
-                calls = "open feed end take frame take_reports save counts waiting close table status_text".split()
+                calls = "open open_sharing feed end take frame take_reports save counts waiting close table status_text".split()
                 code += "".join(f"int n2k_{call}(void) {{ return 0; }}\n" for call in calls)
                 subprocess.run(["cc", "-shared", "-fPIC", "-o", name, "-x", "c", "-"], input=code.encode(), check=True)
                 loads = subprocess.run([sys.executable, "-c", "import n2kdec; n2kdec._load()"], env={**os.environ, "N2KDEC_LIBRARY": name},
@@ -776,6 +776,109 @@ class Ended(unittest.TestCase):
                 messages += decoder.decode(log[cut:])
                 self.assertTrue(decoder.ended)
                 self.assertEqual((messages, list(decoder.decode())), (wanted, []))
+
+
+class Tables(unittest.TestCase):
+    MESSAGE = {"pgn": 127251, "src": 36, "fields": {"SID": 125, "Rate": 0.00509634375}}
+
+    def test_a_table_is_accepted_where_one_is_read(self):
+        wanted = list(n2kdec.decode(TRIP, table=TABLE, in_order=True))
+        for read in (TABLE, str(TABLE), TABLE.read_bytes(), None):
+            table = n2kdec.Table(read)
+            decoder, encoder = n2kdec.Decoder(table, in_order=True), n2kdec.Encoder(table, nearest=True)
+            self.assertEqual(n2kdec.encode(self.MESSAGE, table), n2kdec.encode(self.MESSAGE, TABLE))
+            self.assertEqual(n2kdec.frames(self.MESSAGE, table), n2kdec.frames(self.MESSAGE, TABLE))
+            handle = table._handle
+            n2kdec._encode._kept.cache_clear()
+            del table
+            gc.collect()
+            # The encoder opens others with it.
+            self.assertTrue(handle.live)
+            self.assertEqual(encoder.encode({**self.MESSAGE, "fields": {"Rate": 0.005}}), n2kdec.Encoder(nearest=True).encode({**self.MESSAGE, "fields": {"Rate": 0.005}}))
+            del encoder
+            gc.collect()
+            self.assertFalse(handle.live)
+            self.assertEqual(list(decoder.decode(TRIP)), wanted)
+
+    def test_a_state_continues_with_a_shared_table(self):
+        log, table = TRIP.read_bytes(), n2kdec.Table(SAMPLE)
+        with tempfile.TemporaryDirectory() as folder:
+            half = len(log) // 2 + log[len(log) // 2:].index(b"\n") + 1
+            program("decode", "--in-order", "--table", SAMPLE, "--save", f"{folder}/state", log=log[:half])
+            wanted = pathlib.Path(folder, "state").read_bytes()
+        with n2kdec.Decoder(table, in_order=True) as decoder:
+            messages = list(decoder.decode(log[:half]))
+            self.assertEqual(decoder.save(), wanted)
+        with n2kdec.Decoder(table, state=wanted, in_order=True) as decoder:
+            self.assertEqual([*messages, *decoder.decode(log[half:])], list(n2kdec.decode(log, table=SAMPLE, in_order=True)))
+        with self.assertRaisesRegex(n2kdec.ArgumentError, "state 4 TableDiffers"):
+            n2kdec.Decoder(n2kdec.Table(), state=wanted, in_order=True)
+
+    def test_what_is_refused(self):
+        for read, error in ((b"[", "table 1 NotToml"), (b"format = 9", "table 2 Format")):
+            with self.assertRaisesRegex(n2kdec.ArgumentError, error):
+                n2kdec.Table(read)
+        with self.assertRaises(FileNotFoundError):
+            n2kdec.Table("no such table")
+        table = n2kdec.Table(SAMPLE)
+        with self.assertRaisesRegex(n2kdec.ArgumentError, "and not 31"):
+            n2kdec.Decoder(table, window=31)
+        for copies in (copy.copy, copy.deepcopy, pickle.dumps):
+            with self.assertRaisesRegex(TypeError, "read it again"):
+                copies(table)
+
+    def test_threads_open_decoders_at_once(self):
+        interval = sys.getswitchinterval()
+        self.addCleanup(sys.setswitchinterval, interval)
+        sys.setswitchinterval(1e-5)
+        wanted, tables = list(n2kdec.decode(TRIP, table=SAMPLE)), [n2kdec.Table(SAMPLE)]
+        with concurrent.futures.ThreadPoolExecutor(8) as pool:
+            found = [pool.submit(lambda table: list(n2kdec.decode(TRIP, table=table)), tables[0]) for _ in range(100)]
+            tables.clear()
+            for it in found:
+                self.assertEqual(it.result(), wanted)
+
+    def test_a_forked_child_opens_a_decoder(self):
+        # Another thread opens decoders during each fork.
+        script = """
+import os, sys, threading, time
+import n2kdec
+table = n2kdec.Table(sys.argv[1])
+def open_decoders():
+    while True:
+        n2kdec.Decoder(table).close()
+threading.Thread(target=open_decoders, daemon=True).start()
+for _ in range(50):
+    child = os.fork()
+    if not child:
+        n2kdec.Decoder(table).close()
+        os._exit(0)
+    for _ in range(1000):
+        ended, status = os.waitpid(child, os.WNOHANG)
+        if ended:
+            break
+        time.sleep(0.01)
+    else:
+        os.kill(child, 9)
+        sys.exit("a child hangs")
+    if status:
+        sys.exit(f"a child ended with status {status}")
+print("50 children", flush=True)
+os._exit(0)
+"""
+        ran = subprocess.run([sys.executable, "-W", "ignore", "-c", script, SAMPLE], capture_output=True, text=True)
+        self.assertEqual((ran.returncode, ran.stdout, ran.stderr), (0, "50 children\n", ""))
+
+    def test_a_thousand_decoders_read_it_once(self):
+        begun = time.perf_counter()
+        table = n2kdec.Table()
+        read = time.perf_counter() - begun
+        begun = time.perf_counter()
+        for _ in range(1000):
+            n2kdec.Decoder(table).close()
+        opened = time.perf_counter() - begun
+        print(f"a table is read in {1e3 * read:.1f} ms, and 1,000 decoders open with it in {1e3 * opened:.1f} ms", file=sys.stderr)
+        self.assertLess(opened, 100 * read)
 
 
 class Encoding(unittest.TestCase):

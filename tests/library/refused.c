@@ -39,7 +39,7 @@ void __wrap_free(void *old) {
 }
 
 // How a life begins.
-enum way { WITHOUT_STATE, FROM_STATE, ENCODING };
+enum way { WITHOUT_STATE, FROM_STATE, SHARING, ENCODING };
 
 static struct text table, saved;
 // What is fed, and the whole output of it; after a state, which counts lines, the output is another one.
@@ -88,7 +88,15 @@ static void save(struct n2k_decoder *d) {
 static void live(enum way way) {
     const struct n2k_settings settings = {.window = 10000, .encode = way == ENCODING};
     struct n2k_decoder d = {0};
-    bool is_open = is_done(n2k_open(table.bytes, table.size, way == FROM_STATE, saved.bytes, saved.size, &settings, &d));
+    struct n2k_decoder other = {0};
+    bool is_open = is_done(n2k_open(table.bytes, table.size, way == FROM_STATE, saved.bytes, saved.size, &settings, way == SHARING ? &other : &d));
+    if (way == SHARING && is_open) {
+        long before = blocks;
+        is_open = is_done(n2k_open_sharing(&other, false, NULL, 0, &settings, &d));
+        if (blocks - before > 1) fail("a decoder that shares a table takes as many blocks", blocks - before);
+        want_open(&other, true);
+        n2k_close(&other);
+    }
     want_open(&d, is_open);
     if (is_open && feed_all(&d, way)) {
         bool is_ended = is_done(n2k_end(&d));
@@ -101,7 +109,7 @@ static void live(enum way way) {
 
 // Refuses each allocation of such a life.
 static void refuse_each(enum way way) {
-    static const char *const ways[] = {"without a state", "from a state", "of an encoder"};
+    static const char *const ways[] = {"without a state", "from a state", "with a shared table", "of an encoder"};
     long number = 0;
     for (;; number++) {
         long before = blocks;
@@ -119,6 +127,7 @@ int main(int count, char **words) {
     table = file(words[1]), fed = file(words[2]), output = file(words[3]), saved = file(words[4]);
     refuse_each(WITHOUT_STATE);
     refuse_each(FROM_STATE);
+    refuse_each(SHARING);
     free(fed.bytes), free(output.bytes);
     fed = file(words[5]), output = file(words[6]);
     refuse_each(ENCODING);

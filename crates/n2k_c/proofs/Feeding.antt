@@ -110,7 +110,7 @@ ends_at_feed bytes lines last is none passes =
 -- ---- a line that is cut, taken as it is
 
 -- what was taken, of a decoder with the same table, work and texts
-pub same_taken : (t : TableParts) (job : Job) (taken printed reported : List ℕ) (d d' : Decoder) → d'.table ≡ d.table → d'.work ≡ d.work → d'.output ≡ d.output → d'.reports ≡ d.reports
+pub same_taken : (t : TableParts) (job : Job) (taken printed reported : List ℕ) (d d' : Decoder) → d'.table.value ≡ d.table.value → d'.work ≡ d.work → d'.output ≡ d.output → d'.reports ≡ d.reports
     → HasTaken t job taken printed reported d → HasTaken t job taken printed reported d'
 same_taken t job taken printed reported d d' table work output waiting b = record {
   table = table ∙ b.table;
@@ -120,7 +120,7 @@ same_taken t job taken printed reported d d' table work output waiting b = recor
 }
 
 module _ (t : TableParts) (job : Job) (taken printed reported : List ℕ) (d d' : Decoder) where
-  gains_cut : d'.table ≡ d.table → HasTaken t job taken printed reported d → Gains t job taken d.cut.items d'.work d.output.held d'.output.held d.reports.held d'.reports.held
+  gains_cut : d'.table.value ≡ d.table.value → HasTaken t job taken printed reported d → Gains t job taken d.cut.items d'.work d.output.held d'.output.held d.reports.held d'.reports.held
       → HasTaken t job (taken ++ d.cut.items) printed reported d'
   gains_cut same b more = record {
     table = same ∙ b.table;
@@ -129,20 +129,21 @@ module _ (t : TableParts) (job : Job) (taken printed reported : List ℕ) (d d' 
     reports = subst (AreReports t job (taken ++ d.cut.items)) (append_assoc reported d.reports.held more.report ∙ ap (λ x. reported ++ x) (sym more.reported)) (more.reports_are (reported ++ d.reports.held) b.reports);
   }
 
-  ends_cut : (result : Result (Unit {0}) RunFault) → d'.table ≡ d.table → HasTaken t job taken printed reported d
+  ends_cut : (result : Result (Unit {0}) RunFault) → d'.table.value ≡ d.table.value → HasTaken t job taken printed reported d
       → RunsMore t job taken d.cut.items d'.work d.output.held d'.output.held d.reports.held d'.reports.held result → RunsCut t job taken printed reported d d' result
   ends_cut (Ok x) same b more = gains_cut same b more
   ends_cut (Err of_run.TooManyLines) same b more = more
   ends_cut (Err of_run.Read) same b more = more
   ends_cut (Err _) same b more = tt
 
-  pub runs_cut : (more : List ℕ) (result : Result (Unit {0}) RunFault) → more ≡ d.cut.items → d'.table ≡ d.table
-      → ((j : Job) (prefix : List ℕ) → IsEmptyOrEndsWith prefix line_feed → IsAfter d.table j prefix d.work
-      → RunsMore d.table j prefix more d'.work d.output.held d'.output.held d.reports.held d'.reports.held result)
+  pub runs_cut : (x : TableParts) (more : List ℕ) (result : Result (Unit {0}) RunFault) → x ≡ d.table.value → more ≡ d.cut.items → d'.table.value ≡ d.table.value
+      → ((j : Job) (prefix : List ℕ) → IsEmptyOrEndsWith prefix line_feed → IsAfter x j prefix d.work
+      → RunsMore x j prefix more d'.work d.output.held d'.output.held d.reports.held d'.reports.held result)
       → IsEmptyOrEndsWith taken line_feed → HasTaken t job taken printed reported d → RunsCut t job taken printed reported d d' result
-  runs_cut more result is_more same runs whole b =
-      let after = subst (λ (x : TableParts). IsAfter x job taken d.work) (sym b.table) b.leads_to in
-      let ran = subst (λ (x : TableParts). RunsMore x job taken more d'.work d.output.held d'.output.held d.reports.held d'.reports.held result) b.table (runs job taken whole after) in
+  runs_cut x more result is_x is_more same runs whole b =
+      let is_t : x ≡ t = is_x ∙ b.table in
+      let after = subst (λ (y : TableParts). IsAfter y job taken d.work) (sym is_t) b.leads_to in
+      let ran = subst (λ (y : TableParts). RunsMore y job taken more d'.work d.output.held d'.output.held d.reports.held d'.reports.held result) is_t (runs job taken whole after) in
       ends_cut result same b (subst (λ m. RunsMore t job taken m d'.work d.output.held d'.output.held d.reports.held d'.reports.held result) is_more ran)
 
 -- ---- n2k_feed
@@ -248,7 +249,7 @@ spends_end d d' _ runs = tt
 -- ---- what is opened
 
 -- what was opened after these bytes
-pub opened_at : (t : TableParts) (job : Job) (prefix printed reported : List ℕ) (d : Decoder) → d.table ≡ t → d.ended ≡ false → d.cut.items ≡ [] → d.output.held ≡ [] → d.reports.held ≡ []
+pub opened_at : (t : TableParts) (job : Job) (prefix printed reported : List ℕ) (d : Decoder) → d.table.value ≡ t → d.ended ≡ false → d.cut.items ≡ [] → d.output.held ≡ [] → d.reports.held ≡ []
     → IsEmptyOrEndsWith prefix line_feed → IsAfter t job prefix d.work → IsOutput t job prefix printed → AreReports t job prefix reported → Stands t job prefix false printed reported d
 opened_at t job prefix printed reported d table log cut output waiting whole after prints tells =
     let is : whole_lines prefix ≡ prefix = ap whole_lines (sym (append-nil prefix)) ∙ whole_prefix prefix [] whole (λ k d below. absurd (omega (arith, below))) in

@@ -1,5 +1,5 @@
 -- What a call returns, from what its parts do.
-use Rattle.std.proofs.Common.{◌≡◌, ℕ, Bool, true, false, true≢false, List, [], Option, Some, None, Result, Err, MatchResult, is_some, option_map, refl, sym, ap, ◌∙◌, subst, arith}
+use Rattle.std.proofs.Common.{◌≡◌, ℕ, Bool, true, false, true≢false, List, [], Option, Some, None, IsSome, Result, Ok, Err, MatchResult, is_some, option_map, refl, sym, ap, ◌∙◌, subst, arith}
 use Rattle.n2k_table.specs.Table.{TableParts, faults, table}
 use Rattle.n2k_run.specs.declared.options.Options.{Options}
 use Rattle.n2k_run.specs.Decoded.{out, reports}
@@ -7,9 +7,10 @@ use Rattle.n2k_run.specs.Parts.{IsPrefix}
 use Rattle.n2k_c.specs.declared.Settings.{Settings}
 use Rattle.n2k_c.specs.declared.decoder.Decoder.{Decoder}
 use Rattle.n2k_c.specs.declared.refusal.Refusal.{Refusal}
-use Rattle.n2k_c.specs.declared.refusal.Refusal.TheVariants.{Encoder, Room, Memory}
-use Rattle.n2k_c.specs.Answers.{IsDecoderOf, IsEncoderOf, NotMoved, NotSaved, NotSavedInto, Sized, WantsRoom, are_known, asks_nearest, settings_options}
-use Rattle.n2k_c.specs.Job.{decoding, encoding}
+use Rattle.n2k_c.specs.declared.refusal.Refusal.TheVariants.{Closed, Encoder, Room, Memory, Table}
+use Rattle.n2k_c.specs.Answers.{HasTable, IsDecoderOf, NotMoved, NotOpened, NotOpenedSharing, NotOpenedWith, NotSaved, NotSavedInto, OpensDecoder, OpensSharing, OpensWith, Sized, WantsRoom, are_known, settings_options}
+use Rattle.n2k_c.specs.Inner.{IsTableOf, NotRead, NotShared}
+use Rattle.n2k_c.specs.Job.{decoding}
 use Rattle.n2k_c.specs.Stands.{Stands}
 
 -- before the first line nothing was printed
@@ -28,31 +29,21 @@ first t o = record { whole_lines = λ some. absurd (omega (arith, some)); leads_
 Gives : TableParts → Options → Option (List ℕ) → Decoder → Type 0
 Gives t o handed d = (prefix : List ℕ) → IsPrefix t o prefix handed → Stands t (decoding o) prefix false (out t o prefix) (reports t o prefix) d
 
-pub decodes_by : (toml : List ℕ) (settings : Settings) (handed : Option (List ℕ)) (t : TableParts) (o : Options) (d : Decoder) → faults toml ≡ [] → are_known settings ≡ true → t ≡ table toml → o ≡ settings_options settings
-    → ((prefix : List ℕ) → IsPrefix t o prefix handed → Stands t (decoding o) prefix false (out t o prefix) (reports t o prefix) d) → IsDecoderOf toml settings handed d
+pub decodes_by : (t : TableParts) (settings : Settings) (handed : Option (List ℕ)) (o : Options) (d : Decoder) → are_known settings ≡ true → o ≡ settings_options settings
+    → ((prefix : List ℕ) → IsPrefix t o prefix handed → Stands t (decoding o) prefix false (out t o prefix) (reports t o prefix) d) → IsDecoderOf t settings handed d
 unfolding Gives
-decodes_by toml settings handed t o d sound known is_t is_o gives =
+decodes_by t settings handed o d known is_o gives =
+    let own = settings_options settings in
     let a : Gives t o handed d = gives in
-    let b = subst (λ (x : TableParts). Gives x o handed d) is_t a in
-    let c = subst (λ (x : Options). Gives (table toml) x handed d) is_o b in
+    let b = subst (λ (x : Options). Gives t x handed d) is_o a in
     record {
-      sound = sound;
       known = known;
       begins = λ none.
-          let at = c [] (subst (λ (h : Option (List ℕ)). IsPrefix (table toml) (settings_options settings) [] h) (sym none) (first (table toml) (settings_options settings))) in
-          let printed = subst (λ (text : List ℕ). Stands (table toml) (decoding (settings_options settings)) [] false text (reports (table toml) (settings_options settings) []) d) (nothing_out (table toml) (settings_options settings)) at in
-          subst (λ (text : List ℕ). Stands (table toml) (decoding (settings_options settings)) [] false [] text d) (nothing_told (table toml) (settings_options settings)) printed;
-      goes_on = c;
+          let at = b [] (subst (λ (h : Option (List ℕ)). IsPrefix t own [] h) (sym none) (first t own)) in
+          let printed = subst (λ (text : List ℕ). Stands t (decoding own) [] false text (reports t own []) d) (nothing_out t own) at in
+          subst (λ (text : List ℕ). Stands t (decoding own) [] false [] text d) (nothing_told t own) printed;
+      goes_on = b;
     }
-
-pub encodes_by : (toml : List ℕ) (settings : Settings) (handed : Option (List ℕ)) (t : TableParts) (nearest : Bool) (d : Decoder) → faults toml ≡ [] → are_known settings ≡ true → handed ≡ None → t ≡ table toml → nearest ≡ asks_nearest settings
-    → Stands t (encoding nearest) [] false [] [] d → IsEncoderOf toml settings handed d
-encodes_by toml settings handed t nearest d sound known none is_t is_nearest stands = record {
-  sound = sound;
-  known = known;
-  no_state = none;
-  begins = subst (λ (n : Bool). Stands (table toml) (encoding n) [] false [] [] d) is_nearest (subst (λ (x : TableParts). Stands x (encoding nearest) [] false [] [] d) is_t stands);
-}
 
 -- no state was handed in
 pub no_state : {A B : Type 0} (f : A → B) (handed : Option A) → is_some handed ≡ false → option_map f handed ≡ None
@@ -63,6 +54,44 @@ no_state f None none = refl
 pub none_is : (x : Option Decoder) (live : Bool) → live ≡ is_some x → live ≡ false → x ≡ None
 none_is (Some d) live tied off = absurd (true≢false (sym tied ∙ off))
 none_is None live tied off = refl
+
+-- ---- with a table that was read, or is that of another one
+
+decoder_in : Decoder → Option Decoder → Decoder
+decoder_in d (Some e) = e
+decoder_in d None = d
+
+same_table : (other : Option Decoder) (t u : TableParts) → IsTableOf other t → HasTable other u → t ≡ u
+unfolding decoder_in
+same_table other t u it has = it.2 ∙ ap (λ (d : Decoder). d.table.value) (ap (decoder_in it.0) (sym it.1 ∙ has.is)) ∙ has.table
+
+is_open : (other : Option Decoder) (t : TableParts) → IsTableOf other t → IsSome other
+is_open other t it = subst IsSome (sym it.1) refl
+
+module _ (settings : Settings) (handed : Option (List ℕ)) (old new : Option Decoder) where
+  pub not_read : (toml : List ℕ) (refusal : Refusal) → new ≡ old → NotRead toml refusal → NotOpened toml settings handed old new refusal
+  not_read toml Memory same why = (same, tt)
+  not_read toml (Table fault) same why = (same, why)
+  not_read toml _ same why = absurd why
+
+  pub opens_read : (toml : List ℕ) (t : TableParts) (result : Result (Unit {0}) Refusal) → faults toml ≡ [] → t ≡ table toml
+      → MatchResult result (λ _. OpensWith t settings handed old new) (NotOpenedWith t settings handed old new)
+      → MatchResult result (λ _. OpensDecoder toml settings handed old new) (NotOpened toml settings handed old new)
+  opens_read toml t (Ok x) sound is opened = (sound, subst (λ (y : TableParts). OpensWith y settings handed old new) is opened)
+  opens_read toml t (Err (Table fault)) sound is why = absurd why.1
+  opens_read toml t (Err refusal) sound is why = subst (λ (y : TableParts). NotOpenedWith y settings handed old new refusal) is why
+
+  pub not_shared : (other : Option Decoder) (refusal : Refusal) → new ≡ old → NotShared other refusal → NotOpenedSharing other settings handed old new refusal
+  not_shared other Closed same why = (why, same)
+  not_shared other Memory same why = (why, λ t has. (same, tt))
+  not_shared other _ same why = absurd why
+
+  pub opens_sharing : (other : Option Decoder) (t : TableParts) (result : Result (Unit {0}) Refusal) → IsTableOf other t
+      → MatchResult result (λ _. OpensWith t settings handed old new) (NotOpenedWith t settings handed old new)
+      → MatchResult result (λ _. OpensSharing other settings handed old new) (NotOpenedSharing other settings handed old new)
+  opens_sharing other t (Ok x) it opened = (is_open other t it, λ u has. subst (λ (y : TableParts). OpensWith y settings handed old new) (same_table other t u it has) opened)
+  opens_sharing other t (Err Closed) it why = absurd why.1
+  opens_sharing other t (Err refusal) it why = (is_open other t it, λ u has. subst (λ (y : TableParts). NotOpenedWith y settings handed old new refusal) (same_table other t u it has) why)
 
 -- ---- a text that did not come into a room
 

@@ -51,51 +51,77 @@ asks_nearest settings = settings.encode == 2
 abbrev pub handed_of : Bool → List ℕ → Option (List ℕ)
 handed_of resumes state = if resumes then Some state else None
 
--- A decoder of a table without a fault. It continues after each prefix of a log whose saved state was handed in, and
--- without a state before the first line; nothing of it waits.
-pub record IsDecoderOf (toml : List ℕ) (settings : Settings) (handed : Option (List ℕ)) (d : Decoder) : Type 0 where
-  pub sound : faults toml ≡ []
+-- A decoder with a table. It continues after each prefix of a log whose saved state was handed in, and without a state
+-- before the first line; nothing of it waits.
+pub record IsDecoderOf (t : TableParts) (settings : Settings) (handed : Option (List ℕ)) (d : Decoder) : Type 0 where
   pub known : are_known settings ≡ true
-  pub begins : handed ≡ None → Stands (table toml) (decoding (settings_options settings)) [] false [] [] d
-  pub goes_on : (prefix : List ℕ) → IsPrefix (table toml) (settings_options settings) prefix handed
-      → Stands (table toml) (decoding (settings_options settings)) prefix false
-      (out (table toml) (settings_options settings) prefix) (reports (table toml) (settings_options settings) prefix) d
+  pub begins : handed ≡ None → Stands t (decoding (settings_options settings)) [] false [] [] d
+  pub goes_on : (prefix : List ℕ) → IsPrefix t (settings_options settings) prefix handed
+      → Stands t (decoding (settings_options settings)) prefix false
+      (out t (settings_options settings) prefix) (reports t (settings_options settings) prefix) d
 
--- An encoder with a table without a fault, before the first line. No state was handed in.
-pub record IsEncoderOf (toml : List ℕ) (settings : Settings) (handed : Option (List ℕ)) (d : Decoder) : Type 0 where
-  pub sound : faults toml ≡ []
+-- An encoder with a table, before the first line. No state was handed in.
+pub record IsEncoderOf (t : TableParts) (settings : Settings) (handed : Option (List ℕ)) (d : Decoder) : Type 0 where
   pub known : are_known settings ≡ true
   pub no_state : handed ≡ None
-  pub begins : Stands (table toml) (encoding (asks_nearest settings)) [] false [] [] d
+  pub begins : Stands t (encoding (asks_nearest settings)) [] false [] [] d
 
 -- what the settings ask for: an encoder, or a decoder
-abbrev pub IsMadeBy : Bool → List ℕ → Settings → Option (List ℕ) → Decoder → Type 0
-IsMadeBy true toml settings handed d = IsEncoderOf toml settings handed d
-IsMadeBy false toml settings handed d = IsDecoderOf toml settings handed d
+abbrev pub IsMadeBy : Bool → TableParts → Settings → Option (List ℕ) → Decoder → Type 0
+IsMadeBy true t settings handed d = IsEncoderOf t settings handed d
+IsMadeBy false t settings handed d = IsDecoderOf t settings handed d
 
 -- none was open, and such a decoder or encoder is
-pub record OpensDecoder (toml : List ℕ) (settings : Settings) (handed : Option (List ℕ))
+pub record OpensWith (t : TableParts) (settings : Settings) (handed : Option (List ℕ))
     (old new : Option Decoder) : Type 0 where
   pub decoder : Decoder
   pub was : old ≡ None
   pub is : new ≡ Some decoder
-  pub made : IsMadeBy (asks_encoder settings) toml settings handed decoder
+  pub made : IsMadeBy (asks_encoder settings) t settings handed decoder
 
 -- Why there is none. Window and state are refused to a decoder only.
-abbrev pub NotMade : List ℕ → Settings → Option (List ℕ) → Refusal → Type 0
-NotMade toml settings handed Window = (asks_encoder settings ≡ false) × (IsWindow settings.window → ⊥)
-NotMade toml settings handed Reserved = are_known settings ≡ false
-NotMade toml settings handed (Table fault) = Contains (faults toml) fault
-NotMade toml settings handed (State fault) =
-    (asks_encoder settings ≡ false) × (begun (table toml) (settings_options settings) handed ≡ Err fault)
-NotMade toml settings handed Encoder = (asks_encoder settings ≡ true) × IsSome handed
-NotMade toml settings handed Memory = Unit {0}
-NotMade toml settings handed _ = ⊥
+abbrev pub NotMade : TableParts → Settings → Option (List ℕ) → Refusal → Type 0
+NotMade t settings handed Window = (asks_encoder settings ≡ false) × (IsWindow settings.window → ⊥)
+NotMade t settings handed Reserved = are_known settings ≡ false
+NotMade t settings handed (State fault) =
+    (asks_encoder settings ≡ false) × (begun t (settings_options settings) handed ≡ Err fault)
+NotMade t settings handed Encoder = (asks_encoder settings ≡ true) × IsSome handed
+NotMade t settings handed Memory = Unit {0}
+NotMade t settings handed _ = ⊥
 
 -- why none was opened: one is open, and stays so, or there is none
+abbrev pub NotOpenedWith : TableParts → Settings → Option (List ℕ) → Option Decoder → Option Decoder → Refusal → Type 0
+NotOpenedWith t settings handed old new Open = IsSome old × (new ≡ old)
+NotOpenedWith t settings handed old new refusal = (new ≡ old) × NotMade t settings handed refusal
+
+-- one is opened with the table that the bytes spell, which have no fault
+abbrev pub OpensDecoder : List ℕ → Settings → Option (List ℕ) → Option Decoder → Option Decoder → Type 0
+OpensDecoder toml settings handed old new = (faults toml ≡ []) × OpensWith (table toml) settings handed old new
+
+-- why none was opened with these bytes: they have a fault, or none was opened with the table that they spell
 abbrev pub NotOpened : List ℕ → Settings → Option (List ℕ) → Option Decoder → Option Decoder → Refusal → Type 0
-NotOpened toml settings handed old new Open = IsSome old × (new ≡ old)
-NotOpened toml settings handed old new refusal = (new ≡ old) × NotMade toml settings handed refusal
+NotOpened toml settings handed old new (Table fault) = (new ≡ old) × Contains (faults toml) fault
+NotOpened toml settings handed old new refusal = NotOpenedWith (table toml) settings handed old new refusal
+
+-- ---- n2k_open_sharing
+
+-- one is open, and this is its table
+pub record HasTable (other : Option Decoder) (t : TableParts) : Type 0 where
+  pub decoder : Decoder
+  pub is : other ≡ Some decoder
+  pub table : decoder.table.value ≡ t
+
+-- one is open, and another was opened with its table, as n2k_open opens one
+abbrev pub OpensSharing : Option Decoder → Settings → Option (List ℕ) → Option Decoder → Option Decoder → Type 0
+OpensSharing other settings handed old new =
+    IsSome other × ((t : TableParts) → HasTable other t → OpensWith t settings handed old new)
+
+-- why none was opened: none has a table to share, or none was opened with that table
+abbrev pub NotOpenedSharing : Option Decoder → Settings → Option (List ℕ) → Option Decoder → Option Decoder → Refusal
+    → Type 0
+NotOpenedSharing other settings handed old new Closed = (other ≡ None) × (new ≡ old)
+NotOpenedSharing other settings handed old new refusal =
+    IsSome other × ((t : TableParts) → HasTable other t → NotOpenedWith t settings handed old new refusal)
 
 -- ---- calls of a decoder or an encoder: `Decoder` is either
 

@@ -1,6 +1,7 @@
 -- What the parts of the calls answer: for private clauses.
-use Rattle.std.specs.Prelude.{◌≡◌, ◌<◌, ◌≤◌, ◌+◌, ℕ, true, false, List, ◌++◌, length, Result, Ok, Err}
-use Rattle.n2k_table.specs.Table.{TableParts}
+use Rattle.std.specs.Prelude.{◌≡◌, ◌<◌, ◌≤◌, ◌+◌, ℕ, true, false, List, ◌++◌, length, Option, Some, None, IsSome, Result, Ok, Err}
+use Rattle.std.specs.List.{Contains}
+use Rattle.n2k_table.specs.Table.{TableParts, faults}
 use Rattle.n2k_table.specs.declared.fault.TableFault.{TableFault}
 use Rattle.n2k_table.specs.declared.fault.TableFault.TheVariants as of_table
 use Rattle.n2k_join.specs.Counts.{most_lines}
@@ -14,7 +15,7 @@ use Rattle.n2k_run.specs.Lines.{lines}
 use Rattle.n2k_run.specs.Reading.{most_reads}
 use Rattle.n2k_c.specs.declared.decoder.Decoder.{Decoder}
 use Rattle.n2k_c.specs.declared.refusal.Refusal.{Refusal}
-use Rattle.n2k_c.specs.declared.refusal.Refusal.TheVariants.{Memory, TooMuch, Encoder, Table, State}
+use Rattle.n2k_c.specs.declared.refusal.Refusal.TheVariants.{Memory, TooMuch, Closed, Encoder, Table, State}
 use Rattle.n2k_c.specs.declared.work.Work.{Work}
 use Rattle.n2k_c.specs.Job.{AreReports, IsDecoding, IsOutput, Job, decoding}
 use Rattle.n2k_c.specs.Stands.{HasTaken, IsAfter, is_encoder}
@@ -33,6 +34,22 @@ abbrev pub refusal_of_run : RunFault → Refusal
 refusal_of_run of_run.Read = TooMuch
 refusal_of_run of_run.TooManyLines = TooMuch
 refusal_of_run _ = Memory
+
+-- why no table was read
+abbrev pub NotRead : List ℕ → Refusal → Type 0
+NotRead toml Memory = Unit {0}
+NotRead toml (Table fault) = Contains (faults toml) fault
+NotRead toml _ = ⊥
+
+-- one is open, and this is its table
+abbrev pub IsTableOf : Option Decoder → TableParts → Type 0
+IsTableOf kept t = (d : Decoder) × (kept ≡ Some d) × (t ≡ d.table.value)
+
+-- why its table was not shared
+abbrev pub NotShared : Option Decoder → Refusal → Type 0
+NotShared kept Closed = kept ≡ None
+NotShared kept Memory = IsSome kept
+NotShared kept _ = ⊥
 
 -- More lines were taken: the texts that were added to what waits are the rest of the output and of the reports.
 pub record Gains (t : TableParts) (job : Job) (taken more : List ℕ) (work : Work)

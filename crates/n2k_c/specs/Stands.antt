@@ -27,7 +27,7 @@ IsAfter t job taken _ = ⊥
 -- With this table, this job has taken these bytes: their output and reports are what was printed and reported, and then
 -- what waits.
 pub record HasTaken (t : TableParts) (job : Job) (taken printed reported : List ℕ) (d : Decoder) : Type 0 where
-  pub table : d.table ≡ t
+  pub table : d.table.value ≡ t
   pub leads_to : IsAfter t job taken d.work
   pub output : IsOutput t job taken (printed ++ d.output.held)
   pub reports : AreReports t job taken (reported ++ d.reports.held)

@@ -1,7 +1,9 @@
 //! What the calls do, with their refusals by name.
 ghost use Rattle.std.specs.Prelude.{◌≡◌, ℕ, true, false, [], Err, MatchResult, None, Some, option_map, take};
 ghost use Rattle.n2k_join.specs.Window.{IsWindow};
-ghost use Rattle.n2k_c.specs.Answers.{IsDecoderOf, IsEncoderOf, IsMadeBy, EndsLog, Feeds, FeedsFrame, Fills, IsClosed, IsCounted, IsNotUnderWay, IsStateOf, NotFramed, NotMade, NotMoved, NotOpened, NotSaved, NotSavedInto, NotTaken, NotTold, OpensDecoder, Prints, PrintsNext, TakesReports, Updates, Waits, are_known, handed_of, asks_encoder, asks_nearest, settings_options};
+ghost use Rattle.n2k_c.specs.Answers.{IsDecoderOf, IsEncoderOf, IsMadeBy, EndsLog, Feeds, FeedsFrame, Fills, IsClosed, IsCounted, IsNotUnderWay, IsStateOf, NotFramed, NotMade, NotMoved, NotOpened, NotOpenedSharing, NotOpenedWith, NotSaved, NotSavedInto, NotTaken, NotTold, OpensDecoder, OpensSharing, OpensWith, Prints, PrintsNext, TakesReports, Updates, Waits, are_known, handed_of, asks_encoder, asks_nearest, settings_options};
+ghost use Rattle.n2k_table.specs.Table.{faults, table};
+ghost use Rattle.n2k_c.specs.Inner.{IsTableOf, NotRead, NotShared};
 ghost use Rattle.n2k_c.specs.Queue.{first_line};
 ghost use Rattle.n2k_c.specs.declared.Counted.{Counted as Counts};
 ghost use Rattle.n2k_c.specs.declared.refusal.Refusal.TheVariants.{Closed, Window as NoWindow};
@@ -18,6 +20,7 @@ use n2k_table::Table;
 use n2k_wire::Packing;
 use std::alloc::Global;
 use std::mem::replace;
+use std::sync::Arc;
 
 /// Whether the settings have no option that a later version may give.
 fn are_known(settings: &Settings) -> bool
@@ -98,25 +101,43 @@ fn keep_refused(
     Err(refusal)
 }
 
-/// A decoder of the bytes of a table.
+/// Reads a table.
+fn read(alloc: Global, toml: &[u8]) -> Result<Arc<Table, Global>, Refusal>
+    ensures { MatchResult result (λ t. (faults toml.now ≡ []) × (t.value ≡ table toml.now)) (NotRead toml.now) }
+{
+    let table = Table::read(alloc, toml)?;
+    match Arc::new(alloc, table) {
+        Ok(table) => Ok(table),
+        Err(_) => Err(Refusal::Memory),
+    }
+}
+
+/// The table of what is open, which stays as it is.
+fn table_of(alloc: Global, h: &mut Handle) -> Result<Arc<Table, Global>, Refusal>
+    ensures unchanged { h.new.hold.holds ≡ h.old.hold.holds }
+    ensures table { MatchResult result (λ t. IsTableOf h.old.hold.holds t.value) (NotShared h.old.hold.holds) }
+{
+    let decoder = taken(alloc, h)?;
+    let table: Result<_, _> = decoder.table.clone();
+    keep(h, decoder);
+    Ok(table?)
+}
+
+/// A decoder with a table.
 fn decoder_of(
     alloc: Global,
-    toml: &[u8],
+    table: Arc<Table, Global>,
     handed: Option<&[u8]>,
     settings: &Settings,
 ) -> Result<Decoder, Refusal>
     requires known { are_known settings.now ≡ true }
     requires decodes { asks_encoder settings.now ≡ false }
     ensures { let handed = option_map (λ bytes. bytes.now) handed.entry in
-        MatchResult result (IsDecoderOf toml.now settings.now handed) (NotMade toml.now settings.now handed) }
+        MatchResult result (IsDecoderOf table.value settings.now handed) (NotMade table.value settings.now handed) }
 {
     let options = match settings_options(settings) {
         Ok(options) => options,
         Err(refusal) => return Err(refusal),
-    };
-    let table = match Table::read(alloc, toml) {
-        Ok(table) => table,
-        Err(fault) => return Err(Refusal::from(fault)),
     };
     match decoder::open(alloc, table, options, handed) {
         Ok(decoder) => Ok(decoder),
@@ -124,60 +145,57 @@ fn decoder_of(
     }
 }
 
-/// An encoder of the bytes of a table.
+/// An encoder with a table.
 fn encoder_of(
     alloc: Global,
-    toml: &[u8],
+    table: Arc<Table, Global>,
     handed: Option<&[u8]>,
     settings: &Settings,
 ) -> Result<Decoder, Refusal>
     requires known { are_known settings.now ≡ true }
     requires encodes { asks_encoder settings.now ≡ true }
     ensures { let handed = option_map (λ bytes. bytes.now) handed.entry in
-        MatchResult result (IsEncoderOf toml.now settings.now handed) (NotMade toml.now settings.now handed) }
+        MatchResult result (IsEncoderOf table.value settings.now handed) (NotMade table.value settings.now handed) }
 {
     if handed.is_some() {
         return Err(Refusal::Encoder);
     }
-    match Table::read(alloc, toml) {
-        Ok(table) => Ok(decoder::open_encoder(alloc, table, settings.encode == 2)),
-        Err(fault) => Err(Refusal::from(fault)),
-    }
+    Ok(decoder::open_encoder(alloc, table, settings.encode == 2))
 }
 
 /// What the settings ask for.
 fn asked_of(
     alloc: Global,
-    toml: &[u8],
+    table: Arc<Table, Global>,
     handed: Option<&[u8]>,
     settings: &Settings,
 ) -> Result<Decoder, Refusal>
     ensures { let handed = option_map (λ bytes. bytes.now) handed.entry in
-        MatchResult result (IsMadeBy (asks_encoder settings.now) toml.now settings.now handed)
-        (NotMade toml.now settings.now handed) }
+        MatchResult result (IsMadeBy (asks_encoder settings.now) table.value settings.now handed)
+        (NotMade table.value settings.now handed) }
 {
     if !are_known(settings) {
         return Err(Refusal::Reserved);
     }
     if settings.encode > 0 {
-        encoder_of(alloc, toml, handed, settings)
+        encoder_of(alloc, table, handed, settings)
     } else {
-        decoder_of(alloc, toml, handed, settings)
+        decoder_of(alloc, table, handed, settings)
     }
 }
 
 /// What the settings ask for, in a box.
 fn made(
     alloc: Global,
-    toml: &[u8],
+    table: Arc<Table, Global>,
     handed: Option<&[u8]>,
     settings: &Settings,
 ) -> Result<Box<Decoder, Global>, Refusal>
     ensures { let handed = option_map (λ bytes. bytes.now) handed.entry in
-        MatchResult result (λ b. IsMadeBy (asks_encoder settings.now) toml.now settings.now handed b.value)
-        (NotMade toml.now settings.now handed) }
+        MatchResult result (λ b. IsMadeBy (asks_encoder settings.now) table.value settings.now handed b.value)
+        (NotMade table.value settings.now handed) }
 {
-    let decoder = match asked_of(alloc, toml, handed, settings) {
+    let decoder = match asked_of(alloc, table, handed, settings) {
         Ok(decoder) => decoder,
         Err(refusal) => return Err(refusal),
     };
@@ -187,7 +205,33 @@ fn made(
     }
 }
 
-/// Opens a decoder or an encoder, if none is open.
+/// Opens a decoder or an encoder with a table, if none is open.
+fn open_with(
+    alloc: Global,
+    table: Arc<Table, Global>,
+    resumes: bool,
+    state: &[u8],
+    settings: &Settings,
+    h: &mut Handle,
+) -> Result<(), Refusal>
+    ensures { let handed = handed_of resumes state.now in
+        MatchResult result (λ _. OpensWith table.value settings.now handed h.old.hold.holds h.new.hold.holds)
+        (NotOpenedWith table.value settings.now handed h.old.hold.holds h.new.hold.holds) }
+{
+    if h.live {
+        return Err(Refusal::Open);
+    }
+    match made(alloc, table, handed_in(resumes, state), settings) {
+        Ok(decoder) => {
+            keep(h, decoder);
+            Ok(())
+        }
+        Err(refusal) => Err(refusal),
+    }
+}
+
+/// Reads a table, and opens a decoder or an encoder with it.
+#[tactic(auto, using(crate::proofs::Opening::not_read, crate::proofs::Opening::opens_read))]
 pub fn open(
     alloc: Global,
     toml: &[u8],
@@ -200,16 +244,27 @@ pub fn open(
         MatchResult result (λ _. OpensDecoder toml.now settings.now handed h.old.hold.holds h.new.hold.holds)
         (NotOpened toml.now settings.now handed h.old.hold.holds h.new.hold.holds) }
 {
-    if h.live {
-        return Err(Refusal::Open);
-    }
-    match made(alloc, toml, handed_in(resumes, state), settings) {
-        Ok(decoder) => {
-            keep(h, decoder);
-            Ok(())
-        }
-        Err(refusal) => Err(refusal),
-    }
+    let table = read(alloc, toml)?;
+    open_with(alloc, table, resumes, state, settings, h)
+}
+
+/// Opens a decoder or an encoder with the table of one that is open.
+#[tactic(auto, using(crate::proofs::Opening::not_shared, crate::proofs::Opening::opens_sharing))]
+pub fn open_sharing(
+    alloc: Global,
+    other: &mut Handle,
+    resumes: bool,
+    state: &[u8],
+    settings: &Settings,
+    h: &mut Handle,
+) -> Result<(), Refusal>
+    ensures unchanged { other.new.hold.holds ≡ other.old.hold.holds }
+    ensures opened { let handed = handed_of resumes state.now in
+        MatchResult result (λ _. OpensSharing other.old.hold.holds settings.now handed h.old.hold.holds h.new.hold.holds)
+        (NotOpenedSharing other.old.hold.holds settings.now handed h.old.hold.holds h.new.hold.holds) }
+{
+    let table = table_of(alloc, other)?;
+    open_with(alloc, table, resumes, state, settings, h)
 }
 
 /// Takes out a decoder whose log goes on.

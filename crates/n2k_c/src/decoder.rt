@@ -29,11 +29,12 @@ use n2k_join::{Counts, Join, StateFault};
 use n2k_run::{Options, RunFault, RunRoom};
 use n2k_table::Table;
 use std::alloc::Global;
+use std::sync::Arc;
 
 /// What is kept: the table, what is done with the lines, a line that is cut, and the texts that wait.
 #[derive(Drop)]
 pub struct Decoder {
-    pub table: Table,
+    pub table: Arc<Table, Global>,
     pub work: Work,
     pub ended: bool,
     pub cut: Vec<u8>,
@@ -60,15 +61,15 @@ fn begin(
 /// A decoder that goes on from a saved state, or begins a log.
 pub fn open(
     alloc: Global,
-    table: Table,
+    table: Arc<Table, Global>,
     options: Options,
     handed: Option<&[u8]>,
 ) -> Result<Decoder, StateFault>
     ensures stands { IfOk result (λ d. (prefix : List ℕ)
-        → IsPrefix table options prefix (option_map (λ bytes. bytes.now) handed.entry)
-        → Stands table (decoding options) prefix false (out table options prefix) (reports table options prefix) d) }
+        → IsPrefix table.value options prefix (option_map (λ bytes. bytes.now) handed.entry)
+        → Stands table.value (decoding options) prefix false (out table.value options prefix) (reports table.value options prefix) d) }
     ensures refused { IfErr result (λ fault. fault ≢ Memory
-        → begun table options (option_map (λ bytes. bytes.now) handed.entry) ≡ Err fault) }
+        → begun table.value options (option_map (λ bytes. bytes.now) handed.entry) ≡ Err fault) }
 {
     let join = begin(alloc, &table, &options, handed)?;
     let Options { packing, empty, .. } = options;
@@ -82,16 +83,16 @@ pub fn open(
 }
 
 /// An encoder before the first line.
-pub fn open_encoder(alloc: Global, table: Table, nearest: bool) -> Decoder
-    ensures { Stands table (encoding nearest) [] false [] [] result }
+pub fn open_encoder(alloc: Global, table: Arc<Table, Global>, nearest: bool) -> Decoder
+    ensures { Stands table.value (encoding nearest) [] false [] [] result }
 {
     Decoder::new(alloc, table, Work::Encodes(Encoding::new(alloc, nearest)))
 }
 
 impl Decoder {
     /// Nothing was fed.
-    fn new(alloc: Global, table: Table, work: Work) -> Decoder
-        ensures table { result.table ≡ table }
+    fn new(alloc: Global, table: Arc<Table, Global>, work: Work) -> Decoder
+        ensures table { result.table.value ≡ table.value }
         ensures work { result.work ≡ work }
         ensures ended { result.ended ≡ false }
         ensures cut { result.cut.items ≡ [] }

@@ -2,7 +2,7 @@
 #![tactic(auto)]
 
 ghost use Rattle.std.specs.Prelude.{◌≡◌, ℕ, [], None, is_some, take};
-ghost use Rattle.n2k_c.specs.Answers.{EndsLog, Feeds, FeedsFrame, Fills, IsCounted, IsStateOf, NotFramed, NotMoved, NotOpened, NotSaved, NotTaken, NotTold, OpensDecoder, Prints, PrintsNext, TakesReports, Updates, Waits, handed_of};
+ghost use Rattle.n2k_c.specs.Answers.{EndsLog, Feeds, FeedsFrame, Fills, IsCounted, IsStateOf, NotFramed, NotMoved, NotOpened, NotOpenedSharing, NotSaved, NotTaken, NotTold, OpensDecoder, OpensSharing, Prints, PrintsNext, TakesReports, Updates, Waits, handed_of};
 ghost use Rattle.n2k_c.specs.declared.Counted.{Counted as Counts};
 ghost use Rattle.n2k_c.specs.Queue.{first_line};
 ghost use Rattle.n2k_c.specs.Status.{StatusMeans};
@@ -73,6 +73,24 @@ pub extern "C" fn n2k_open(
         (NotOpened toml.now settings.now handed h.old.hold.holds h.new.hold.holds) }
 {
     status(calls::open(alloc, toml, resumes, state, settings, h))
+}
+
+/// Opens a decoder or an encoder with the table of another one that is open, in place of the bytes of a table.
+#[unsafe(no_mangle)]
+pub extern "C" fn n2k_open_sharing(
+    alloc: Global,
+    other: &mut Handle,
+    resumes: bool,
+    state: &[u8],
+    settings: &Settings,
+    h: &mut Handle,
+) -> i32
+    ensures unchanged { other.new.hold.holds ≡ other.old.hold.holds }
+    ensures opened { let handed = handed_of resumes state.now in
+        StatusMeans result (OpensSharing other.old.hold.holds settings.now handed h.old.hold.holds h.new.hold.holds)
+        (NotOpenedSharing other.old.hold.holds settings.now handed h.old.hold.holds h.new.hold.holds) }
+{
+    status(calls::open_sharing(alloc, other, resumes, state, settings, h))
 }
 
 /// Takes more of a log: its lines as they complete.

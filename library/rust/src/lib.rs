@@ -8,6 +8,7 @@ mod raw;
 
 use std::fmt;
 use std::io::{self, Read};
+use std::sync::{Mutex, PoisonError};
 
 /// How to read a log: the options of `n2kdec decode`.
 #[derive(Clone, Copy, Debug, PartialEq, Eq)]
@@ -67,6 +68,53 @@ impl fmt::Display for Error {
 }
 
 impl std::error::Error for Error {}
+
+/// A table that is read once, for any number of decoders and encoders, on any threads. Its memory is freed with the last of them.
+///
+/// ```
+/// let table = n2kdec::Table::read(n2kdec::own_table())?;
+/// let (mut decoder, mut encoder) = (table.decoder(n2kdec::Settings::default())?, table.encoder(false)?);
+/// drop(table);
+/// let line = encoder.encode(r#"{"pgn":127250,"fields":{"Heading":1.5}}"#)?;
+/// decoder.feed(format!("{line}\n").as_bytes())?;
+/// assert_eq!(decoder.messages()?.len(), 1);
+/// # Ok::<(), n2kdec::Error>(())
+/// ```
+pub struct Table {
+    /// An encoder that is fed nothing.
+    raw: Mutex<raw::Decoder>,
+}
+
+impl Table {
+    /// Reads a table.
+    pub fn read(table: &[u8]) -> Result<Self, Error> {
+        let mut raw = raw::Decoder::default();
+        raw.open(table, None, &raw::RawSettings::encoding(false))?;
+        Ok(Table { raw: Mutex::new(raw) })
+    }
+
+    /// Begins a log.
+    pub fn decoder(&self, settings: Settings) -> Result<Decoder, Error> {
+        Ok(Decoder { raw: self.open(None, &settings.into())? })
+    }
+
+    /// Continues from a state, as [`Decoder::resume`] does.
+    pub fn resume(&self, state: &[u8], settings: Settings) -> Result<Decoder, Error> {
+        Ok(Decoder { raw: self.open(Some(state), &settings.into())? })
+    }
+
+    /// Makes an encoder, as [`Encoder::new`] does.
+    pub fn encoder(&self, nearest: bool) -> Result<Encoder, Error> {
+        Ok(Encoder { raw: self.open(None, &raw::RawSettings::encoding(nearest))? })
+    }
+
+    fn open(&self, state: Option<&[u8]>, settings: &raw::RawSettings) -> Result<raw::Decoder, Error> {
+        let mut raw = raw::Decoder::default();
+        // A panic of another thread has changed nothing.
+        raw.open_sharing(&mut self.raw.lock().unwrap_or_else(PoisonError::into_inner), state, settings)?;
+        Ok(raw)
+    }
+}
 
 /// A decoder of one log. All calls together give what `n2kdec decode` prints for the log.
 ///

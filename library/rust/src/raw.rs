@@ -62,6 +62,7 @@ pub type Take = unsafe extern "C" fn(*mut Handle, *mut u8, usize, *mut usize) ->
 
 extern "C" {
     fn n2k_open(table: *const u8, table_size: usize, resumes: bool, state: *const u8, state_size: usize, settings: *const RawSettings, decoder: *mut Handle) -> i32;
+    fn n2k_open_sharing(other: *mut Handle, resumes: bool, state: *const u8, state_size: usize, settings: *const RawSettings, decoder: *mut Handle) -> i32;
     fn n2k_feed(decoder: *mut Handle, bytes: *const u8, size: usize) -> i32;
     fn n2k_frame(decoder: *mut Handle, identifier: u32, data: *const u8, size: usize, seconds: u64, nanoseconds: u32) -> i32;
     fn n2k_table(size: *mut usize) -> *const u8;
@@ -114,6 +115,12 @@ impl Decoder {
     pub fn open(&mut self, table: &[u8], state: Option<&[u8]>, settings: &RawSettings) -> Result<(), Error> {
         let bytes = state.unwrap_or_default();
         answer(unsafe { n2k_open(table.as_ptr(), table.len(), state.is_some(), bytes.as_ptr(), bytes.len(), settings, self.0.get()) })
+    }
+
+    /// Opens it with the table of another one.
+    pub fn open_sharing(&mut self, other: &mut Decoder, state: Option<&[u8]>, settings: &RawSettings) -> Result<(), Error> {
+        let bytes = state.unwrap_or_default();
+        answer(unsafe { n2k_open_sharing(other.0.get(), state.is_some(), bytes.as_ptr(), bytes.len(), settings, self.0.get()) })
     }
 
     pub fn feed(&mut self, bytes: &[u8]) -> Result<(), Error> {

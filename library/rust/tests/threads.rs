@@ -1,9 +1,9 @@
-//! Decoders that go from thread to thread, by random pieces and frames, saved and continued, print what the program prints.
+//! Decoders that share a table and go from thread to thread, by random pieces and frames, saved and continued, print what the program prints.
 //! $N2KDEC_RUNS is how many times a log is decoded; $N2KDEC_LOGS is a folder of other logs.
 mod common;
 
 use common::{at, of_program};
-use n2kdec::{Counts, Decoder, Settings};
+use n2kdec::{Counts, Decoder, Settings, Table};
 use std::collections::VecDeque;
 use std::path::PathBuf;
 use std::sync::Mutex;
@@ -23,9 +23,9 @@ impl Chance {
 }
 
 /// A log, its table, and what the program prints and reports of it.
-struct Log {
+struct Log<'a> {
     bytes: Vec<u8>,
-    table: Vec<u8>,
+    table: &'a Table,
     wanted: (Vec<String>, Vec<String>),
 }
 
@@ -47,7 +47,7 @@ fn frame_at(rest: &[u8]) -> Option<(u32, Vec<u8>, u64, u32, usize)> {
 /// A decoder on its way through a log.
 struct Run<'a> {
     chance: Chance,
-    log: &'a Log,
+    log: &'a Log<'a>,
     decoder: Decoder,
     begin: usize,
     printed: Vec<String>,
@@ -55,9 +55,9 @@ struct Run<'a> {
 }
 
 impl<'a> Run<'a> {
-    fn new(seed: usize, logs: &'a [Log]) -> Self {
+    fn new(seed: usize, logs: &'a [Log<'a>]) -> Self {
         let (chance, log) = (Chance(seed as u64 + 1), &logs[seed % logs.len()]);
-        let decoder = Decoder::new(&log.table, IN_ORDER).unwrap();
+        let decoder = log.table.decoder(IN_ORDER).unwrap();
         Run { chance, log, decoder, begin: 0, printed: Vec::new(), reported: Vec::new() }
     }
 
@@ -88,7 +88,7 @@ impl<'a> Run<'a> {
         self.take();
         if self.chance.below(10) == 0 {
             self.begin -= self.decoder.waiting().unwrap();
-            self.decoder = Decoder::resume(&self.log.table, &self.decoder.save().unwrap(), IN_ORDER).unwrap();
+            self.decoder = self.log.table.resume(&self.decoder.save().unwrap(), IN_ORDER).unwrap();
         }
         true
     }
@@ -112,7 +112,8 @@ fn any_thread_may_call_and_none_is_made() {
         Ok(folder) => fs::read_dir(folder).unwrap().map(|it| it.unwrap().path()).filter(|it| it.extension() == Some("log".as_ref())).collect(),
         Err(_) => ["examples/trip.log", "examples/two-sources.log", "examples/repeat-breaks.log", "tests/logs/messages.log"].map(at).to_vec(),
     };
-    let log = |it: PathBuf| Log { bytes: fs::read(&it).unwrap(), table: fs::read(at(TABLE)).unwrap(), wanted: of_program(&["--in-order"], TABLE, &it) };
+    let table = Table::read(&fs::read(at(TABLE)).unwrap()).unwrap();
+    let log = |it: PathBuf| Log { bytes: fs::read(&it).unwrap(), table: &table, wanted: of_program(&["--in-order"], TABLE, &it) };
     let logs: Vec<_> = names.into_iter().map(log).collect();
     let runs = env::var("N2KDEC_RUNS").map_or(12, |it| it.parse().unwrap());
     let (before, next) = (threads(), Mutex::new(0..runs));

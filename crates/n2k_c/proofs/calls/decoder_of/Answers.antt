@@ -5,4 +5,4 @@ use Rattle.n2k_c.proofs.calls.decoder_of.Goals as goal
 pub returns-in-Ok-open : goal.returns-in-Ok-open
 returns-in-Ok-open c =
     let handed = option_map (λ bytes. bytes.now) c.args.handed in
-    decodes_by c.args.toml.now c.args.settings.now handed c.in-Ok-read.table c.in-Ok.options c.in-Ok-open.decoder c.in-Ok-read.ensures.sound.0 c.requires.known c.in-Ok-read.ensures.sound.1 c.in-Ok.ensures c.in-Ok-open.ensures.stands
+    decodes_by c.args.table.value c.args.settings.now handed c.in-Ok.options c.in-Ok-open.decoder c.requires.known c.in-Ok.ensures c.in-Ok-open.ensures.stands

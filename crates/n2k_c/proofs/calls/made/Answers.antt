@@ -6,4 +6,4 @@ use Rattle.n2k_c.proofs.calls.made.Goals as goal
 pub returns-in-Ok-new : goal.returns-in-Ok-new
 returns-in-Ok-new c =
     let handed = option_map (λ bytes. bytes.now) c.args.handed in
-    subst (λ (d : Decoder). IsMadeBy (asks_encoder c.args.settings.now) c.args.toml.now c.args.settings.now handed d) (sym c.in-Ok-new.ensures.ok) c.in-Ok.ensures
+    subst (λ (d : Decoder). IsMadeBy (asks_encoder c.args.settings.now) c.args.table.value c.args.settings.now handed d) (sym c.in-Ok-new.ensures.ok) c.in-Ok.ensures

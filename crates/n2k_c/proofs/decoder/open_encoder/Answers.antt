@@ -7,7 +7,7 @@ use Rattle.n2k_c.proofs.decoder.open_encoder.Goals as goal
 
 pub returns : goal.returns
 returns c =
-    let t = c.args.table in
+    let t = c.args.table.value in
     let job = encoding c.args.nearest in
     let made = c.new-2.ensures in
     opened_at t job [] [] [] c.new-2.result made.table made.ended made.cut made.output made.reports (λ some. absurd (omega (arith, some)))
