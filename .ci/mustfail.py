@@ -19,7 +19,13 @@ Place = collections.namedtuple("Place", "name folder")
 # The head of its impl or trait, or nothing; its name; the numbers of its head's line and its last line; where its
 # comments, its body and the text after it begin; its text up to the body, without comments, and the whole.
 Function = collections.namedtuple("Function", "owner name line last start begin end head text")
-HEAD = re.compile(r'( *)(?:pub(?:\([^)]*\))? )?(?:default |const |unsafe |extern "C" )*fn (\w+)')
+# A function's comments and attributes, its head up to the brace, and its body up to the closing one.
+FUNCTION = re.compile(
+    r"^(?P<indent> *)(?:(?:#|//).*\n(?P=indent))*"
+    r'(?P<head>(?:pub(?:\([^)]*\))? )?(?:default |const |unsafe |extern "C" )*fn (?P<name>\w+)'
+    r"(?:.* |.*\n(?:(?:(?P=indent)(?: |\)|where).*)?\n)*?(?P=indent)(?:\).* )?)\{)"
+    r"(?P<body>(?:\n(?:.*\n)*?(?=(?P=indent)\}$))?)(?:(?P=indent))?\}$", re.M)
+OWNER = re.compile(r"^(?:(?:impl|trait|pub trait)\b.*|\})$", re.M)
 
 
 @functools.lru_cache(maxsize=None)
@@ -35,42 +41,14 @@ def kit():
 @functools.lru_cache(maxsize=None)
 def functions(text):
     """The functions of a source file that have a body; one within another's body belongs to that body's text."""
-    lines, found, owner = text.split("\n"), [], ""
-    starts = [0]
-    for line in lines:
-        starts.append(starts[-1] + len(line) + 1)
-    at = 0
-    while at < len(lines):
-        head = HEAD.match(lines[at])
-        if re.match(r"impl\b|trait\b|pub trait\b", lines[at]):
-            owner = lines[at]
-        elif lines[at] == "}":
-            owner = ""
-        opened = opening(lines, at, head[1]) if head else None
-        if opened is not None:
-            closed = opened if lines[opened].endswith("{}") else lines.index(f"{head[1]}}}", opened)
-            begin = starts[opened] + len(lines[opened]) - (1 if closed == opened else 0)
-            first = at
-            while first > 0 and re.match(rf"{head[1]}(#|//)", lines[first - 1]):
-                first -= 1
-            said = "\n".join(it for it in lines[first : opened + 1] if not it.lstrip().startswith("//"))
-            end = begin if closed == opened else starts[closed]
-            whole = "\n".join(lines[first : closed + 1])
-            found.append(Function(owner if head[1] else "", head[2], at + 1, closed + 1, starts[first], begin, end, said, whole))
-            at = closed
-        at += 1
+    found = []
+    for it in FUNCTION.finditer(text):
+        # The nearest line above that begins or ends an impl or a trait.
+        owner = (OWNER.findall(text, 0, it.start()) or [""])[-1] if it["indent"] else ""
+        said = "\n".join(line for line in text[it.start() : it.end("head")].split("\n") if not line.lstrip().startswith("//"))
+        first, last = (text.count("\n", 0, at) + 1 for at in (it.start("head"), it.end()))
+        found.append(Function(owner.strip("}"), it["name"], first, last, it.start(), *it.span("body"), said, it[0]))
     return found
-
-
-def opening(lines, at, indent):
-    """The line in which the body of the function with this head begins; None if it has none."""
-    for place in range(at, len(lines)):
-        line = lines[place]
-        if line in (f"{indent}{{", f"{indent}{{}}") or line.endswith((" {", " {}")) and (place == at or line.startswith(f"{indent})")):
-            return place
-        if place > at and line and not line.startswith((f"{indent} ", f"{indent})", f"{indent}where")):
-            return None
-    return None
 
 
 def without(text, begin="start"):
