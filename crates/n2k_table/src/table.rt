@@ -138,8 +138,8 @@ impl Table {
         ensures value { ReaderGives (λ t. t) result (read_table bytes.now) }
         ensures agree { IfOk result (λ t. has_duplicate are_mixed t.definitions ≡ false) }
     {
-        let top = document(alloc, bytes)?;
-        let definitions = read_top(alloc, &top)?;
+        // (the tree is freed before the bytes are copied, which keeps the peak of memory low)
+        let definitions = read_top(alloc, &document(alloc, bytes)?)?;
         Ok(Table {
             id: TableId::of(alloc, bytes)?,
             definitions: definitions.list,
