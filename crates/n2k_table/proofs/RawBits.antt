@@ -1,11 +1,12 @@
 -- Raw values, a byte at a time and in parts.
-use Rattle.std.proofs.Common.{◌≡◌, ℕ, zero, suc, ◌+◌, ◌-◌, ◌*◌, ◌/◌, ◌%◌, ◌^◌, ◌<◌, ◌≤◌, bit_and, ◌⊎◌, inl, inr, List, ◌++◌, length, replicate, slice_index, drop, refl, sym, ap, ◌∙◌, arith, lit<}
+use Rattle.std.proofs.Common.{◌≡◌, ℕ, zero, suc, ◌+◌, ◌-◌, ◌*◌, ◌/◌, ◌%◌, ◌^◌, ◌<◌, ◌≤◌, bit_and, ◌⊎◌, inl, inr, List, ◌++◌, length, replicate, slice_index, take, drop, refl, sym, ap, ◌∙◌, arith, lit<}
 use Rattle.std.specs.Int.{w64, from_le_bytes}
 use Rattle.std.proofs.lemmas.Bool.{cases_lt}
-use Rattle.std.proofs.lemmas.List.{get_or-drop, get_or_append_left, get_or-append_right, get_or-replicate, get_or_past}
+use Rattle.std.proofs.lemmas.List.{length-take, get_or-take, get_or-drop, get_or_append_left, get_or-append_right, get_or-replicate, get_or_past}
 use Rattle.std.proofs.lemmas.Nat.{and_mask, pow-add, shr_high, mod_low}
 use Rattle.std.proofs.Math.Nat.{pow-suc, mul-le-mul_left, pow-le-pow_right}
 use Rattle.n2k_table.specs.Bits.{bit, raw}
+use Rattle.n2k_table.specs.Inner.FirstWord.{HasFirstBits}
 
 -- the bits from the lowest on
 raw_low : (d : List ℕ) (a n : ℕ) → raw d a (suc n) ≡ bit d a + 2 * raw d (a + 1) n
@@ -101,11 +102,34 @@ raw_out_of d p s n whole within =
     ap (raw d p) count ∙ raw_split d p s (n + m) ∙ ap (λ r. r * 2 ^ s + low) (raw_split d (p + s) n m) in
     ap (λ r. r / 2 ^ s % 2 ^ n) parts ∙ ap (λ r. r % 2 ^ n) (shr_high (high * 2 ^ n + here) s low (raw_lt d p s)) ∙ mod_low high n here (raw_lt d (p + s) n)
 
--- bits out of the first word, under their mask
+-- bits out of the first word
+word_bits : (d : List ℕ) (word at bits : ℕ) → word ≡ raw d 0 64 → at + bits ≤ 64 → word / 2 ^ at % 2 ^ bits ≡ raw d at bits
+word_bits d word at bits is inside =
+    ap (λ w. w / 2 ^ at % 2 ^ bits) is ∙ raw_out_of d 0 at bits 64 inside ∙ ap (λ p. raw d p bits) (let e : 0 + at ≡ at = omega arith in e)
+
+-- the same under their mask
 pub bits_of_word : (d : List ℕ) (word at bits mask : ℕ) → word ≡ raw d 0 64 → mask ≡ 2 ^ bits - 1 → at + bits ≤ 64 → bit_and (word / 2 ^ at) mask ≡ raw d at bits
-bits_of_word d word at bits mask is all inside =
-    ap (bit_and (word / 2 ^ at)) all ∙ and_mask (word / 2 ^ at) bits ∙ ap (λ w. w / 2 ^ at % 2 ^ bits) is ∙ raw_out_of d 0 at bits 64 inside
-    ∙ ap (λ p. raw d p bits) (let e : 0 + at ≡ at = omega arith in e)
+bits_of_word d word at bits mask is all inside = ap (bit_and (word / 2 ^ at)) all ∙ and_mask (word / 2 ^ at) bits ∙ word_bits d word at bits is inside
+
+-- the same of a word that may have other bits after the bytes
+pub bits_under_mask : (d : List ℕ) (word at bits mask : ℕ) → HasFirstBits word d → mask ≡ 2 ^ bits - 1 → at + bits ≤ 64 → at + bits ≤ 8 * length d → bit_and (word / 2 ^ at) mask ≡ raw d at bits
+bits_under_mask d word at bits mask has all inside within = ap (bit_and (word / 2 ^ at)) all ∙ and_mask (word / 2 ^ at) bits ∙ has at bits inside within
+
+-- bits of the first bytes
+raw_of_first : (n : ℕ) (d : List ℕ) (a m : ℕ) → a + m ≤ 8 * n → raw (take n d) a m ≡ raw d a m
+unfolding raw
+raw_of_first n d a zero le = refl
+raw_of_first n d a (suc m) le =
+    let here : bit (take n d) (a + m) ≡ bit d (a + m) = ap (λ b. b / 2 ^ ((a + m) % 8) % 2) (get_or-take n d ((a + m) / 8) 0 (omega (arith, le))) in
+    rw (raw_of_first n d a m (omega (arith, le)), here) refl
+
+-- the first word of some bytes has the bits of them, and of as many of them as one likes
+pub first_bits : (d : List ℕ) (word : ℕ) → word ≡ raw d 0 64 → HasFirstBits word d
+first_bits d word is = λ at bits inside within. word_bits d word at bits is inside
+
+pub first_bits_of_first : (n : ℕ) (d : List ℕ) (word : ℕ) → word ≡ raw d 0 64 → HasFirstBits word (take n d)
+first_bits_of_first n d word is = λ at bits inside within. word_bits d word at bits is inside
+    ∙ sym (raw_of_first n d at bits (omega (arith, within, length-take n d)))
 
 -- a byte, and the bits above it
 next_byte : (d : List ℕ) (k m : ℕ) → slice_index d k < 256 → raw d (8 * k) (m + 8) ≡ slice_index d k + 256 * raw d (8 * (k + 1)) m

@@ -1,5 +1,5 @@
 -- The sizes of sets, and the sets that follow each other.
-use Rattle.std.proofs.Common.{◌≡◌, ℕ, zero, suc, ◌+◌, ◌-◌, ◌*◌, ◌/◌, ◌≤◌, true, false, ◌||◌, List, [], ◌∷◌, length, take, drop, Option, Some, refl, sym, ◌∙◌, inl, inr, arith, nat_le, option_map, option_and_then, length-drop}
+use Rattle.std.proofs.Common.{◌≡◌, ℕ, zero, suc, ◌+◌, ◌-◌, ◌*◌, ◌/◌, ◌≤◌, true, false, ◌||◌, List, [], ◌∷◌, length, take, drop, Option, Some, None, refl, sym, subst, ◌∙◌, inl, inr, arith, nat_le, option_map, option_and_then, length-drop}
 use Rattle.std.specs.List.{list_any}
 use Rattle.std.proofs.lemmas.Bool.{leb-true, or_cases, false≢true}
 use Rattle.std.proofs.lemmas.Option.{cond_some, option_and_then_some}
@@ -7,6 +7,9 @@ use Rattle.n2k_table.specs.Strings.{data_after}
 use Rattle.n2k_table.specs.Field.{FieldParts, Meaning, is_string}
 use Rattle.n2k_table.specs.Repeat.{RepeatParts, own_bytes, strings_size, if_inside, set_size, sets_from, sets_in}
 use Rattle.n2k_table.specs.Inner.Kept.{left_beside}
+use Rattle.n2k_table.specs.Bits.{raw}
+use Rattle.n2k_table.specs.Inner.FirstWord.{HasFirstBits}
+use Rattle.n2k_table.proofs.RawBits.{first_bits_of_first}
 
 pub no_strings : (fs : List FieldParts) (set : List ℕ) → list_any (λ f. is_string f.meaning) fs ≡ false → strings_size fs set ≡ Some 0
 no_strings [] set none = refl
@@ -75,3 +78,19 @@ eighth r size bytes bits = grind arith
 pub is_left : (r : RepeatParts) (size left : ℕ) (bytes : List ℕ) → r.bits ≡ 8 * size → size ≤ length bytes
     → left_beside (length bytes - size) (strings_size r.fields bytes) ≡ Some left → set_size r bytes ≡ Some (length bytes - left)
 is_left r size left bytes bits le e = eighth r size bytes bits ∙ some_left (strings_size r.fields bytes) size (length bytes) left le e
+
+-- a set before others is the first of the bytes
+head : (o : Option ℕ) (r : RepeatParts) (most : ℕ) (bytes set : List ℕ) (more : List (List ℕ)) → set_size r bytes ≡ o
+    → set ∷ more ≡ sets_from r (suc most) bytes → (n : ℕ) × (set ≡ take n bytes)
+head None r most bytes set more size e = absurd (grind (arith, size, e))
+head (Some n) r most bytes set more size e = (n, grind (arith, size, e))
+
+pub first_set : (r : RepeatParts) (bytes set : List ℕ) (more : List (List ℕ)) → set ∷ more ≡ sets_in r bytes → (n : ℕ) × (set ≡ take n bytes)
+first_set r [] set more e = absurd cc
+first_set r (b ∷ bs) set more e = head (set_size r (b ∷ bs)) r (length bs) (b ∷ bs) set more refl e
+
+-- so the first word of the bytes has the bits of the set
+pub set_first_bits : (r : RepeatParts) (bytes set : List ℕ) (more : List (List ℕ)) (word : ℕ) → set ∷ more ≡ sets_in r bytes → word ≡ raw bytes 0 64 → HasFirstBits word set
+set_first_bits r bytes set more word e is =
+    let first = first_set r bytes set more e in
+    subst (λ s. HasFirstBits word s) (sym first.1) (first_bits_of_first first.0 bytes word is)

@@ -2,6 +2,7 @@
 pub mod Digits
 pub mod Entries
 pub mod FieldValue
+pub mod FirstWord
 pub mod MatchPrefilter
 pub mod Index
 pub mod Kept

@@ -1,6 +1,7 @@
 //! A field, and what it shows.
 ghost use Rattle.std.specs.Prelude.{◌≡◌, ◌≤◌, ◌<◌, ◌+◌, ◌*◌, ◌/◌, ◌^◌, drop, length, IfSome};
 ghost use Rattle.n2k_table.specs.Inner.LineBuffer.{AddsText};
+ghost use Rattle.n2k_table.specs.Inner.FirstWord.{HasFirstBits};
 ghost use Rattle.n2k_table.specs.Bits.{raw};
 
 use crate::bits::raw;
@@ -294,11 +295,11 @@ impl Field {
         self.end <= data.len()
     }
 
-    /// The raw value. The first eight bytes are given as one number, from which it is read if it lies there.
-    #[tactic(auto, using(crate::proofs::RawBits::raw_lt, crate::proofs::RawBits::bits_of_word))]
+    /// The raw value. The word has the first eight bytes as one number; the value is read from it if it lies there.
+    #[tactic(auto, using(crate::proofs::RawBits::raw_lt, crate::proofs::RawBits::bits_under_mask))]
     #[inline(always)]
     fn raw(&self, data: &[u8], word: u64) -> u64
-        requires word { word ≡ raw «data».now 0 64 }
+        requires word { HasFirstBits word «data».now }
         requires within { self.now.at + self.now.bits ≤ 8 * length «data».now }
         requires some { 1 ≤ self.now.bits }
         requires room { self.now.bits ≤ 64 }
@@ -315,7 +316,7 @@ impl Field {
     /// result is returned where it is made, so that none is built in memory.
     #[inline(always)]
     pub(crate) fn value<'a>(&'a self, data: &'a [u8], word: u64) -> FieldValue<'a>
-        requires { word ≡ raw «data».now 0 64 }
+        requires { HasFirstBits word «data».now }
         ensures { IfSome (value_parts result) (λ parts. parts ≡ shown self.now «data».now) }
     {
         if !self.stands_inside(data) {

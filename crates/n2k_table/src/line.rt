@@ -13,7 +13,7 @@ ghost use Rattle.n2k_table.specs.Json.{unmatched_json, chosen_json, json};
 ghost use Rattle.n2k_table.specs.Inner.Line.{are_null, has_members, key_json, member_text};
 ghost use Rattle.n2k_table.specs.Text.{text_json, character, hex_pairs};
 ghost use Rattle.n2k_table.specs.Inner.LineBuffer.{AddsText, begins};
-ghost use Rattle.n2k_table.specs.Bits.{raw};
+ghost use Rattle.n2k_table.specs.Inner.FirstWord.{HasFirstBits};
 
 use crate::bits::first_word;
 use crate::decimal::{push_decimal, push_number};
@@ -222,7 +222,7 @@ fn push_member<const SIZE: usize>(
     later: &mut bool,
     line: &mut TextBuffer<SIZE>,
 ) -> Result<(), AllocError>
-    requires { word ≡ raw «data».now 0 64 }
+    requires { HasFirstBits word «data».now }
     ensures items { let member = member_json (are_null absent) (field.now.name, shown field.now «data».now) in
         AddsText result line.old.items line.new.items (member_text later.old member) }
     ensures later { let member = member_json (are_null absent) (field.now.name, shown field.now «data».now) in
@@ -258,14 +258,15 @@ fn push_member<const SIZE: usize>(
 fn push_members<const SIZE: usize>(
     fields: &[Field],
     data: &[u8],
+    word: u64,
     absent: AbsentFields,
     line: &mut TextBuffer<SIZE>,
 ) -> Result<bool, AllocError>
+    requires { HasFirstBits word «data».now }
     ensures items { let ms = members (are_null absent) (all_shown fields.now «data».now) in
         IfOk result (λ later. (line.new.items ≡ line.old.items ++ join_with_byte comma ms) × (later ≡ has_members ms)) }
     ensures prefix { OnErr result (begins line.old.items line.new.items ≡ true) }
 {
-    let word = first_word(data);
     let mut later = false;
     let mut rest = fields;
     while let Some((field, others)) = rest.split_first() {
@@ -279,21 +280,24 @@ fn push_members<const SIZE: usize>(
 fn push_set<const SIZE: usize>(
     fields: &[Field],
     set: &[u8],
+    word: u64,
     later: bool,
     absent: AbsentFields,
     line: &mut TextBuffer<SIZE>,
 ) -> Result<(), AllocError>
+    requires { HasFirstBits word set.now }
     ensures { let object = set_json (are_null absent) (all_shown fields.now set.now) in
         AddsText result line.old.items line.new.items (member_text later (Some object)) }
 {
     line.reserve(2)?;
     write_comma(later, line);
     line.write(b"{", 1);
-    push_members(fields, set, absent, line)?;
+    push_members(fields, set, word, absent, line)?;
     line.push(b'}')
 }
 
-/// Appends the sets, a comma between each.
+/// Appends the sets, a comma between each. A set's word is that of all bytes from the set on: fewer than eight bytes, which
+/// most sets have, would have to be copied.
 fn push_sets<const SIZE: usize>(
     repeat: &Repeat,
     data: &[u8],
@@ -306,7 +310,8 @@ fn push_sets<const SIZE: usize>(
     let mut later = false;
     let mut rest = repeat.from_first(data);
     while let Some((set, after)) = repeat.split_set(rest) {
-        push_set(repeat.fields(), set, later, absent, line)?;
+        let word = first_word(rest);
+        push_set(repeat.fields(), set, word, later, absent, line)?;
         later = true;
         rest = after;
     }
@@ -347,7 +352,8 @@ fn push_fields<const SIZE: usize>(
     ensures { let ms = message_members (are_null absent) definition.now «data».now in
         AddsText result line.old.items line.new.items (join_with_byte comma ms) }
 {
-    let later = push_members(definition.fields(), data, absent, line)?;
+    let word = first_word(data);
+    let later = push_members(definition.fields(), data, word, absent, line)?;
     match definition.repeat() {
         None => Ok(()),
         Some(repeat) => push_list(repeat, data, absent, later, line),

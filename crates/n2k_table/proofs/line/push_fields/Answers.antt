@@ -1,4 +1,4 @@
-use Rattle.std.proofs.Common.{◌≡◌, ◌++◌, Option, Some, ap, ◌∙◌}
+use Rattle.std.proofs.Common.{◌≡◌, ◌++◌, Option, Some, ap, ◌∙◌, rules}
 use Rattle.std.specs.List.{join_with_byte}
 use Rattle.n2k_table.specs.Shown.{all_shown}
 use Rattle.n2k_table.specs.Repeat.{RepeatParts, all_sets}
@@ -6,7 +6,11 @@ use Rattle.n2k_table.specs.Json.{members, list_json, repeat_members}
 use Rattle.n2k_table.proofs.Begins.{begins_self, begins_more, adds_last}
 use Rattle.n2k_table.proofs.Members.{with_last}
 use Rattle.n2k_table.specs.Inner.Line.{are_null}
+use Rattle.n2k_table.proofs.RawBits.{first_bits}
 use Rattle.n2k_table.proofs.line.push_fields.Goals as goal
+
+pub push_members-requires : goal.push_members-requires
+push_members-requires g c = (search rules, first_bits c.args.«data».now c.first_word-word.result c.first_word-word.ensures)
 
 pub returns-in-Some : goal.returns-in-Some
 returns-in-Some g c =

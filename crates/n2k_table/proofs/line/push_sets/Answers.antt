@@ -1,6 +1,6 @@
 use Rattle.std.proofs.lemmas.Grind.{common_steps}
 use Rattle.std.proofs.lemmas.Result.{err_from_is_err_and}
-use Rattle.std.proofs.Common.{List, ℕ, ◌++◌, map, ap, ◌∙◌, arith, append_assoc}
+use Rattle.std.proofs.Common.{List, ℕ, ◌++◌, map, ap, ◌∙◌, arith, append_assoc, rules}
 use Rattle.std.specs.List.{join_with_byte}
 use Rattle.n2k_table.specs.Json.{set_json}
 use Rattle.n2k_table.specs.Repeat.{sets_in}
@@ -8,6 +8,7 @@ use Rattle.n2k_table.specs.Shown.{all_shown}
 use Rattle.n2k_table.specs.Inner.Line.{are_null}
 use Rattle.n2k_table.proofs.Begins.{begins_self, begins_through, begins_more}
 use Rattle.n2k_table.proofs.Members.{members_from-joined}
+use Rattle.n2k_table.proofs.SetSizes.{set_first_bits}
 use Rattle.n2k_table.proofs.line.push_sets.Goals as goal
 
 pub loop-set-init : goal.loop-set-init
@@ -20,6 +21,12 @@ loop-set-init g c =
           ∙ ap (λ (first : List ℕ). line ++ join_with_byte 44 (objects (map (all_shown r.fields) (sets_in r first)))) c.from_first-rest.ensures;
       prefix = begins_self _;
     }
+
+pub push_set-requires : goal.push_set-requires
+push_set-requires g c =
+    let set = c.in-Some.set.now in
+    let more = sets_in c.args.repeat.now c.in-Some.after.now in
+    (search rules, set_first_bits c.args.repeat.now c.loop-set.rest.now set more c.first_word-word.result c.in-Some.ensures c.first_word-word.ensures)
 
 pub returns-in_err-push_set : goal.returns-in_err-push_set
 returns-in_err-push_set g c =
