@@ -1,6 +1,6 @@
 -- The frames of a message, one by one.
-use Rattle.std.proofs.Common.{◌≡◌, ℕ, zero, suc, ◌+◌, ◌/◌, ◌<◌, ◌≤◌, List, [], ◌∷◌, ◌++◌, length, map, take, Option, Some, refl, sym, append_assoc, arith, slice_get}
-use Rattle.std.specs.List.{range_with_len}
+use Rattle.std.proofs.Common.{◌≡◌, ℕ, zero, suc, ◌+◌, ◌/◌, ◌<◌, ◌≤◌, List, [], ◌∷◌, ◌++◌, length, map, take, Option, None, Some, option_map, refl, sym, append_assoc, arith, slice_get}
+use Rattle.std.specs.List.{AllByRecursion, range_with_len}
 use Rattle.std.proofs.Math.Seq.{take-suc}
 use Rattle.std.proofs.lemmas.List.FromFn.{get_or-map-range_with_len, length-map-range_with_len}
 use Rattle.std.proofs.lemmas.Option.{get_or_from_slice_get, slice_get-get_or, slice_get_within}
@@ -52,3 +52,28 @@ one_more xs n x is = grind (arith, take-suc xs n x (slice_get_within xs n x is),
 -- a frame was appended
 pub pushed : (start now after frames : List PacketParts) (n : ℕ) (x : PacketParts) → slice_get frames n ≡ Some x → now ≡ start ++ take n frames → after ≡ now ++ x ∷ [] → after ≡ start ++ take (n + 1) frames
 pushed start now after frames n x is before grown = grind (arith, append_assoc, one_more)
+
+-- ---- a frame by its data
+
+-- a frame differs from its message in its data alone
+abbrev IsFrameOf : PacketParts → PacketParts → Type 0
+IsFrameOf m p = p ≡ record m { payload = p.payload }
+
+pieces_are : (m : PacketParts) (s first n : ℕ) → AllByRecursion (IsFrameOf m) (map (piece m s) (range_with_len first n))
+pieces_are m s first zero = tt
+pieces_are m s first (suc n) = (refl, pieces_are m s (first + 1) n)
+
+frames_are : (k : Option Kind) (m : PacketParts) (s : ℕ) → AllByRecursion (IsFrameOf m) (pieces_as k m s)
+unfolding pieces_as
+frames_are None m s = tt
+frames_are (Some Single) m s = (refl, tt)
+frames_are (Some Fast) m s = pieces_are m s 0 _
+
+data_at : (m : PacketParts) (ps : List PacketParts) (n : ℕ) (bytes : List ℕ) → AllByRecursion (IsFrameOf m) ps → option_map (λ p. p.payload) (slice_get ps n) ≡ Some bytes → slice_get ps n ≡ Some (record m { payload = bytes })
+data_at m [] n bytes all is = absurd (grind arith)
+data_at m (p ∷ ps) zero bytes all is = grind (arith, all.0)
+data_at m (p ∷ ps) (suc n) bytes all is = data_at m ps n bytes all.1 is
+
+-- the frame of these data
+pub frame_at : (k : Option Kind) (m : PacketParts) (s n : ℕ) (ps : List PacketParts) (bytes : List ℕ) → ps ≡ pieces_as k m s → option_map (λ p. p.payload) (slice_get ps n) ≡ Some bytes → slice_get ps n ≡ Some (record m { payload = bytes })
+frame_at k m s n ps bytes are is = data_at m ps n bytes (rw are (frames_are k m s)) is

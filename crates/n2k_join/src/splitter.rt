@@ -1,12 +1,12 @@
 //! Splits messages into the frames of the bus.
-ghost use Rattle.std.specs.Prelude.{◌≡◌, ◌+◌, ◌*◌, ◌/◌, ◌%◌, if◌then◌else◌, ◌<◌, ◌≤◌, ◌++◌, [], ◌∷◌, IfOk, IfErr, IfSome, OnOk, OnErr, IsOkUnless, MatchOption, Some, None, Err, length, slice_get, vec_len, vec_capacity};
+ghost use Rattle.std.specs.Prelude.{◌≡◌, ◌+◌, ◌*◌, ◌/◌, ◌%◌, if◌then◌else◌, ◌<◌, ◌≤◌, ◌++◌, [], ◌∷◌, IfOk, IfErr, IfSome, OnOk, OnErr, IsOkUnless, MatchOption, Some, None, Err, length, option_map, slice_get, vec_len, vec_capacity};
 ghost use Rattle.n2k_wire.specs.Candump.{frame_payload};
 ghost use Rattle.n2k_wire.specs.Packet.{longest_message};
 ghost use Rattle.n2k_table.specs.Table.{kind};
 ghost use Rattle.n2k_table.specs.declared.definition.Kind.TheVariants.{Fast};
 ghost use Rattle.n2k_join.specs.declared.fault.SplitFault.TheVariants.{Memory};
 ghost use Rattle.n2k_join.specs.Frames.{most_frames, most_sequences};
-ghost use Rattle.n2k_join.specs.Pieces.{sent_byte, piece, piece_bytes, pieces_as, pieces_by, Stream, same_stream, stream_of, raised, first_sequences};
+ghost use Rattle.n2k_join.specs.Pieces.{sent_byte, piece_bytes, pieces_as, pieces_by, Stream, same_stream, stream_of, raised, first_sequences};
 ghost use Rattle.n2k_join.specs.Splitter.{sequences, refusal};
 
 use crate::fault::SplitFault;
@@ -111,17 +111,6 @@ fn piece_bytes(data: &[u8], number: u8) -> [u8; 7]
     }
 }
 
-/// Makes a packet frame `number` of a message, in its own place.
-fn set_piece(frame: &mut Packet, message: &Packet, sequence: u8, number: u8)
-    requires sequence { sequence < most_sequences }
-    requires number { number < most_frames }
-    ensures { frame.new ≡ piece message.now sequence number }
-{
-    let header = MOST_FRAMES * sequence + number;
-    let [a, b, c, d, e, f, g] = piece_bytes(message.data(), number);
-    frame.set_frame(message, &[header, a, b, c, d, e, f, g]);
-}
-
 impl<'a> Frames<'a> {
     /// The number of frames, at least 1.
     ///
@@ -140,7 +129,7 @@ impl<'a> Frames<'a> {
         self.count
     }
 
-    /// The frame of this number, from 0 on. It may be made in `room`, whatever its content.
+    /// The data of the frame of this number, from 0 on. They may be put together in `room`.
     ///
     /// ```rust
     /// let table = sample_table(alloc)?;
@@ -149,18 +138,22 @@ impl<'a> Frames<'a> {
     /// let mut splitter = Splitter::new(alloc);
     /// let frames = splitter.split(&table, &message)?;
     /// assert_eq!(rt; frames.count(), 2);
-    /// let mut room = message.with_data(&[]);
-    /// let last = frames.frame(1, &mut room);
-    /// assert_eq!(rt; last.data(), [1, 0, 0, 0, 0, 0, 0xff, 0xff].as_slice());
+    /// let mut room = [0; 8];
+    /// let last = frames.data(1, &mut room);
+    /// assert_eq!(rt; last, [1, 0, 0, 0, 0, 0, 0xff, 0xff].as_slice());
     /// ```
-    pub fn frame<'f>(&'f self, number: u8, room: &'f mut Packet) -> &'f Packet
+    #[inline]
+    pub fn data<'f>(&'f self, number: u8, room: &'f mut [u8; FRAME_PAYLOAD]) -> &'f [u8]
         requires { number < length self.now }
-        ensures { slice_get self.now number ≡ Some result.now }
+        ensures value { option_map (λ p. p.payload) (slice_get self.now number) ≡ Some result.now }
+        ensures short { length result.now ≤ longest_message }
     {
         match self.kind {
-            Kind::Single => self.message,
+            Kind::Single => self.message.data(),
             Kind::Fast => {
-                set_piece(room, self.message, self.sequence, number);
+                let header = MOST_FRAMES * self.sequence + number;
+                let [a, b, c, d, e, f, g] = piece_bytes(self.message.data(), number);
+                *room = [header, a, b, c, d, e, f, g];
                 room
             }
         }
@@ -187,14 +180,14 @@ fn kind_of(table: &Table, message: &Packet) -> Result<Kind, SplitFault>
 }
 
 /// Appends frames for which there is room.
-fn append_frames(packets: &mut Vec<Packet>, message: &Packet, frames: &Frames)
+fn append_frames(packets: &mut Vec<Packet>, frames: &Frames)
     requires { vec_len packets.old + length frames.now ≤ vec_capacity packets.old }
     ensures { packets.new.items ≡ packets.old.items ++ frames.now }
 {
-    let mut room = message.with_data(&[]);
+    let mut room = [0; FRAME_PAYLOAD];
     for number in 0..frames.count() {
-        let frame = (&*frames).frame(number, &mut room);
-        packets.push(frame.with_data(frame.data())).unwrap();
+        let data = (&*frames).data(number, &mut room);
+        packets.push(frames.message.with_data(data)).unwrap();
     }
 }
 
@@ -254,9 +247,9 @@ impl Splitter {
     /// let mut splitter = Splitter::new(alloc);
     /// let frames = splitter.split(&table, &message)?;
     /// assert_eq!(rt; frames.count(), 2);
-    /// let mut room = message.with_data(&[]);
-    /// let last = frames.frame(1, &mut room);
-    /// assert_eq!(rt; last.data(), [1, 0, 0, 0, 0, 0, 0xff, 0xff].as_slice());
+    /// let mut room = [0; 8];
+    /// let last = frames.data(1, &mut room);
+    /// assert_eq!(rt; last, [1, 0, 0, 0, 0, 0, 0xff, 0xff].as_slice());
     /// ```
     pub fn split<'m>(
         &mut self,
@@ -327,7 +320,7 @@ impl Splitter {
         kind_of(table, message)?;
         packets.reserve(message.data().len() / FRAME_BYTES + 1)?;
         let frames = self.split(table, message)?;
-        append_frames(packets, message, &frames);
+        append_frames(packets, &frames);
         Ok(usize::from(frames.count()))
     }
 }

@@ -18,29 +18,6 @@ use Rattle.n2k_run.specs.declared.frames.Outcome.TheVariants.{Written, Bad}
 use Rattle.n2k_run.specs.FramesOut.{fault_cause, frame_text, frame_texts, interface_cause}
 use Rattle.n2k_run.specs.Inner.Sending.{BeginsLines, SentMessage, frame_line}
 
--- a frame differs from its message in its data alone
-abbrev pub IsFrameOf : PacketParts → PacketParts → Type 0
-IsFrameOf m p = p ≡ record m { payload = p.payload }
-
-pieces_are : (m : PacketParts) (s first n : ℕ) → AllByRecursion (IsFrameOf m) (map (piece m s) (range_with_len first n))
-pieces_are m s first zero = tt
-pieces_are m s first (suc n) = (refl, pieces_are m s (first + 1) n)
-
-frames_are : (k : Option Kind) (m : PacketParts) (s : ℕ) → AllByRecursion (IsFrameOf m) (pieces_as k m s)
-unfolding pieces_as
-frames_are None m s = tt
-frames_are (Some Single) m s = (refl, tt)
-frames_are (Some Fast) m s = pieces_are m s 0 _
-
--- a property of all items holds of one
-at : {A : Type 0} (P : A → Type 0) (xs : List A) (n : ℕ) (d : A) → AllByRecursion P xs → n < length xs → P (get_or xs n d)
-at P [] n d all within = absurd (omega (arith, within))
-at P (x ∷ xs) zero d all within = all.0
-at P (x ∷ xs) (suc n) d all within = at P xs n d all.1 (omega (arith, within))
-
-pub frame_of : (k : Option Kind) (m : PacketParts) (s : ℕ) (ps : List PacketParts) (n : ℕ) (p : PacketParts) → ps ≡ pieces_as k m s → slice_get ps n ≡ Some p → IsFrameOf m p
-frame_of k m s ps n p are is = grind (arith, frames_are k m s, get_or_from_slice_get ps n p p is, slice_get_within ps n p is, at)
-
 -- a message that was split isn't refused
 pub split_of : {A : Type 0} (refused : Option SplitFault) (x : A) → MatchOption refused (IsOkUnless (Ok x) unsplit.Memory) (λ fault. Ok x ≡ Err fault) → refused ≡ None
 split_of refused x e = grind arith
@@ -50,8 +27,8 @@ pub seen : (interface : Option (List ℕ)) (m : PacketParts) (head : List ℕ) �
 seen None m head begins = refl
 seen (Some name) m head begins = grind (arith, begins m.payload)
 
-pub line_of : (interface : Option (List ℕ)) (m p : PacketParts) (head : List ℕ) → IsFrameOf m p → BeginsLines interface m head → line_after head p.payload ≡ frame_text interface p
-line_of interface m p head is begins = grind (arith, begins p.payload)
+pub line_of : (interface : Option (List ℕ)) (m : PacketParts) (head payload : List ℕ) → BeginsLines interface m head → line_after head payload ≡ frame_text interface (record m { payload = payload })
+line_of interface m head payload begins = grind (arith, begins payload)
 
 pub no_line : (interface : Option (List ℕ)) (m : PacketParts) (fault : WireFault) (made : Outcome) → Some made ≡ option_map Bad (fault_cause fault) → ((payload : List ℕ) → frame_line interface (record m { payload = payload }) ≡ Err fault)
     → interface_cause interface m ≡ fault_cause fault

@@ -14,7 +14,9 @@ use crate::fault::RunFault;
 use crate::texts::bad_text;
 use n2k_join::{Counts, MOST_LINES, SplitFault, Splitter, laws};
 use n2k_table::{LineBuffer, Table};
-use n2k_wire::{BadCause, CandumpLines, Entry, Id, LineHead, Packet, Packing, WireFault};
+use n2k_wire::{
+    BadCause, CandumpLines, Entry, FRAME_PAYLOAD, LineHead, Packet, Packing, WireFault,
+};
 use std::alloc::{AllocError, Global};
 
 /// The outcome of a line.
@@ -56,8 +58,6 @@ struct Sender<'a> {
     lines: Option<CandumpLines<'a>>,
     /// The start of the lines of a message.
     head: LineHead,
-    /// Room for a frame.
-    frame: Packet,
 }
 
 /// The state of a run that sends messages.
@@ -81,12 +81,6 @@ impl<'a> FrameLines<'a> {
         ensures splitter { sequences result.splitter ≡ first_sequences }
         ensures lines { result.lines ≡ interface_of self.now.interface }
     {
-        let id = Id {
-            prio: 0,
-            pgn: 0,
-            src: 0,
-            dst: 0,
-        };
         Sender {
             splitter: Splitter::new(alloc),
             lines: match self.interface {
@@ -94,17 +88,15 @@ impl<'a> FrameLines<'a> {
                 None => None,
             },
             head: LineHead::EMPTY,
-            frame: Packet::new(b"-", id, b"").unwrap(),
         }
     }
 
     /// Sends a message: splits it, and writes the lines of its frames, all or none.
     fn send(
         &self,
-        alloc: Global,
         sender: &mut Sender,
         message: &Packet,
-        text: &mut Vec<u8>,
+        text: &mut LineBuffer,
     ) -> Result<Outcome, AllocError>
         requires { sender.old.lines ≡ interface_of self.now.interface }
         ensures sent { IfOk result (SentMessage (kind self.now.table.now) (interface_of self.now.interface) message.now
@@ -124,9 +116,9 @@ impl<'a> FrameLines<'a> {
                 WireFault::Memory => Err(AllocError),
             };
         }
+        let mut room = [0; FRAME_PAYLOAD];
         for number in 0..frames.count() {
-            let frame = frames.frame(number, &mut sender.frame);
-            sender.head.append(alloc, frame.data(), text)?;
+            text.push_line(&sender.head, frames.data(number, &mut room))?;
         }
         Ok(Outcome::Written)
     }
@@ -134,7 +126,6 @@ impl<'a> FrameLines<'a> {
     /// The outcome of the entry of a line.
     fn outcome(
         &self,
-        alloc: Global,
         sender: &mut Sender,
         entry: &Entry,
         text: &mut LineBuffer,
@@ -148,12 +139,7 @@ impl<'a> FrameLines<'a> {
             Entry::Skip => Ok(Outcome::Skipped),
             Entry::Bad(cause) => Ok(Outcome::Bad(*cause)),
             Entry::Frame(_) => Ok(Outcome::Bad(BadCause::Frame)),
-            Entry::Whole(message) => {
-                let mut lines = text.take_lines(alloc)?;
-                let sent = self.send(alloc, sender, message, &mut lines)?;
-                text.put_back(lines);
-                Ok(sent)
-            }
+            Entry::Whole(message) => self.send(sender, message, text),
         }
     }
 }
@@ -187,7 +173,7 @@ impl<'a> EntryHandler for FrameLines<'a> {
             return Err(RunFault::TooManyLines);
         }
         state.counts.lines += 1;
-        match self.outcome(alloc, &mut state.sender, entry, text)? {
+        match self.outcome(&mut state.sender, entry, text)? {
             Outcome::Skipped => {}
             Outcome::Written => state.counts.messages += 1,
             Outcome::Bad(cause) => {

@@ -478,7 +478,7 @@ pub fn json_line_in<const SIZE: usize>(
 /// let mut lines = LineBuffer::new(alloc);
 /// json_line_of(&known, &packet, false, &mut lines)?;
 /// let end = "{\"SID\":5,\"COG Reference\":\"True\"}}\n";
-/// assert!(rt; lines.take_lines(alloc)?.ends_with(end.as_bytes()));
+/// assert!(rt; lines.parts().1.ends_with(end.as_bytes()));
 /// ```
 #[tactic(auto, using(crate::proofs::Begins::begins_taken, crate::proofs::Begins::begins_length), unfolding(crate::specs::Json::json))]
 pub fn json_line_of(

@@ -2,14 +2,15 @@
 //! since new room is zeroed each time.
 #![tactic(auto, using(crate::proofs::Begins::begins_steps))]
 
-ghost use Rattle.std.specs.Prelude.{◌≡◌, ◌∷◌, [], ◌++◌, ◌+◌, ◌≤◌, take, length, IfOk, OnOk, OnErr};
+ghost use Rattle.std.specs.Prelude.{◌≡◌, ◌∷◌, [], ◌++◌, ◌+◌, ◌≤◌, take, length, OnOk, OnErr};
+ghost use Rattle.n2k_wire.specs.Heads.{line_after};
+ghost use Rattle.n2k_wire.specs.Packet.{longest_message};
 ghost use Rattle.n2k_wire.specs.Texts.{plain_text};
 ghost use Rattle.n2k_table.specs.Inner.LineBuffer.{AddsText};
 
-use n2k_wire::{LINE_ROOM, Packet, write_line};
+use n2k_wire::{LINE_ROOM, LineHead, Packet, write_line};
 use std::alloc::{AllocError, Global};
 use std::marker::Model;
-use std::mem;
 
 /// The room of a run, for mostly all lines of a block of a log.
 const RUN_ROOM: usize = 32768;
@@ -150,39 +151,6 @@ impl<const SIZE: usize> TextBuffer<SIZE> {
         Ok(())
     }
 
-    /// Takes the lines out as a vector, to which other text can be appended. `put_back` gives them back. A refused growth
-    /// leaves the lines as they were.
-    ///
-    /// ```rust
-    /// let mut lines = LineBuffer::new(alloc);
-    /// let mut text = lines.take_lines(alloc)?;
-    /// text.push(b'\n')?;
-    /// lines.put_back(text);
-    /// assert_eq!(rt; lines.parts().0, b"\n".as_slice());
-    /// ```
-    #[inline(always)]
-    pub fn take_lines(&mut self, alloc: Global) -> Result<Vec<u8>, AllocError>
-        ensures taken { IfOk result (λ lines. lines.items ≡ self.old.items) }
-        ensures unchanged { OnErr result (self.new.items ≡ self.old.items) }
-    {
-        self.settle()?;
-        Ok(mem::replace(&mut self.prefix, Vec::new(alloc)))
-    }
-
-    /// Has these lines alone.
-    ///
-    /// ```rust
-    /// let mut lines = LineBuffer::new(alloc);
-    /// lines.put_back(Vec::new(alloc));
-    /// ```
-    #[inline(always)]
-    pub fn put_back(&mut self, lines: Vec<u8>)
-        ensures { self.new.items ≡ lines.items }
-    {
-        self.prefix = lines;
-        self.at = 0;
-    }
-
     /// Appends the lines to a vector. If memory is refused, the vector is unchanged.
     pub(crate) fn append_to(&mut self, out: &mut Vec<u8>) -> Result<(), AllocError>
         ensures ok { OnOk result (out.new.items ≡ out.old.items ++ self.old.items) }
@@ -294,5 +262,26 @@ impl<const SIZE: usize> TextBuffer<SIZE> {
     {
         let _data = packet.data();
         self.at = write_line(&mut self.room, self.at, packet);
+    }
+
+    /// Appends the line that begins so, with these data. A refused growth leaves the lines as they were.
+    ///
+    /// ```rust
+    /// let mut head = LineHead::EMPTY;
+    /// head.set_plain(&frame_in("(1.0) can0 18EAFF01#14F001")?);
+    /// let mut lines = LineBuffer::new(alloc);
+    /// lines.push_line(&head, &[0x14, 0xf0])?;
+    /// let wanted = "1970-01-01T00:00:01.000Z,6,59904,1,255,2,14,f0\n";
+    /// assert_eq!(rt; lines.parts().1, wanted.as_bytes());
+    /// ```
+    #[inline(always)]
+    pub fn push_line(&mut self, head: &LineHead, data: &[u8]) -> Result<(), AllocError>
+        requires { length «data».now ≤ longest_message }
+        ensures adds { OnOk result (self.new.items ≡ self.old.items ++ line_after head.now «data».now) }
+        ensures unchanged { OnErr result (self.new.items ≡ self.old.items) }
+    {
+        self.reserve(LINE_ALONE)?;
+        self.at = head.write_line(&mut self.room, self.at, data);
+        Ok(())
     }
 }

@@ -5,7 +5,7 @@ use n2k_run::{bad_text, broken_text, summary_text};
 use n2k_table::{LineBuffer, Table, decimal_text, json_line, json_line_of};
 use n2k_table_tests::samples::sample;
 use n2k_wire::{
-    BadCause, Entry, Packet, Packing, candump_text, is_interface, plain_text, read_line,
+    BadCause, Entry, LineHead, Packet, Packing, candump_text, is_interface, plain_text, read_line,
 };
 use std::alloc::Global;
 use std::process::Abort;
@@ -90,6 +90,11 @@ const PLAIN_LINE: &str = "1970-01-01T00:00:01.000Z,2,129026,127,255,2,05,00\n";
 fn adds(call: usize, table: &Table, packet: &Packet, lines: &mut LineBuffer) -> bool {
     match table.find(packet.id().pgn) {
         Some(known) if call == 0 => json_line_of(&known, packet, false, lines).is_ok(),
+        Some(_) if call == 1 => {
+            let mut head = LineHead::EMPTY;
+            head.set_plain(packet);
+            lines.push_line(&head, packet.data()).is_ok()
+        }
         _ => lines.push_plain(packet).is_ok(),
     }
 }
@@ -106,7 +111,7 @@ fn has_lines<R: Abort + AllocGlobal>(rt: &R, lines: &LineBuffer, line: &str, cou
     assert_eq!(rt; wanted.strip_prefix(prefix), Some(rest));
 }
 
-// Adds lines beyond the room, and takes them out.
+// Adds lines beyond the room.
 fn adds_or_leaves<R: Abort + AllocGlobal>(
     rt: &R,
     call: usize,
@@ -120,10 +125,6 @@ fn adds_or_leaves<R: Abort + AllocGlobal>(
         if adds(call, table, packet, &mut lines) {
             count = count.saturating_add(1);
         }
-    }
-    has_lines(rt, &lines, line, count);
-    if let Ok(taken) = lines.take_lines(rt.alloc()) {
-        lines.put_back(taken);
     }
     has_lines(rt, &lines, line, count);
 }
@@ -140,4 +141,5 @@ fn refused_growth_leaves_the_lines_before(rt: HostRuntime) {
     };
     adds_or_leaves(&rt, 0, JSON_LINE, &table, &packet);
     adds_or_leaves(&rt, 1, PLAIN_LINE, &table, &packet);
+    adds_or_leaves(&rt, 2, PLAIN_LINE, &table, &packet);
 }

@@ -103,8 +103,8 @@ impl WrittenSecond {
     }
 }
 
-/// Appends packets in a row as `candump -L` writes frames that came in at one interface, as `candump_text` does, but
-/// faster if a packet has the second of the one before.
+/// Begins the lines that `candump -L` writes of frames that came in at one interface, as `candump_text` does, but faster
+/// if a packet has the second of the one before.
 #[derive(Drop)]
 pub struct CandumpLines<'a> {
     interface: &'a str,
@@ -148,7 +148,8 @@ fn put_upper(text: &mut [u8], at: usize, bytes: &[u8]) -> usize
 #[inline(always)]
 pub(crate) fn put_data(text: &mut [u8], at: usize, payload: &[u8]) -> usize
     requires room { at + 2 * length payload.now < length text.old }
-    ensures { take result text.new ≡ take at text.old ++ candump_end payload.now }
+    ensures bytes { take result text.new ≡ take at text.old ++ candump_end payload.now }
+    ensures end { result ≤ length text.old }
 {
     let end = match payload.as_array::<FRAME_PAYLOAD>() {
         Some(eight) => put(text, at, &eight_digits(eight, b'A').to_array(), 16),
@@ -161,16 +162,9 @@ impl<'a> CandumpLines<'a> {
     /// Lines at an interface of 1 to 15 bytes from `!` to `~`; `is_interface` is the test.
     ///
     /// ```rust
-    /// let id = split_id(0x18EA_FF01);
-    /// let stamp = "1970-01-01T00:00:10.300Z".as_bytes();
-    /// let packet = Packet::new(stamp, id, &[0x14, 0xf0, 0x01]).ok_or("a packet")?;
     /// assert!(rt; is_interface(b"can0"));
-    /// let mut lines = CandumpLines::new("can0");
-    /// let mut text = Vec::new(alloc);
-    /// lines.append(alloc, &packet, &mut text)?;
-    /// lines.append(alloc, &packet, &mut text)?;
-    /// let wanted = "(0000000010.300000) can0 18EAFF01#14F001\n";
-    /// assert_eq!(rt; text.as_slice(), wanted.repeat(alloc, 2)?.as_bytes());
+    /// let (mut lines, mut head) = (CandumpLines::new("can0"), LineHead::EMPTY);
+    /// lines.set_head(&frame_in("(1.0) can0 18EAFF01#14F001")?, &mut head)?;
     /// ```
     #[tactic(auto, using(crate::proofs::CandumpLemmas::interface_short))]
     pub fn new(interface: &'a str) -> CandumpLines<'a>
@@ -184,48 +178,16 @@ impl<'a> CandumpLines<'a> {
         }
     }
 
-    /// Appends a packet of at most 8 bytes, as `candump_text` does, with the same faults: `NoStamp`, `NoId` or
-    /// `Memory`. After a fault `out` is unchanged, and later packets are appended as if that packet had not come.
-    ///
-    /// ```rust
-    /// let id = split_id(0x18EA_FF01);
-    /// let stamp = "1970-01-01T00:00:10.300Z".as_bytes();
-    /// let packet = Packet::new(stamp, id, &[0x14, 0xf0, 0x01]).ok_or("a packet")?;
-    /// assert!(rt; is_interface(b"can0"));
-    /// let mut lines = CandumpLines::new("can0");
-    /// let mut text = Vec::new(alloc);
-    /// lines.append(alloc, &packet, &mut text)?;
-    /// lines.append(alloc, &packet, &mut text)?;
-    /// let wanted = "(0000000010.300000) can0 18EAFF01#14F001\n";
-    /// assert_eq!(rt; text.as_slice(), wanted.repeat(alloc, 2)?.as_bytes());
-    /// ```
-    pub fn append(
-        &mut self,
-        alloc: Global,
-        packet: &Packet,
-        out: &mut Vec<u8>,
-    ) -> Result<(), WireFault>
-        requires short { length packet.now.payload ≤ frame_payload }
-        ensures text { Appends (candump_text self.old packet.now) result out.old.items out.new.items }
-        ensures unchanged { OnErr result (out.new.items ≡ out.old.items) }
-        ensures interface { self.new ≡ self.old }
-    {
-        let mut head = LineHead::EMPTY;
-        self.set_head(packet, &mut head)?;
-        head.append(alloc, packet.data(), out)
-            .map_err(|_| WireFault::Memory)
-    }
-
     /// Turns a head into how a packet's line begins. The faults are `NoStamp` and `NoId`, as of `candump_text`.
     ///
     /// ```rust
     /// assert!(rt; is_interface(b"can0"));
     /// let (mut lines, mut head) = (CandumpLines::new("can0"), LineHead::EMPTY);
     /// lines.set_head(&frame_in("(1.0) can0 18EAFF01#14F001")?, &mut head)?;
-    /// let mut text = Vec::new(alloc);
-    /// head.append(alloc, &[0x14, 0xf0], &mut text)?;
+    /// let mut text = [0; LINE_ROOM];
+    /// let end = head.write_line(&mut text, 0, &[0x14, 0xf0]);
     /// let wanted = "(0000000001.000000) can0 18EAFF01#14F0\n";
-    /// assert_eq!(rt; text.as_slice(), wanted.as_bytes());
+    /// assert_eq!(rt; &text[..end], wanted.as_bytes());
     /// ```
     #[tactic(auto, using(crate::proofs::CandumpLemmas::after_short, crate::proofs::CandumpLemmas::no_stamp, crate::proofs::CandumpLemmas::no_id))]
     pub fn set_head(&mut self, packet: &Packet, head: &mut LineHead) -> Result<(), WireFault>
@@ -277,5 +239,8 @@ pub fn candump_text(
     ensures text { Appends (candump_text interface.now packet.now) result out.old.items out.new.items }
     ensures unchanged { OnErr result (out.new.items ≡ out.old.items) }
 {
-    CandumpLines::new(interface).append(alloc, packet, out)
+    let mut head = LineHead::EMPTY;
+    CandumpLines::new(interface).set_head(packet, &mut head)?;
+    head.append(packet.data(), out)
+        .map_err(|_| WireFault::Memory)
 }

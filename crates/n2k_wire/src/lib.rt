@@ -17,9 +17,9 @@
 //!   gives the same result, and moves no packet.
 //! - `split_id` splits a CAN identifier into priority, PGN, source and destination (`Id`), and `join_id` joins them.
 //! - `Packet` holds a message or a frame: its stamp, its `Id`, and up to 223 bytes.
-//! - `plain_text` and `candump_text` append a packet as a line, and `CandumpLines` appends packets in a row faster;
-//!   `LineHead` is how the lines of a message's frames begin; `is_interface` tests the name of an interface. `laws` has
-//!   theorems that connect these calls.
+//! - `plain_text` and `candump_text` append a packet as a line. `LineHead` is how the lines of a message's frames begin,
+//!   and `CandumpLines` begins candump lines of packets in a row; `is_interface` tests the name of an interface. `laws`
+//!   has theorems that connect these calls.
 //!
 //! No other call needs memory. Each result is a defined function of the given bytes.
 //!

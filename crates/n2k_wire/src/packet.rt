@@ -165,26 +165,6 @@ impl Packet {
         self.data_len = data.len();
     }
 
-    /// Turns the packet into a frame of a message, with these data, in place.
-    ///
-    /// ```rust
-    /// let message = frame_in("(2.0) can0 1DFF0405#")?;
-    /// let mut frame = frame_in("(1.0) can0 18EAFF01#14F001")?;
-    /// frame.set_frame(&message, &[0, 11, 0xa3, 0x99, 1, 0x41, 0x42, 0x43]);
-    /// assert_eq!(rt; frame.id(), message.id());
-    /// assert_eq!(rt; frame.data().len(), 8);
-    /// ```
-    #[inline]
-    pub fn set_frame(&mut self, message: &Packet, data: &[u8; FRAME_PAYLOAD])
-        ensures { self.new ≡ record { stamp = message.now.stamp; id = message.now.id; payload = «data».now } }
-    {
-        self.stamp = message.stamp;
-        self.stamp_len = message.stamp_len;
-        self.id = message.id;
-        self.data[..FRAME_PAYLOAD].copy_from_slice(data);
-        self.data_len = FRAME_PAYLOAD;
-    }
-
     /// Turns the packet into that of these parts, in place. It is inlined, since most callers know the lengths.
     #[inline(always)]
     pub(crate) fn set_parts(&mut self, stamp: &[u8], id: Id, data: &[u8])

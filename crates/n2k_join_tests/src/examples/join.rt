@@ -134,7 +134,7 @@ fn streams(rt: HostRuntime) {
     assert_eq!(rt; (stream.src, stream.pgn, stream.dst), (5, 130820, 255));
 }
 
-// Frames::frame, Splitter::split, Frames::count
+// Frames::data, Splitter::split, Frames::count
 #[test]
 fn frames(rt: HostRuntime) -> Result<(), Fail> {
     let alloc = rt.alloc();
@@ -144,9 +144,9 @@ fn frames(rt: HostRuntime) -> Result<(), Fail> {
     let mut splitter = Splitter::new(alloc);
     let frames = splitter.split(&table, &message)?;
     assert_eq!(rt; frames.count(), 2);
-    let mut room = message.with_data(&[]);
-    let last = frames.frame(1, &mut room);
-    assert_eq!(rt; last.data(), [1, 0, 0, 0, 0, 0, 0xff, 0xff].as_slice());
+    let mut room = [0; 8];
+    let last = frames.data(1, &mut room);
+    assert_eq!(rt; last, [1, 0, 0, 0, 0, 0, 0xff, 0xff].as_slice());
     Ok(())
 }
 

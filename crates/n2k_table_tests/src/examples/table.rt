@@ -5,6 +5,7 @@ use n2k_table::{
     Coding, Kind, LineBuffer, Shown, Table, TableFault, TableId, TextBuffer, decimal_text,
     json_line, json_line_in, json_line_of, split_character,
 };
+use n2k_wire::LineHead;
 use std::test::Fail;
 
 // front page
@@ -95,7 +96,7 @@ fn json_lines_of_a_known_pgn(rt: HostRuntime) -> Result<(), Fail> {
     let mut lines = LineBuffer::new(alloc);
     json_line_of(&known, &packet, false, &mut lines)?;
     let end = "{\"SID\":5,\"COG Reference\":\"True\"}}\n";
-    assert!(rt; lines.take_lines(alloc)?.ends_with(end.as_bytes()));
+    assert!(rt; lines.parts().1.ends_with(end.as_bytes()));
     Ok(())
 }
 
@@ -133,26 +134,6 @@ fn lines_in_two_parts(rt: HostRuntime) -> Result<(), Fail> {
     Ok(())
 }
 
-// TextBuffer::take_lines
-#[test]
-fn lines_taken_out(rt: HostRuntime) -> Result<(), Fail> {
-    let alloc = rt.alloc();
-    let mut lines = LineBuffer::new(alloc);
-    let mut text = lines.take_lines(alloc)?;
-    text.push(b'\n')?;
-    lines.put_back(text);
-    assert_eq!(rt; lines.parts().0, b"\n".as_slice());
-    Ok(())
-}
-
-// TextBuffer::put_back
-#[test]
-fn lines_put_back(rt: HostRuntime) {
-    let alloc = rt.alloc();
-    let mut lines = LineBuffer::new(alloc);
-    lines.put_back(Vec::new(alloc));
-}
-
 // TextBuffer::push_plain
 #[test]
 fn plain_lines_in_a_buffer(rt: HostRuntime) -> Result<(), Fail> {
@@ -160,6 +141,19 @@ fn plain_lines_in_a_buffer(rt: HostRuntime) -> Result<(), Fail> {
     let mut lines = LineBuffer::new(alloc);
     lines.push_plain(&frame_in("(1.0) can0 18EAFF01#14F001")?)?;
     let wanted = "1970-01-01T00:00:01.000Z,6,59904,1,255,3,14,f0,01\n";
+    assert_eq!(rt; lines.parts().1, wanted.as_bytes());
+    Ok(())
+}
+
+// TextBuffer::push_line
+#[test]
+fn lines_by_their_head(rt: HostRuntime) -> Result<(), Fail> {
+    let alloc = rt.alloc();
+    let mut head = LineHead::EMPTY;
+    head.set_plain(&frame_in("(1.0) can0 18EAFF01#14F001")?);
+    let mut lines = LineBuffer::new(alloc);
+    lines.push_line(&head, &[0x14, 0xf0])?;
+    let wanted = "1970-01-01T00:00:01.000Z,6,59904,1,255,2,14,f0\n";
     assert_eq!(rt; lines.parts().1, wanted.as_bytes());
     Ok(())
 }

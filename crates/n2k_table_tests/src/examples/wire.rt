@@ -104,17 +104,6 @@ fn data_set(rt: HostRuntime) -> Result<(), Fail> {
     Ok(())
 }
 
-// Packet::set_frame
-#[test]
-fn frames_set(rt: HostRuntime) -> Result<(), Fail> {
-    let message = frame_in("(2.0) can0 1DFF0405#")?;
-    let mut frame = frame_in("(1.0) can0 18EAFF01#14F001")?;
-    frame.set_frame(&message, &[0, 11, 0xa3, 0x99, 1, 0x41, 0x42, 0x43]);
-    assert_eq!(rt; frame.id(), message.id());
-    assert_eq!(rt; frame.data().len(), 8);
-    Ok(())
-}
-
 // plain_text
 #[test]
 fn plain_texts(rt: HostRuntime) -> Result<(), Fail> {
@@ -162,46 +151,27 @@ fn candump_texts(rt: HostRuntime) -> Result<(), Fail> {
     Ok(())
 }
 
-// CandumpLines::new, CandumpLines::append
-#[test]
-fn candump_texts_in_a_row(rt: HostRuntime) -> Result<(), Fail> {
-    let alloc = rt.alloc();
-    let id = split_id(0x18EA_FF01);
-    let stamp = "1970-01-01T00:00:10.300Z".as_bytes();
-    let packet = Packet::new(stamp, id, &[0x14, 0xf0, 0x01]).ok_or("a packet")?;
-    assert!(rt; is_interface(b"can0"));
-    let mut lines = CandumpLines::new("can0");
-    let mut text = Vec::new(alloc);
-    lines.append(alloc, &packet, &mut text)?;
-    lines.append(alloc, &packet, &mut text)?;
-    let wanted = "(0000000010.300000) can0 18EAFF01#14F001\n";
-    assert_eq!(rt; text.as_slice(), wanted.repeat(alloc, 2)?.as_bytes());
-    Ok(())
-}
-
-// CandumpLines::set_head
+// CandumpLines::set_head, CandumpLines::new
 #[test]
 fn candump_heads(rt: HostRuntime) -> Result<(), Fail> {
-    let alloc = rt.alloc();
     assert!(rt; is_interface(b"can0"));
     let (mut lines, mut head) = (CandumpLines::new("can0"), LineHead::EMPTY);
     lines.set_head(&frame_in("(1.0) can0 18EAFF01#14F001")?, &mut head)?;
-    let mut text = Vec::new(alloc);
-    head.append(alloc, &[0x14, 0xf0], &mut text)?;
+    let mut text = [0; LINE_ROOM];
+    let end = head.write_line(&mut text, 0, &[0x14, 0xf0]);
     let wanted = "(0000000001.000000) can0 18EAFF01#14F0\n";
-    assert_eq!(rt; text.as_slice(), wanted.as_bytes());
+    assert_eq!(rt; &text[..end], wanted.as_bytes());
     Ok(())
 }
 
-// LineHead::set_plain, LineHead::append
+// LineHead::set_plain, LineHead::write_line
 #[test]
 fn plain_heads(rt: HostRuntime) -> Result<(), Fail> {
-    let alloc = rt.alloc();
     let mut head = LineHead::EMPTY;
     head.set_plain(&frame_in("(1.0) can0 18EAFF01#14F001")?);
-    let mut text = Vec::new(alloc);
-    head.append(alloc, &[0x14, 0xf0], &mut text)?;
+    let mut text = [0; LINE_ROOM];
+    let end = head.write_line(&mut text, 0, &[0x14, 0xf0]);
     let wanted = "1970-01-01T00:00:01.000Z,6,59904,1,255,2,14,f0\n";
-    assert_eq!(rt; text.as_slice(), wanted.as_bytes());
+    assert_eq!(rt; &text[..end], wanted.as_bytes());
     Ok(())
 }

@@ -1,5 +1,8 @@
 //! Texts of packets.
-use n2k_wire::{CandumpLines, Entry, Packet, Packing, candump_text, is_interface, read_line};
+use n2k_wire::{
+    CandumpLines, Entry, LINE_ROOM, LineHead, Packet, Packing, candump_text, is_interface,
+    read_line,
+};
 use std::alloc::Global;
 use std::process::Abort;
 use std::test::Fail;
@@ -21,19 +24,23 @@ fn push_candump(
     Ok(())
 }
 
-// A packet's line, appended by `CandumpLines` after the earlier packets.
+// A packet's line, begun by `CandumpLines` after the earlier packets.
 fn push_after(
     alloc: Global,
     packet: &Packet,
     lines: &mut CandumpLines,
     text: &mut Vec<u8>,
 ) -> Result<(), Fail> {
-    if packet.data().len() > 8 {
-        return Err("no frame".into());
-    }
-    if let Err(fault) = lines.append(alloc, packet, text) {
-        let told = format!(in alloc; "{fault:?}")?;
-        text.extend_from_slice(told.as_bytes())?;
+    let (mut head, mut line) = (LineHead::EMPTY, [0; LINE_ROOM]);
+    match lines.set_head(packet, &mut head) {
+        Ok(()) => {
+            let end = head.write_line(&mut line, 0, packet.data());
+            text.extend_from_slice(&line[..end])?;
+        }
+        Err(fault) => {
+            let told = format!(in alloc; "{fault:?}")?;
+            text.extend_from_slice(told.as_bytes())?;
+        }
     }
     Ok(())
 }

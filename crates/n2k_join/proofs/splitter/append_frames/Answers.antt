@@ -1,13 +1,13 @@
-use Rattle.std.proofs.Common.{◌≡◌, Some, arith, ap, sym, ◌∙◌}
+use Rattle.std.proofs.Common.{ap, sym, ◌∙◌, Some, arith}
 use Rattle.std.proofs.lemmas.Grind.{common_steps}
-use Rattle.n2k_join.proofs.InPlaceFrames.{pushed}
+use Rattle.n2k_join.proofs.InPlaceFrames.{frame_at, pushed}
 use Rattle.n2k_join.proofs.splitter.append_frames.Goals as goal
 
 pub loop-number-preserved : goal.loop-number-preserved
 loop-number-preserved c =
-    let frame = c.frame-frame.result.now in
-    let same : c.with_data.result ≡ frame = c.with_data.ensures ∙ ap (λ d. record { stamp = frame.stamp; id = frame.id; payload = d }) c.data.ensures.value in
+    let n = c.loop-number.number in
+    let is = frame_at (Some c.frames.inside.kind) c.frames.inside.message.now c.frames.inside.sequence n c.args.frames.now c.data-data.result.now (sym c.frames.view_is) c.data-data.ensures.value in
     record {
-      frames = pushed c.args.packets.now.items _ _ c.args.frames.now c.loop-number.number c.with_data.result (c.frame-frame.ensures ∙ ap Some (sym same)) c.loop-number.invariant.frames (grind (arith, common_steps));
+      frames = pushed c.args.packets.now.items _ _ c.args.frames.now n c.with_data.result (is ∙ ap Some (sym c.with_data.ensures)) c.loop-number.invariant.frames (grind (arith, common_steps));
       room = grind (arith, common_steps);
     }

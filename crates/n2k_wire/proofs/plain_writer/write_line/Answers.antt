@@ -1,4 +1,4 @@
-use Rattle.std.proofs.Common.{ap, ◌∙◌, ◌++◌, append_assoc, arith, take, List, ℕ}
+use Rattle.std.proofs.Common.{append_assoc, arith, take}
 use Rattle.n2k_wire.specs.Heads.{plain_head, plain_end}
 use Rattle.n2k_wire.proofs.PlainTexts.{line_is}
 use Rattle.n2k_wire.proofs.plain_writer.write_line.Goals as goal

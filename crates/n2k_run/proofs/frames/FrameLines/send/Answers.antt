@@ -1,11 +1,11 @@
 use Rattle.std.proofs.Common.{◌≡◌, ◌++◌, refl, ap, ◌∙◌, Some, option_map, arith}
 use Rattle.n2k_wire.specs.declared.entry.BadCause.TheVariants.{Time, Address}
-use Rattle.n2k_wire.specs.Heads.{line_after}
 use Rattle.n2k_table.specs.Table.{kind}
 use Rattle.n2k_join.specs.Splitter.{sequences}
 use Rattle.n2k_run.specs.declared.frames.Outcome.TheVariants.{Bad}
 use Rattle.n2k_run.specs.FramesOut.{fault_cause, interface_of}
-use Rattle.n2k_run.proofs.SentFrames.{frame_of, line_of, no_line, not_sent, one_more, seen, sent, split_of}
+use Rattle.n2k_join.proofs.InPlaceFrames.{frame_at}
+use Rattle.n2k_run.proofs.SentFrames.{line_of, no_line, not_sent, one_more, seen, sent, split_of}
 use Rattle.n2k_run.proofs.frames.FrameLines.send.Goals as goal
 
 pub returns-in-NoStamp-clause-sent : goal.returns-in-NoStamp-clause-sent
@@ -28,15 +28,14 @@ pub loop-number-preserved : goal.loop-number-preserved
 loop-number-preserved c =
     let i = interface_of c.args.self.now.interface in
     let m = c.args.message.now in
-    let p = c.frame-frame.result.now in
+    let bytes = c.data.result.now in
     let before = c.loop-number.invariant in
-    let frame = frame_of _ m _ c.in-Ok.frames c.loop-number.number p c.in-Ok.ensures.frames c.frame-frame.ensures in
-    let line = ap (line_after c.loop-number.sender.head) c.data.ensures.value ∙ line_of i m p c.loop-number.sender.head frame before.head in
+    let frame = frame_at _ m _ c.loop-number.number c.in-Ok.frames bytes c.in-Ok.ensures.frames c.data.ensures.value in
     record {
       lines = before.lines;
       splitter = before.splitter;
       head = before.head;
-      text = one_more i c.in-Ok.frames c.loop-number.number p c.args.text.now.items _ _ c.frame-frame.ensures before.text (c.in_ok-append.ensures.ok ∙ ap (λ t. c.loop-number.text.items ++ t) line);
+      text = one_more i c.in-Ok.frames c.loop-number.number (record m { payload = bytes }) c.args.text.now.items _ _ frame before.text (c.in_ok-push_line.ensures.adds ∙ ap (λ t. c.loop-number.text.items ++ t) (line_of i m c.set_head.new.head bytes before.head));
     }
 
 pub returns-clause-sent : goal.returns-clause-sent
@@ -44,5 +43,5 @@ returns-clause-sent c =
     let i = interface_of c.args.self.now.interface in
     let m = c.args.message.now in
     sent (kind c.args.self.now.table.now) i m _ _ c.in-Ok.frames c.loop-number.number c.args.text.now.items _ c.in-Ok.ensures.frames (split_of _ _ c.in-Ok.ensures.refused)
-    (ap sequences c.loop-number.invariant.splitter ∙ c.in-Ok.ensures.raised) (seen i m c.loop-number.sender.head c.loop-number.invariant.head)
+    (ap sequences c.loop-number.invariant.splitter ∙ c.in-Ok.ensures.raised) (seen i m c.set_head.new.head c.loop-number.invariant.head)
     (omega (arith, c.loop-number-test.false, c.count-number-end.ensures.value)) c.loop-number.invariant.text
