@@ -1,5 +1,5 @@
 -- Which calls a function makes of a folder, one after the other.
-use Rattle.std.proofs.Common.{arith, ◌≡◌, ◌≢◌, ◌⊎◌, ℕ, true, false, List, [], ◌∷◌, ◌++◌, Option, None, Some, option_map, Result, Ok, Err, IsErrAnd, inl, inr, refl, subst, sym, ap, ◌∙◌}
+use Rattle.std.proofs.Common.{arith, ◌≡◌, ◌≢◌, ◌⊎◌, ℕ, true, false, List, [], ◌∷◌, ◌++◌, Option, None, Some, option_map, Result, Ok, Err, IsErrAnd, MatchResult, inl, inr, refl, subst, sym, ap, ◌∙◌}
 use Rattle.std.specs.declared.fs.OpenOptions.{OpenOptions}
 use Rattle.std.specs.declared.io.Error.{Error}
 use Rattle.clap.specs.Words.{Text}
@@ -48,6 +48,9 @@ module _ {d : Destination} {a b : Acts} where
 
   pub by : {Does : Doing Error} {answer : Result (Unit {0}) Error} (answers : Result (Unit {0}) Error → Result (Unit {0}) ReplaceError) {result : Result (Unit {0}) ReplaceError} → Makes d a b Does answer → result ≡ answers answer → Makes d a b (By answers Does) result
   by answers makes same = record { made = makes.made; acts = makes.acts; does = (_, makes.does, same) }
+
+  pub failing : {Does : Doing Error} {answer : Result (Unit {0}) Error} {result : Result (Unit {0}) ReplaceError} → Makes d a b Does answer → MatchResult answer (λ x. result ≡ Ok x) (λ e. IsErrAnd result (λ why. why ≡ Failed e)) → Makes d a b (By failed Does) result
+  failing makes same = by failed makes (grind arith)
 
   pub closing : {c : Acts} {E : Type 0} {Does : Doing E} {answer : Result (Unit {0}) E} → Makes d a b Does answer → c ≡ noted closed b → Makes d a c (Closes Does) answer
   closing makes last = record { made = closed ∷ makes.made; acts = last ∙ ap (noted closed) makes.acts; does = (makes.made, makes.does, refl) }

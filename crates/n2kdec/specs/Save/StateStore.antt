@@ -8,9 +8,8 @@ use Rattle.n2kdec.specs.Save.Destination.{destination, leads}
 use Rattle.n2kdec.specs.System.Disk.{Acts, Answers, IsError, IsOfMemory, Why}
 use Rattle.n2kdec.specs.Save.Replacement.{KeepsText}
 use Rattle.n2kdec.specs.declared.command_line.asked.Files.{Files}
-use Rattle.n2kdec.specs.declared.save.destination.Destination.{Destination}
 use Rattle.n2kdec.specs.declared.save.destination.Kind.{Kind}
-use Rattle.n2kdec.specs.declared.save.destination.Kind.TheVariants.{Special}
+use Rattle.n2kdec.specs.declared.save.destination.Kind.TheVariants.{Alone, Special}
 use Rattle.n2kdec.specs.declared.save.keeper.SaveError.{SaveError}
 use Rattle.n2kdec.specs.declared.save.keeper.SaveError.TheVariants.{Harm, Unfound, Failed}
 
@@ -21,30 +20,24 @@ abbrev pub meets : Answers → Text → Option Text → Bool
 meets a own None = false
 meets a own (Some path) = leads true a own path
 
--- a file is the table, the log or standard error, to which the summary goes later
-abbrev pub meets_files : Answers → Text → Files → Bool
-meets_files a own files =
-    meets a own files.table || leads true a own (unwrap_or files.log (codes "/dev/stdin"))
-    || leads false a own (codes "/dev/stderr")
-
 -- a text that is kept there takes the place of what the file has; to a special file it is appended
 abbrev pub replaces : Kind → Bool
 replaces Special = false
 replaces _ = true
 
--- The name's own file is one of these; or standard output, if it is replaced.
-abbrev pub harms_target : Answers → Destination → Files → Bool
-harms_target a to files = meets_files a to.target files || (replaces to.kind && leads false a to.target (codes "/dev/stdout"))
+-- A file of this kind is the table, the log or standard error, to which the summary goes later; or standard output, if it
+-- is replaced.
+abbrev pub meets_files : Answers → Text → Kind → Files → Bool
+meets_files a own kind files =
+    meets a own files.table || leads true a own (unwrap_or files.log (codes "/dev/stdin"))
+    || leads false a own (codes "/dev/stderr") || (replaces kind && leads false a own (codes "/dev/stdout"))
 
--- The new file is one of these; or the state to go on from, or standard output.
-abbrev pub harms_temp : Answers → Text → Files → Bool
-harms_temp a own files = meets_files a own files || meets a own files.state || leads false a own (codes "/dev/stdout")
-
--- whether a state of this name would harm what is read or printed to
+-- Whether a state of this name would harm what is read or printed to: the name's own file is one of these; or the new file
+-- is, or is the state to go on from.
 unfoldable pub harms : Answers → Text → Files → Result Bool Why
 harms a name files = do
   to ← destination a name
-  Ok (harms_target a to files || harms_temp a to.temp files)
+  Ok (meets_files a to.target to.kind files || meets_files a to.temp Alone files || meets a to.temp files.state)
 
 -- A state is admitted only if its place is found and nothing would be harmed there. It is refused as Harm only if
 -- something would be harmed there, and as Unfound only if the place can't be found out, by this error, or memory is

@@ -4,13 +4,13 @@ ghost use Rattle.std.specs.Result.{result_err};
 ghost use Rattle.clap.specs.Words.{Text};
 ghost use Rattle.n2kdec.specs.Run.Commands.{SaveAttempt, Keeps};
 ghost use Rattle.n2kdec.specs.System.Disk.{IsAnswerUnlessMemory};
-ghost use Rattle.n2kdec.specs.Save.StateStore.{Admits, KeepsState, harms, harms_target, harms_temp, meets, meets_files};
+ghost use Rattle.n2kdec.specs.Save.StateStore.{Admits, KeepsState, harms, meets, meets_files};
 ghost use Rattle.n2kdec.specs.declared.command_line.asked.Files.{Files};
 ghost use Rattle.n2kdec.specs.declared.save.keeper.SaveError.{SaveError};
 
 use crate::command_line::asked::Files;
 use crate::command_line::words::Word;
-use crate::save::destination::{Destination, Kind, find, leads};
+use crate::save::destination::{Kind, find, leads};
 use crate::save::replacement::keep_text;
 use crate::system::disk::Disk;
 use n2k_run::Sink;
@@ -72,9 +72,10 @@ fn meets<D: Disk>(disk: &D, own: &str, path: &Option<Word>) -> bool
     }
 }
 
-/// Whether the file at this path is the table, the log or standard error, to which the summary goes later.
-fn meets_files<D: Disk>(disk: &D, own: &str, files: &Files) -> bool
-    ensures { IfSome (D.answers disk.now) (λ a. result ≡ meets_files a own.now files.now) }
+/// Whether the file at this path, of this kind, is the table, the log or standard error, to which the summary goes later;
+/// or standard output, if the state isn't appended to it.
+fn meets_files<D: Disk>(disk: &D, own: &str, kind: Kind, files: &Files) -> bool
+    ensures { IfSome (D.answers disk.now) (λ a. result ≡ meets_files a own.now kind files.now) }
 {
     let log = match &files.log {
         Some(log) => log.as_str(),
@@ -83,36 +84,25 @@ fn meets_files<D: Disk>(disk: &D, own: &str, files: &Files) -> bool
     meets(disk, own, &files.table)
         || leads(disk, true, own, log)
         || leads(disk, false, own, STANDARD_ERROR)
-}
-
-/// Whether the file of a name is one of these; or standard output, if the state isn't appended to it.
-fn harms_target<D: Disk>(disk: &D, to: &Destination, files: &Files) -> bool
-    ensures { IfSome (D.answers disk.now) (λ a. result ≡ harms_target a to.now files.now) }
-{
-    let own = to.target.as_str();
-    meets_files(disk, own, files)
-        || match to.kind {
+        || match kind {
             Kind::Special => false,
             Kind::Alone | Kind::Shared => leads(disk, false, own, STANDARD_OUTPUT),
         }
 }
 
-/// Whether the new file is one of these; or the state to go on from, or standard output.
-fn harms_temp<D: Disk>(disk: &D, own: &str, files: &Files) -> bool
-    ensures { IfSome (D.answers disk.now) (λ a. result ≡ harms_temp a own.now files.now) }
-{
-    meets_files(disk, own, files)
-        || meets(disk, own, &files.state)
-        || leads(disk, false, own, STANDARD_OUTPUT)
-}
-
-/// Whether a state of this name would harm what is read or printed to.
+/// Whether a state of this name would harm what is read or printed to. Only the new file must not be the state to go on
+/// from.
 #[tactic(auto, unfolding(crate::specs::Save::StateStore::harms))]
 fn harms<D: Disk>(alloc: Global, disk: &D, name: &str, files: &Files) -> io::Result<bool>
     ensures { IfSome (D.answers disk.now) (λ a. IsAnswerUnlessMemory (λ harms. harms) (harms a name.now files.now) result) }
 {
     let to = find(alloc, disk, name)?;
-    Ok(harms_target(disk, &to, files) || harms_temp(disk, to.temp.as_str(), files))
+    let temp = to.temp.as_str();
+    Ok(
+        meets_files(disk, to.target.as_str(), to.kind, files)
+            || meets_files(disk, temp, Kind::Alone, files)
+            || meets(disk, temp, &files.state),
+    )
 }
 
 /// The files of a disk as a keeper: a state takes the place of what its name has, which may be the file of `--resume`.
@@ -156,9 +146,6 @@ impl<D: Disk> StateStore for StateFiles<D> {
         ensures calls { KeepsState (D.answers self.old.disk) (D.acts self.old.disk) (D.acts self.new.disk)
             name.now state.now result }
     {
-        match keep_text(self.alloc, &mut self.disk, name, state) {
-            Ok(()) => Ok(()),
-            Err(error) => Err(SaveError::Failed(error)),
-        }
+        keep_text(self.alloc, &mut self.disk, name, state).map_err(SaveError::Failed)
     }
 }

@@ -37,16 +37,6 @@ fn is_refusal(why: ErrorKind) -> bool
     )
 }
 
-/// What comes of a call that failed, if it did.
-fn failed(answer: io::Result<()>) -> Result<(), ReplaceError>
-    ensures { result ≡ failed answer }
-{
-    match answer {
-        Ok(()) => Ok(()),
-        Err(error) => Err(ReplaceError::Failed(error)),
-    }
-}
-
 /// What comes of a call that the folder may not allow.
 fn judged(answer: io::Result<()>) -> Result<(), ReplaceError>
     ensures { result ≡ judged answer }
@@ -106,7 +96,7 @@ fn make<D: Disk>(disk: &mut D, to: &Destination) -> Result<(), ReplaceError>
         return judged(answer);
     }
     judged(remove_new(disk, to))?;
-    failed(make_new(disk, to))
+    make_new(disk, to).map_err(ReplaceError::Failed)
 }
 
 /// Gives the open file these permissions, if some are given.
@@ -149,7 +139,7 @@ fn place<D: Disk>(disk: &mut D, to: &Destination, text: &[u8]) -> Result<(), Rep
     ensures { Makes to.now (D.acts disk.old) (D.acts disk.new) (RenamesIntoPlace to.now text.now) result }
 {
     make(disk, to)?;
-    failed(pour_and_close(disk, to, to.mode, text))?;
+    pour_and_close(disk, to, to.mode, text).map_err(ReplaceError::Failed)?;
     match to.kind {
         Kind::Alone => {
             let new = to.temp.as_str();
