@@ -10,8 +10,8 @@ ghost use Rattle.n2kdec.specs.declared.fault.Fault.TheVariants.{Memory};
 ghost use Rattle.n2kdec.specs.CommandLine.Asked.{AreLinesOf, AreMatchesOf, IsAsked};
 ghost use Rattle.n2kdec.specs.Inner.Parse.{AnswersKind};
 ghost use Rattle.n2kdec.specs.CommandLine.Usage.{program_app};
-ghost use Rattle.n2kdec.specs.CommandLine.Words.{Names, NamesIn, command_of, decode_by, encode_by, flag_of, frames_by, judged, lines_in};
-ghost use Rattle.n2kdec.specs.CommandLine.Words.{named, over, packing_of, plain_command, version_text, window_of};
+ghost use Rattle.n2kdec.specs.CommandLine.Words.{Names, NamesIn, command_of, decode_by, encode_by, flag_of, frames_by, lines_in};
+ghost use Rattle.n2kdec.specs.CommandLine.Words.{judged, named, over, version_text, window_of};
 
 pub mod asked;
 pub mod usage;
@@ -46,10 +46,7 @@ fn value_of(alloc: Global, matches: &ArgMatches<'_>, id: &str) -> Result<Option<
 fn flag_of(matches: &ArgMatches<'_>, id: &str) -> bool
     ensures { result ≡ flag_of id.now (rows_of (found_of matches.now)) }
 {
-    match matches.get_str(id) {
-        Some(text) => text == "true",
-        None => false,
-    }
+    matches.get_str(id).is_some_and(|text| text == "true")
 }
 
 /// The lines of a window without `--window`.
@@ -87,17 +84,6 @@ fn window_of(matches: &ArgMatches<'_>) -> Option<Window>
     }
 }
 
-/// How lines are packed with `--whole`, or without.
-fn packing_of(whole: bool) -> Packing
-    ensures { result ≡ packing_of whole }
-{
-    if whole {
-        Packing::Whole
-    } else {
-        Packing::Frames
-    }
-}
-
 /// A command over these files.
 fn over(table: Option<Word>, state: Option<Word>, log: Option<Word>, task: Subcommand) -> Command
     ensures { result ≡ over table state log task }
@@ -108,37 +94,19 @@ fn over(table: Option<Word>, state: Option<Word>, log: Option<Word>, task: Subco
     }
 }
 
-/// The interface of this name, if one is named.
-fn judged(name: Option<Word>) -> Result<Option<Interface>, Fault>
-    ensures { result ≡ judged name }
-{
-    match name {
-        Some(name) => Ok(Some(Interface::new(name)?)),
-        None => Ok(None),
-    }
-}
-
-/// `plain`, with its values.
-fn plain_of(alloc: Global, matches: &ArgMatches<'_>) -> Result<Command, Fault>
-    ensures { Names (plain_command (rows_of (found_of matches.now))) result }
-{
-    let log = value_of(alloc, matches, "log")?;
-    Ok(over(None, None, log, Subcommand::Plain))
-}
-
 /// `decode`, with its values.
 fn decode_of(alloc: Global, matches: &ArgMatches<'_>) -> Result<Command, Fault>
     ensures { let rows = rows_of (found_of matches.now) in
         Names (decode_by (first_of (codes "table") rows) (window_of rows) rows) result }
 {
-    let Some(table) = value_of(alloc, matches, "table")? else {
-        return Err(Fault::Words);
-    };
-    let Some(window) = window_of(matches) else {
-        return Err(Fault::Words);
-    };
+    let table = value_of(alloc, matches, "table")?.ok_or(Fault::Words)?;
+    let window = window_of(matches).ok_or(Fault::Words)?;
     let options = Options {
-        packing: packing_of(flag_of(matches, "whole")),
+        packing: if flag_of(matches, "whole") {
+            Packing::Whole
+        } else {
+            Packing::Frames
+        },
         empty: flag_of(matches, "empty"),
         window,
     };
@@ -158,12 +126,11 @@ fn frames_of(alloc: Global, matches: &ArgMatches<'_>) -> Result<Command, Fault>
     ensures { let rows = rows_of (found_of matches.now) in
         Names (frames_by (first_of (codes "table") rows) (judged (first_of (codes "candump") rows)) rows) result }
 {
-    let Some(table) = value_of(alloc, matches, "table")? else {
-        return Err(Fault::Words);
-    };
+    let table = value_of(alloc, matches, "table")?.ok_or(Fault::Words)?;
     let candump = value_of(alloc, matches, "candump")?;
     let log = value_of(alloc, matches, "log")?;
-    Ok(over(Some(table), None, log, Subcommand::Frames(judged(candump)?)))
+    let interface = candump.map(Interface::new).transpose()?;
+    Ok(over(Some(table), None, log, Subcommand::Frames(interface)))
 }
 
 /// `encode`, with its values.
@@ -171,9 +138,7 @@ fn encode_of(alloc: Global, matches: &ArgMatches<'_>) -> Result<Command, Fault>
     ensures { let rows = rows_of (found_of matches.now) in
         Names (encode_by (first_of (codes "table") rows) rows) result }
 {
-    let Some(table) = value_of(alloc, matches, "table")? else {
-        return Err(Fault::Words);
-    };
+    let table = value_of(alloc, matches, "table")?.ok_or(Fault::Words)?;
     let nearest = flag_of(matches, "nearest");
     let log = value_of(alloc, matches, "log")?;
     Ok(over(Some(table), None, log, Subcommand::Encode { nearest }))
@@ -183,11 +148,10 @@ fn encode_of(alloc: Global, matches: &ArgMatches<'_>) -> Result<Command, Fault>
 fn command_of(alloc: Global, matches: &ArgMatches<'_>) -> Result<Command, Fault>
     ensures { Names (named (subcommand_rows_of matches.now)) result }
 {
-    let Some((name, values)) = matches.subcommand() else {
-        return Err(Fault::Words);
-    };
+    let (name, values) = matches.subcommand().ok_or(Fault::Words)?;
     if name == "plain" {
-        plain_of(alloc, values)
+        let log = value_of(alloc, values, "log")?;
+        Ok(over(None, None, log, Subcommand::Plain))
     } else if name == "decode" {
         decode_of(alloc, values)
     } else if name == "frames" {
@@ -203,18 +167,14 @@ fn command_of(alloc: Global, matches: &ArgMatches<'_>) -> Result<Command, Fault>
 fn version(alloc: Global) -> Result<Word, AllocError>
     ensures { IfOk result (λ word. word ≡ version_text) }
 {
-    let mut text = String::from_str(alloc, "n2kdec ")?;
-    text.push_str(VERSION)?;
-    text.push_str("\n")?;
-    Word::new(alloc, text.as_str())
+    Ok(Word::of(format!(in alloc; "n2kdec {VERSION}\n")?))
 }
 
 /// A text of `clap`.
 fn shown_text<T: Display>(alloc: Global, shown: &T) -> Result<Word, AllocError>
     ensures { IfOk result (λ word. IfSome (T.output shown.now) (λ text. word ≡ text)) }
 {
-    let text = shown.to_string(alloc)?;
-    Word::new(alloc, text.as_str())
+    Ok(Word::of(shown.to_string(alloc)?))
 }
 
 /// What is said of arguments that `clap` takes, if the value of `--window` is not a window.

@@ -9,7 +9,6 @@ use Rattle.std.specs.Str.Parse.{digits_value}
 use Rattle.clap.specs.Words.{Row, Text, first_of, subcommand_of}
 use Rattle.n2k_join.specs.Window.{Window, shortest_window, longest_window}
 use Rattle.n2k_wire.specs.Candump.{is_interface}
-use Rattle.n2k_wire.specs.declared.entry.Packing.{Packing}
 use Rattle.n2k_wire.specs.declared.entry.Packing.TheVariants as packed
 use Rattle.n2kdec.specs.declared.command_line.asked.Command.{Command}
 use Rattle.n2kdec.specs.declared.command_line.asked.ParsedArgs.{ParsedArgs}
@@ -46,10 +45,6 @@ window_of rows =
     option_map (λ lines. record { lines = lines; in_order = flag_of (codes "in-order") rows })
     (lines_by (first_of (codes "window") rows))
 
--- how lines are packed with `--whole`, or without
-abbrev pub packing_of : Bool → Packing
-packing_of whole = if whole then packed.Whole else packed.Frames
-
 -- a command over these files
 abbrev pub over : Option Text → Option Text → Option Text → Subcommand → Command
 over table state log task = record { files = record { table = table; state = state; log = log }; task = task }
@@ -59,14 +54,11 @@ abbrev pub judged : Option Text → Result (Option Text) Fault
 judged None = Ok None
 judged (Some name) = if is_interface name then Ok (Some name) else Err Interface
 
--- the commands of a subcommand's words; all but `plain` have a table
-abbrev pub plain_command : List Row → Result Command Fault
-plain_command rows = Ok (over None None (first_of (codes "log") rows) Plain)
-
+-- the commands of a subcommand's words that have a table
 abbrev pub decode_by : Option Text → Option Window → List Row → Result Command Fault
 decode_by (Some table) (Some window) rows =
     Ok (over (Some table) (first_of (codes "resume") rows) (first_of (codes "log") rows) (Decode (record {
-      packing = packing_of (flag_of (codes "whole") rows);
+      packing = if flag_of (codes "whole") rows then packed.Whole else packed.Frames;
       empty = flag_of (codes "empty") rows;
       window = window;
     }) (first_of (codes "save") rows)))
@@ -87,7 +79,7 @@ encode_by (Some table) rows =
 abbrev pub named : Option (Text × List Row) → Result Command Fault
 named None = Err Words
 named (Some p) =
-    if bytes_eq p.0 (codes "plain") then plain_command p.1
+    if bytes_eq p.0 (codes "plain") then Ok (over None None (first_of (codes "log") p.1) Plain)
     else (if bytes_eq p.0 (codes "decode") then decode_by (first_of (codes "table") p.1) (window_of p.1) p.1
     else (if bytes_eq p.0 (codes "frames")
     then frames_by (first_of (codes "table") p.1) (judged (first_of (codes "candump") p.1)) p.1
