@@ -1,6 +1,6 @@
 -- Control characters of a text for a terminal, as `\x1b`.
 use Rattle.std.specs.Prelude.{◌==◌, ◌++◌, ◌∷◌, ◌/◌, ◌%◌, ◌+◌, ◌&&◌, ◌||◌, not, nat_lt, ℕ, Bool, List, []}
-use Rattle.std.specs.Prelude.{codes, if◌then◌else◌}
+use Rattle.std.specs.Prelude.{codes, get_or, if◌then◌else◌}
 use Rattle.std.specs.Char.{is_ascii_control}
 
 -- a digit of a number to the base 16
@@ -19,25 +19,17 @@ is_control_of_two last byte = last == 0xC2 && nat_lt byte 0xA0
 abbrev pub is_control : Bool → ℕ → Bool
 is_control keeps_lines byte = is_ascii_control byte && not (keeps_lines && byte == 10)
 
--- the text of a C2, which waits for the byte after it
-abbrev pub shown_lead : ℕ → ℕ → List ℕ
-shown_lead last byte = if last == 0xC2 then (if nat_lt byte 0xA0 then escape 0xC2 else 0xC2 ∷ []) else []
-
--- the text of a byte itself
-abbrev pub shown_byte : Bool → ℕ → ℕ → List ℕ
-shown_byte keeps_lines last byte =
-    if byte == 0xC2 then [] else
-    if is_control_of_two last byte || is_control keeps_lines byte then escape byte else byte ∷ []
-
--- a C2 at the end of a text
-abbrev pub shown_end : ℕ → List ℕ
-shown_end last = if last == 0xC2 then 0xC2 ∷ [] else []
+-- the text of a byte between these two
+abbrev pub shown : Bool → ℕ → ℕ → ℕ → List ℕ
+shown keeps_lines last byte next =
+    if is_control keeps_lines byte || is_control_of_two last byte || is_control_of_two byte next then escape byte
+    else byte ∷ []
 
 -- a text after this byte, with its control characters escaped
 abbrev pub escaped_after : Bool → ℕ → List ℕ → List ℕ
-escaped_after keeps_lines last [] = shown_end last
+escaped_after keeps_lines last [] = []
 escaped_after keeps_lines last (byte ∷ text) =
-    shown_lead last byte ++ shown_byte keeps_lines last byte ++ escaped_after keeps_lines byte text
+    shown keeps_lines last byte (get_or text 0 0xFF) ++ escaped_after keeps_lines byte text
 
 -- all control characters are; or all but line feeds
 abbrev pub escaped : Bool → List ℕ → List ℕ

@@ -1,12 +1,14 @@
 //! Control characters of a text for a terminal, as `\x1b`.
 ghost use Rattle.std.specs.Prelude.{◌≡◌, ◌<◌, ◌++◌, OnOk};
-ghost use Rattle.n2kdec.specs.Fault.Escape.{escape, escaped, hex_digit, is_control, is_control_of_two, shown_byte};
-ghost use Rattle.n2kdec.specs.Fault.Escape.{shown_end, shown_lead};
+ghost use Rattle.n2kdec.specs.Fault.Escape.{escape, escaped, hex_digit, is_control, is_control_of_two, shown};
 
 use std::alloc::AllocError;
 
 /// The first byte of the control characters U+0080 to U+009F, and of others.
 const LEAD: u8 = 0xC2;
+
+/// A byte that makes no control character of the one before it.
+const NOTHING: u8 = 0xFF;
 
 /// A digit of a number to the base 16.
 fn hex_digit(number: u8) -> u8
@@ -41,40 +43,23 @@ fn is_control(keeps_lines: bool, byte: u8) -> bool
     byte.is_ascii_control() && !(keeps_lines && byte == b'\n')
 }
 
-/// Appends the lead byte before a byte, if there was one.
-fn push_lead(last: u8, byte: u8, out: &mut Vec<u8>) -> Result<(), AllocError>
-    ensures { OnOk result (out.new.items ≡ out.old.items ++ shown_lead last byte) }
+/// Appends a byte between these two, escaped if it is of a control character.
+fn push_byte(
+    keeps_lines: bool,
+    last: u8,
+    byte: u8,
+    next: u8,
+    out: &mut Vec<u8>,
+) -> Result<(), AllocError>
+    ensures { OnOk result (out.new.items ≡ out.old.items ++ shown keeps_lines last byte next) }
 {
-    if last != LEAD {
-        Ok(())
-    } else if byte < 0xA0 {
-        out.extend_from_slice(&escape(LEAD))
-    } else {
-        out.extend_from_slice(&[LEAD])
-    }
-}
-
-/// Appends a byte, but for a lead, which waits for the next one.
-fn push_byte(keeps_lines: bool, last: u8, byte: u8, out: &mut Vec<u8>) -> Result<(), AllocError>
-    ensures { OnOk result (out.new.items ≡ out.old.items ++ shown_byte keeps_lines last byte) }
-{
-    if byte == LEAD {
-        Ok(())
-    } else if is_control_of_two(last, byte) || is_control(keeps_lines, byte) {
+    if is_control(keeps_lines, byte)
+        || is_control_of_two(last, byte)
+        || is_control_of_two(byte, next)
+    {
         out.extend_from_slice(&escape(byte))
     } else {
         out.extend_from_slice(&[byte])
-    }
-}
-
-/// Appends a lead that nothing follows.
-fn push_end(last: u8, out: &mut Vec<u8>) -> Result<(), AllocError>
-    ensures { OnOk result (out.new.items ≡ out.old.items ++ shown_end last) }
-{
-    if last == LEAD {
-        out.extend_from_slice(&[LEAD])
-    } else {
-        Ok(())
     }
 }
 
@@ -83,10 +68,10 @@ pub fn push_escaped(keeps_lines: bool, text: &[u8], out: &mut Vec<u8>) -> Result
     ensures { OnOk result (out.new.items ≡ out.old.items ++ escaped keeps_lines text.now) }
 {
     let mut last = 0;
-    for byte in text {
-        push_lead(last, *byte, out)?;
-        push_byte(keeps_lines, last, *byte, out)?;
+    for (index, byte) in text.iter().enumerate() {
+        let next = text.get(index + 1).copied().unwrap_or(NOTHING);
+        push_byte(keeps_lines, last, *byte, next, out)?;
         last = *byte;
     }
-    push_end(last, out)
+    Ok(())
 }
