@@ -14,8 +14,6 @@ import shutil
 import sys
 
 HERE = pathlib.Path(__file__).resolve().parent
-# The fields of a crate that the kit reads when it lists edits.
-Place = collections.namedtuple("Place", "name folder")
 # The head of its impl or trait, or nothing; its name; the numbers of its head's line and its last line; where its
 # comments, its body and the text after it begin; its text up to the body, without comments, and the whole.
 Function = collections.namedtuple("Function", "owner name line last start begin end head text")
