@@ -31,33 +31,26 @@ pub opened_closed : (a b c : Calls) (name : Option Text) (reads : ℕ) (why know
     → Makes (Opened name None ∷ Closed reads known ∷ []) a c
 opened_closed a b c name reads why known opened closed is = grind (arith, makes_then)
 
--- a file that was opened and closed
-module _ (w : Environment) (named : Option Text) (name : Text) (is_name : named ≡ Some name) (read : InputFile) (a b c : Calls) (reads failed : ℕ) (why : Option Error) (is_why : IsWhy failed why)
-    (opened : Makes (Opened named None ∷ []) a b) (closed : Makes (Closed reads why ∷ []) b c) where
-  abbrev pub Comes : (T : Type 0) → Result T Fault → Type 0
-  Comes T result = (made : List FileCall) × Makes made a c × ReadsFile w named read result made
+-- what a file that was opened and closed comes to, by its failed calls: its bytes are few, or too many; memory was refused; or the last read that failed did by this error
+abbrev pub Came : {T : Type 0} → Option (List ℕ) → InputFile → ℕ → Option Error → Result T Fault → Type 0
+Came bytes read failed why (Ok value) = (failed ≡ 0) × IfSome bytes (λ bytes. length bytes ≤ longest_file)
+Came bytes read failed why (Err fault) =
+    ((failed ≡ 0) × (too_large read ≡ Some fault) × IfSome bytes (λ bytes. longest_file < length bytes))
+    ⊎ ((failed ≡ 0) × (fault ≡ Memory (Some read)))
+    ⊎ ((0 < failed) × (fault ≡ unread read why))
 
-  so : (T : Type 0) (result : Result T Fault) → (made : List FileCall) × Makes made a c × ReadsFile w (Some name) read result made → Comes T result
-  so T result comes = subst (λ n. (made : List FileCall) × Makes made a c × ReadsFile w n read result made) (sym is_name) comes
+module _ {T : Type 0} (w : Environment) (name : Text) (read : InputFile) (a b c : Calls) (reads failed : ℕ) (why : Option Error) (is_why : IsWhy failed why) where
+  abbrev Comes : Option Text → Result T Fault → Type 0
+  Comes named result = (made : List FileCall) × Makes made a c × ReadsFile w named read result made
 
-  own : Makes (Opened (Some name) None ∷ []) a b
-  own = subst (λ n. Makes (Opened n None ∷ []) a b) is_name opened
+  came : (result : Result T Fault) → Makes (Opened (Some name) None ∷ []) a b → Makes (Closed reads why ∷ []) b c → Came (w.file name) read failed why result → Comes (Some name) result
+  came (Ok value) opened closed (none, few) = (_, opened_closed a b c (Some name) reads why None opened closed (is_why.0 none), (few, (reads, refl)))
+  came (Err fault) opened closed (inl (none, large, many)) = (_, opened_closed a b c (Some name) reads why None opened closed (is_why.0 none), inl (large, many, (reads, refl)))
+  came (Err fault) opened closed (inr (inl (none, memory))) = (_, opened_closed a b c (Some name) reads why None opened closed (is_why.0 none), inr (inr (inr (memory, (reads, refl)))))
+  came (Err fault) opened closed (inr (inr (some, is))) = grind (arith, opened_closed a b c (Some name) reads why why opened closed refl)
 
-  taken : failed ≡ 0 → Makes (Opened (Some name) None ∷ Closed reads None ∷ []) a c
-  taken none = opened_closed a b c (Some name) reads why None own closed (is_why.0 none)
-
-  pub was_read : (T : Type 0) (bytes : T) → failed ≡ 0 → IfSome (w.file name) (λ bytes. length bytes ≤ longest_file) → Comes T (Ok bytes)
-  was_read T bytes none few = so T (Ok bytes) (_, taken none, (few, (reads, refl)))
-
-  pub was_too_large : (T : Type 0) (fault : Fault) → too_large read ≡ Some fault → failed ≡ 0 → IfSome (w.file name) (λ bytes. longest_file < length bytes) → Comes T (Err fault)
-  was_too_large T fault is none many = so T (Err fault) (_, taken none, inl (is, many, (reads, refl)))
-
-  pub was_unread : (T : Type 0) (fault : Fault) → fault ≡ unread read why → 0 < failed → Comes T (Err fault)
-  was_unread T fault is some =
-      grind (arith, so T (Err fault) (Opened (Some name) None ∷ Closed reads why ∷ [], opened_closed a b c (Some name) reads why why own closed refl, grind arith))
-
-  pub was_refused_memory : (T : Type 0) → failed ≡ 0 → Comes T (Err (Memory (Some read)))
-  was_refused_memory T none = so T (Err (Memory (Some read))) (_, taken none, inr (inr (inr (refl, (reads, refl)))))
+  pub read_and_closed : (named : Option Text) (result : Result T Fault) → named ≡ Some name → Makes (Opened named None ∷ []) a b → Makes (Closed reads why ∷ []) b c → Came (w.file name) read failed why result → Comes named result
+  read_and_closed named result is opened closed comes = subst (λ n. Comes n result) (sym is) (came result (subst (λ n. Makes (Opened n None ∷ []) a b) is opened) closed comes)
 
 -- ---- a command
 

@@ -13,10 +13,6 @@ use Rattle.n2k_run.specs.declared.options.Options.{Options}
 use Rattle.n2kdec.specs.declared.run.difference.StateMismatch.{StateMismatch}
 use Rattle.n2kdec.specs.declared.run.difference.StateMismatch.TheVariants.{Tables, Windows}
 
--- a member of a value that is a text
-abbrev pub text_in : Text → Data → Option Text
-text_in name d = option_and_then as_str (get name d)
-
 -- a text that has as many digits as a SHA-256
 abbrev pub digits_in : Text → Option Text
 digits_in text = if length text == 64 then Some text else None
@@ -25,7 +21,8 @@ digits_in text = if length text == 64 then Some text else None
 -- in with.
 abbrev pub tables_in : List ℕ → Data → Option StateMismatch
 tables_in id d =
-    option_map (λ saved. Tables saved (encode_lower id)) (option_and_then digits_in (text_in (codes "table") d))
+    option_map (λ saved. Tables saved (encode_lower id))
+    (option_and_then digits_in (option_and_then as_str (get (codes "table") d)))
 
 -- the lines of the window that it was saved under, and these
 abbrev pub windows_in : ℕ → Data → Option StateMismatch

@@ -3,7 +3,7 @@ ghost use Rattle.std.specs.Prelude.{◌≡◌, IfOk, option_map};
 ghost use Rattle.hex.specs.Hex.{encode_lower};
 ghost use Rattle.serde_json.specs.View.{view};
 ghost use Rattle.n2k_join.specs.Resumed.{parsed};
-ghost use Rattle.n2kdec.specs.Run.Difference.{Differs, digits_in, tables_in, text_in, windows_in};
+ghost use Rattle.n2kdec.specs.Run.Difference.{Differs, tables_in, windows_in};
 
 use n2k_join::StateFault;
 use n2k_run::Options;
@@ -31,30 +31,11 @@ fn parsed(alloc: Global, state: &[u8]) -> Result<Option<Value>, AllocError>
     }
 }
 
-/// The text of a member.
-fn text_in<'a>(name: &str, value: &'a Value) -> Option<&'a str>
-    ensures { option_map (λ text. text.now) result ≡ text_in name.now (view value.now) }
-{
-    value.get(name)?.as_str()
-}
-
-/// The digits of a SHA-256, if they are as many.
-fn digits_of(text: &str) -> Option<[u8; 64]>
-    ensures { option_map (λ digits. digits) result ≡ digits_in text.now }
-{
-    let mut digits = [0; 64];
-    if text.len() != digits.len() {
-        return None;
-    }
-    digits.copy_from_slice(text.as_bytes());
-    Some(digits)
-}
-
 /// The table that the state of this value was saved under, and the table.
 fn tables_in(table: &Table, value: &Value) -> Option<StateMismatch>
     ensures { result ≡ tables_in table.now.id (view value.now) }
 {
-    let saved = digits_of(text_in("table", value)?)?;
+    let saved = value.get("table")?.as_str()?.as_bytes().try_into().ok()?;
     let mut id = [0; 64];
     let _ = hex::encode_to_slice(table.id(), &mut id);
     Some(StateMismatch::Tables(saved, id))

@@ -68,7 +68,7 @@ fn read_file<M: Machine>(
     ensures calls { (made : List FileCall) × Makes made (M.calls machine.old) (M.calls machine.new)
         × ReadsFile (M.world machine.old) name.now reading result made }
 {
-    let Some(_path) = name else {
+    let Some(_) = name else {
         return Ok(None);
     };
     let mut file = match machine.open(name) {
