@@ -264,7 +264,8 @@ impl<const SIZE: usize> TextBuffer<SIZE> {
         self.at = write_line(&mut self.room, self.at, packet);
     }
 
-    /// Appends the line that begins so, with these data. A refused growth leaves the lines as they were.
+    /// Appends the line that begins so, with these data, at most 223 bytes. A refused growth leaves the lines as they
+    /// were.
     ///
     /// ```rust
     /// let mut head = LineHead::EMPTY;

@@ -82,8 +82,8 @@ impl LineHead {
         self.len = put_head(&mut self.bytes, 0, packet);
     }
 
-    /// Writes the line that begins so, with these data, at a place of a text, and returns the place after it: a candump
-    /// line if it begins with `(`, else a plain line. `LINE_ROOM` bytes are enough for any line.
+    /// Writes the line that begins so, with these data, at most 223 bytes, at a place of a text, and returns the place
+    /// after it: a candump line if it begins with `(`, else a plain line. `LINE_ROOM` bytes are enough for any line.
     ///
     /// ```rust
     /// let mut head = LineHead::EMPTY;

@@ -7,7 +7,7 @@ use std::alloc::AllocError;
 /// The first byte of the control characters U+0080 to U+009F, and of others.
 const LEAD: u8 = 0xC2;
 
-/// A byte that makes no control character of the one before it.
+/// A byte that forms no control character with the byte before it.
 const NOTHING: u8 = 0xFF;
 
 /// A digit of a number to the base 16.
